@@ -1,0 +1,22 @@
+-- U and a rate of discount within its limits: a natural number that 64 bits hold. Assumes nothing.
+use mathlib.Core.Path.{_≡_, _∙_, ap, sym}
+use Prim.Native.Nat.{ℕ, _+_, _≤_, _<_, _^_}
+use native.Mathlib.Omega.{arith}
+use lib.IntN.{ℤ, pos, natAbs, _+ℤ_}
+use lib.Signed.{_≤ℤ_, nonNeg, yes-nonNeg}
+use lib.Dec.{T}
+use mir.Syntax.{w64}
+use mir.Val.{SFits}
+use Rattle.arithmetic.specs.Fraction.{U}
+use Rattle.arithmetic.proofs.Difference.{_⊖_, parts, ring, up, dn, ⊖-≤, ⊖-abs, ≤-parts}
+use Rattle.arithmetic.proofs.Machine.{sfits-abs}
+
+module _ (d : ℤ) (low : pos 0 ≤ℤ d) (high : d ≤ℤ pos 200_000_000) where
+  pub size : natAbs (pos U +ℤ d) ≤ 1_200_000_000
+  size = let l = ≤-parts low in let h = ≤-parts high in rw (parts d) (simp ring (⊖-abs _ _ _ (omega arith) (omega arith)))
+
+  pub natural : T (nonNeg (pos U +ℤ d))
+  natural = let l = ≤-parts low in let k : pos 0 ≤ℤ (pos U +ℤ d) = rw (parts d) (simp ring (⊖-≤ _ _ _ _ (omega arith))) in yes-nonNeg k
+
+  pub fits : SFits w64 (pos U +ℤ d)
+  fits = sfits-abs (omega (arith, size))

@@ -1,0 +1,17 @@
+use mathlib.Core.Path.{_∙_}
+use mir.Facts.{toZ-ofZ}
+use mir.Syntax.{w32}
+use Rattle.basis.specs.Basis.{basisOf}
+use borrow.Author.Needs.{needs}
+use Rattle.basis.proofs.fields.constant_addition.Statement.{statement}
+use Rattle.basis.proofs.fields.constant_addition.Tie as tie
+
+read-i32-requires : tie.Need-read-i32-requires
+read-i32-requires c κs = search needs
+
+returns : tie.Need-returns
+unfolding basisOf
+returns c = toZ-ofZ {w = w32} (search needs) ∙ c .read-i32 .ensures
+
+pub constant-addition-spec : {M : Type 1} → statement M
+constant-addition-spec = tie.close (tie.spec read-i32-requires returns)

@@ -1,0 +1,61 @@
+-- Checks, and work that can be refused (01, "Who can cause a refusal"): the first refusal in the order decides.
+use Prim.Native.Nat.{ℕ, zero, suc}
+use mathlib.Core.Bool.{Bool, cond}
+use lib.IntN.{ℤ, pos, _+ℤ_}
+use Rattle.basis.specs.declared.Refusal.{Refusal}
+use Rattle.basis.specs.declared.Check.{Check}
+use Rattle.basis.specs.declared.Check.the-variants.{Passed, Refused}
+use Rattle.basis.specs.declared.Answer.{Answer}
+use Rattle.basis.specs.declared.Answer.the-variants as answer
+use Rattle.basis.specs.declared.SignedAnswer.{SignedAnswer}
+use Rattle.basis.specs.declared.SignedAnswer.the-variants as signed
+
+-- a refusal is a number and two places
+abbrev pub refusal : ℕ → ℕ → ℕ → Refusal
+refusal number first second = record { number = number; first = first; second = second }
+
+-- ---- checks
+-- what has to hold, and the refusal where it does not
+abbrev pub unless : Bool → Refusal → Check
+unless ok r = cond ok Passed (Refused r)
+
+-- the first refusal of two checks
+abbrev pub firstOf : Check → Check → Check
+firstOf Passed next = next
+firstOf (Refused r) next = Refused r
+
+-- ---- work
+pub data Outcome (A : Type 0) : Type 0 where
+  value : A → Outcome A
+  refused : Refusal → Outcome A
+
+-- work that follows a check
+abbrev pub checked : {A : Type 0} → Check → Outcome A → Outcome A
+checked Passed work = work
+checked (Refused r) work = refused r
+
+-- work that takes what the work before it gave
+abbrev pub andThen : {A B : Type 0} → Outcome A → (A → Outcome B) → Outcome B
+andThen (value a) next = next a
+andThen (refused r) next = refused r
+
+-- k steps from a start; each takes what the steps before it gave
+unfoldable pub steps : {A : Type 0} → (ℕ → A → Outcome A) → A → ℕ → Outcome A
+steps step start zero = value start
+steps step start (suc k) = andThen (steps step start k) (step k)
+
+-- the sum of the first n terms, each worked out in its turn
+abbrev pub addTo : (ℕ → Outcome ℤ) → ℕ → ℤ → Outcome ℤ
+addTo term k total = andThen (term k) (λ t. value (total +ℤ t))
+
+unfoldable pub sumOf : (ℕ → Outcome ℤ) → ℕ → Outcome ℤ
+sumOf term n = steps (addTo term) (pos 0) n
+
+-- ---- what an answer of the engine stands for
+abbrev pub meaning : Answer → Outcome ℤ
+meaning (answer.Value n) = value (pos n)
+meaning (answer.Refused r) = refused r
+
+abbrev pub signedMeaning : SignedAnswer → Outcome ℤ
+signedMeaning (signed.Value i) = value i
+signedMeaning (signed.Refused r) = refused r

@@ -1,0 +1,77 @@
+// The fields of an accepted data run, each by its offset. Whoever asks has checked the run.
+ghost use mathlib.Core.Path.{_≡_};
+ghost use Prim.Native.Nat.{_+_, _*_, _≤_, _<_};
+ghost use lib.ListN.{length};
+ghost use Rattle.basis.specs.Basis.{basisOf, accumulationOf, termsAt, Accepted};
+use crate::Convergence;
+use crate::little_endian;
+
+pub fn foundation_year(run: &[u8]) -> u32
+    requires { ⌜ Accepted (now run) ⌝ }
+    ensures { λ r. ⌜ r ≡ basisOf (now (run .entry)) .foundation ⌝ }
+{
+    little_endian::read_u16(run, 4)
+}
+
+pub fn base_year(run: &[u8]) -> u32
+    requires { ⌜ Accepted (now run) ⌝ }
+    ensures { λ r. ⌜ r ≡ basisOf (now (run .entry)) .base ⌝ }
+{
+    little_endian::read_u16(run, 6)
+}
+
+pub fn constant_addition(run: &[u8]) -> i32
+    requires { ⌜ Accepted (now run) ⌝ }
+    ensures { λ r. ⌜ r ≡ basisOf (now (run .entry)) .addition ⌝ }
+{
+    little_endian::read_i32(run, 8)
+}
+
+// U and the rate of discount: what one unit grows to in a year.
+pub fn accumulation(run: &[u8]) -> u64
+    requires { ⌜ Accepted (now run) ⌝ }
+    ensures { λ r. ⌜ r ≡ accumulationOf (basisOf (now (run .entry))) ⌝ }
+{
+    (1_000_000_000 + little_endian::read_i32(run, 12) as i64) as u64
+}
+
+pub fn base_rate(run: &[u8], age: u32) -> u32
+    requires { ⌜ Accepted (now run) × (20 ≤ age) × (age ≤ 150) ⌝ }
+    ensures { λ r. ⌜ r ≡ basisOf (now (run .entry)) .baseRate age ⌝ }
+{
+    little_endian::read_u32(run, 30 + 4 * (age as usize - 20))
+}
+
+// The terms at one place of four tables.
+fn terms_at(
+    run: &[u8],
+    initial: usize,
+    long: usize,
+    period: usize,
+    remaining: usize,
+    place: usize,
+) -> Convergence
+    requires { ⌜ (initial + 4 * place + 4 ≤ length (now run)) × (long + 4 * place + 4 ≤ length (now run)) × (period + place < length (now run)) × (remaining + place < length (now run)) × (length (now run) ≡ 4554) ⌝ }
+    ensures { λ r. ⌜ r ≡ termsAt (now (run .entry)) initial long period remaining place ⌝ }
+{
+    Convergence {
+        initial: little_endian::read_i32(run, initial + 4 * place),
+        long: little_endian::read_i32(run, long + 4 * place),
+        period: run[period + place],
+        remaining: run[remaining + place],
+    }
+}
+
+pub fn age_terms(run: &[u8], age: u32) -> Convergence
+    requires { ⌜ Accepted (now run) × (20 ≤ age) × (age ≤ 150) ⌝ }
+    ensures { λ r. ⌜ r ≡ basisOf (now (run .entry)) .byAge age ⌝ }
+{
+    terms_at(run, 554, 1078, 1602, 1733, age as usize - 20)
+}
+
+pub fn birth_year_terms(run: &[u8], year: u32) -> Convergence
+    requires { ⌜ Accepted (now run) × (1842 ≤ year) × (year ≤ 2110) ⌝ }
+    ensures { λ r. ⌜ r ≡ basisOf (now (run .entry)) .byBirthYear year ⌝ }
+{
+    terms_at(run, 1864, 2940, 4016, 4285, year as usize - 1842)
+}

@@ -1,0 +1,38 @@
+// The basis: what a data run holds, and whether it may be used. These are the types that every layer above speaks in.
+pub mod fields;
+pub mod little_endian;
+
+// A refusal: its number and its two places (01, "Who can cause a refusal").
+#[repr(C)]
+pub struct Refusal {
+    pub number: u32,
+    pub first: u64,
+    pub second: u64,
+}
+
+// What a check says.
+pub enum Check {
+    Passed,
+    Refused(Refusal),
+}
+
+// The answer of work that can be refused.
+pub enum Answer {
+    Value(u64),
+    Refused(Refusal),
+}
+
+// The same where the value may be below zero.
+pub enum SignedAnswer {
+    Value(i64),
+    Refused(Refusal),
+}
+
+// The terms by which an initial rate of improvement gives way to a long-term rate: I, L, T (years) and P (per cent
+// remaining at mid-point).
+pub struct Convergence {
+    pub initial: i32,
+    pub long: i32,
+    pub period: u8,
+    pub remaining: u8,
+}

@@ -1,0 +1,46 @@
+// Little-endian numbers at an offset of a slice of bytes.
+ghost use mathlib.Core.Path.{_≡_};
+ghost use Prim.Native.Nat.{_+_, _≤_, _<_};
+ghost use lib.ListN.{length};
+ghost use Rattle.basis.specs.Bytes.{u16At, u32At, signed32, i32At};
+
+fn wide(b: u8) -> u32
+    ensures { λ r. ⌜ (r ≡ b) × (r < 256) ⌝ }
+{
+    b as u32
+}
+
+// The number of 2 bytes that starts at an offset.
+pub fn read_u16(s: &[u8], at: usize) -> u32
+    requires { ⌜ at + 2 ≤ length (now s) ⌝ }
+    ensures { λ r. ⌜ r ≡ u16At (now (s .entry)) at ⌝ }
+{
+    wide(s[at]) + 256 * wide(s[at + 1])
+}
+
+// The number of 4 bytes that starts at an offset.
+pub fn read_u32(s: &[u8], at: usize) -> u32
+    requires { ⌜ at + 4 ≤ length (now s) ⌝ }
+    ensures { λ r. ⌜ r ≡ u32At (now (s .entry)) at ⌝ }
+{
+    wide(s[at]) + 256 * wide(s[at + 1]) + 65536 * wide(s[at + 2]) + 16777216 * wide(s[at + 3])
+}
+
+// The signed number that 32 bits stand for. A cast would refuse the upper half, so that is reached from -1 downwards.
+pub fn to_signed(n: u32) -> i32
+    ensures { λ r. ⌜ r ≡ signed32 n ⌝ }
+{
+    if n < 2147483648 {
+        n as i32
+    } else {
+        -1 - ((4294967295 - n) as i32)
+    }
+}
+
+// The signed number of 4 bytes that starts at an offset.
+pub fn read_i32(s: &[u8], at: usize) -> i32
+    requires { ⌜ at + 4 ≤ length (now s) ⌝ }
+    ensures { λ r. ⌜ r ≡ i32At (now (s .entry)) at ⌝ }
+{
+    to_signed(read_u32(s, at))
+}
