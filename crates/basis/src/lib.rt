@@ -36,3 +36,21 @@ pub struct Convergence {
     pub period: u8,
     pub remaining: u8,
 }
+
+// A kind of number in a data run: a byte, 2 bytes, 4 bytes, 4 bytes signed.
+pub enum Number {
+    Byte,
+    Half,
+    Word,
+    SignedWord,
+}
+
+// A lower limit: a number, or the foundation year of the run itself.
+pub enum Limit {
+    Is(i64),
+    FoundationYear,
+}
+
+// Numbers of one kind, one after the other: the refusal of one outside its limits, the kind, the two limits, the offset
+// of the first, and how many there are.
+pub struct Field(pub u32, pub Number, pub Limit, pub i64, pub usize, pub usize);
