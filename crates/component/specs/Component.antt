@@ -1,0 +1,23 @@
+-- Weight and component (01, "The projection"). The exact model takes the same weight, and the component without its rounding.
+use Prim.Native.Nat.{ℕ, _*_, _-_}
+use mathlib.Core.Bool.{cond}
+use lib.Dec.{ltb}
+use lib.IntN.{ℤ, pos, _+ℤ_, _-ℤ_, _*ℤ_}
+use Rattle.arithmetic.specs.Fraction.{Fraction, _over_, whole, _*ᶠ_, round}
+use Rattle.basis.specs.declared.Convergence.{Convergence}
+
+-- 100T + (8P − 200)n
+abbrev pub slopeOf : ℕ → ℕ → ℕ → ℤ
+slopeOf T P n = pos (100 * T) +ℤ (pos (8 * P) -ℤ pos 200) *ℤ pos n
+
+-- Weight, n years since F: (T − n)² × (100T + (8P − 200)n) / (100T³) if n is below T, otherwise 0
+abbrev pub weightOf : ℕ → ℕ → ℕ → Fraction
+weightOf T P n = cond (ltb n T) ((pos ((T - n) * (T - n)) *ℤ slopeOf T P n) over (100 * (T * T * T))) (whole (pos 0))
+
+-- Component: L + round((I − L) × weight)
+unfoldable pub componentOf : Convergence → ℕ → ℤ
+componentOf c n = c .long +ℤ round (whole (c .initial -ℤ c .long) *ᶠ weightOf (c .period) (c .remaining) n)
+
+-- the terms I, L, T and P
+abbrev pub terms : ℤ → ℤ → ℕ → ℕ → Convergence
+terms I L T P = record { initial = I; long = L; period = T; remaining = P }

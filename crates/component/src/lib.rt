@@ -1,0 +1,61 @@
+// The component of an improvement: how an initial rate gives way to a long-term rate over the years since F.
+ghost use mathlib.Core.Path.{_≡_};
+ghost use Prim.Native.Nat.{_*_, _≤_};
+ghost use lib.IntN.{pos, natAbs, _-ℤ_, _*ℤ_};
+ghost use Rattle.basis.specs.Basis.{ConvergenceLimits};
+ghost use Rattle.component.specs.Component.{slopeOf, componentOf, terms};
+use basis::Convergence;
+
+fn wide(rate: i32) -> i64
+    ensures { λ r. ⌜ r ≡ rate ⌝ }
+{
+    rate as i64
+}
+
+// I − L
+fn excess(initial: i32, long: i32) -> i64
+    ensures { λ r. ⌜ r ≡ initial -ℤ long ⌝ }
+{
+    wide(initial) - wide(long)
+}
+
+// 100T + (8P − 200)n. The two signs are gathered apart, so that only the difference is signed.
+fn slope(period: u64, remaining: u64, years: u64) -> i64
+    requires { ⌜ (period ≤ 50) × (remaining ≤ 150) × (years ≤ period) ⌝ }
+    ensures { λ r. ⌜ r ≡ slopeOf period remaining years ⌝ }
+{
+    let up = 100 * period + 8 * remaining * years;
+    let down = 200 * years;
+    (up as i64) - (down as i64)
+}
+
+// (I − L) (T − n)² (100T + (8P − 200)n), the dividend of the rounding
+fn weighted(excess: i64, left: u64, slope: i64) -> i64
+    requires { ⌜ (natAbs excess ≤ 400_000_000) × (left ≤ 50) × (natAbs slope ≤ 55_000) ⌝ }
+    ensures { λ r. ⌜ r ≡ excess *ℤ (pos (left * left) *ℤ slope) ⌝ }
+{
+    excess * (((left * left) as i64) * slope)
+}
+
+// The component by its four terms.
+fn converging(initial: i32, long: i32, period: u8, remaining: u8, years: u32) -> i64
+    requires { ⌜ ConvergenceLimits (terms initial long period remaining) ⌝ }
+    ensures { λ r. ⌜ r ≡ componentOf (terms initial long period remaining) years ⌝ }
+{
+    let span = period as u64;
+    let past = years as u64;
+    if past < span {
+        let dividend = weighted(excess(initial, long), span - past, slope(span, remaining as u64, past));
+        wide(long) + arithmetic::round_div(dividend, 100 * (span * span * span))
+    } else {
+        wide(long)
+    }
+}
+
+// The component of terms within their limits, a number of years after F.
+pub fn component(terms: Convergence, years: u32) -> i64
+    requires { ⌜ ConvergenceLimits terms ⌝ }
+    ensures { λ r. ⌜ r ≡ componentOf terms years ⌝ }
+{
+    converging(terms.initial, terms.long, terms.period, terms.remaining, years)
+}
