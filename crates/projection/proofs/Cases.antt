@@ -1,0 +1,106 @@
+-- The definitions of the projection case by case: before and after F, within and beyond ±500,000,000, up to and above 4 × U,
+-- before and after 2130. Assumes nothing.
+use mathlib.Core.Path.{_≡_, _∙_, ap, sym, refl}
+use mathlib.Core.Bool.{Bool, true, false, cond}
+use Prim.Native.Nat.{ℕ, suc, _-_, _≤_, _<_}
+use native.Mathlib.Omega.{arith}
+use native.Mathlib.Decide.{decLt}
+use lib.IntN.{ℤ, pos, negsuc, natAbs, _+ℤ_}
+use lib.Signed.{leZ}
+use borrow.Author.Tests.{lt-ltb, le-ltb, leb-true, leb-false, le-leb, lt-leb}
+use Rattle.basis.specs.Basis.{Basis, ConvergenceLimits}
+use Rattle.basis.specs.Outcome.{Outcome, value, refused, andThen, refusal}
+use Rattle.basis.specs.declared.Convergence.{Convergence}
+use Rattle.component.specs.Component.{componentOf}
+use Rattle.projection.specs.Projection.{additionOf, improvementOf, usable, improvementNeeded, factorNeeded, factorNext, factorFrom, heldYear}
+
+-- ---- the addition and the improvement
+pub addition-after : (b : Basis) (year : ℕ) → b .foundation < year → additionOf b year ≡ b .addition
+unfolding additionOf
+addition-after b year h = rw (lt-ltb (b .foundation) year h)
+
+pub addition-at : (b : Basis) (year : ℕ) → year ≤ b .foundation → additionOf b year ≡ pos 0
+unfolding additionOf
+addition-at b year h = rw (le-ltb (b .foundation) year h)
+
+pub limits-of : {x y : Convergence} → x ≡ y → ConvergenceLimits y → ConvergenceLimits x
+limits-of e h = rw e h
+
+pub improvement-is : (b : Basis) (age year : ℕ) {x y : Convergence} {f : ℕ} {a : ℤ} → x ≡ b .byAge age → y ≡ b .byBirthYear (year - age) → f ≡ b .foundation → a ≡ additionOf b year →
+    componentOf x (year - f) +ℤ componentOf y (year - f) +ℤ a ≡ improvementOf b age year
+unfolding improvementOf
+improvement-is b age year ex ey ef ea = rw (ex, ey, ef, ea) refl
+
+-- ---- 9: the code's two tests are the one of the definition
+pub usable-high : (i : ℤ) → leZ (negsuc 499_999_999) i ≡ true → leZ i (pos 500_000_000) ≡ usable i
+usable-high (pos n) h = refl
+usable-high (negsuc n) h = sym (le-leb (suc n) 500_000_000 (omega (arith, leb-true n 499_999_999 h)))
+
+pub usable-low : (i : ℤ) → leZ (negsuc 499_999_999) i ≡ false → leZ (negsuc 499_999_999) i ≡ usable i
+usable-low (pos n) h = let z : _≡_ {A = ℕ} 0 1 = cc in absurd (omega arith)
+usable-low (negsuc n) h = h ∙ sym (lt-leb (suc n) 500_000_000 (omega (arith, leb-false n 499_999_999 h)))
+
+pub usable-abs : (i : ℤ) → usable i ≡ true → natAbs i ≤ 500_000_000
+usable-abs i h = leb-true (natAbs i) 500_000_000 h
+
+module _ (age year : ℕ) (i : ℤ) where
+  pub needed-usable : usable i ≡ true → improvementNeeded age year i ≡ value i
+  unfolding improvementNeeded
+  needed-usable h = rw h refl
+
+  pub needed-beyond : usable i ≡ false → improvementNeeded age year i ≡ refused (refusal 9 age year)
+  unfolding improvementNeeded
+  needed-beyond h = rw h refl
+
+-- ---- a year's factor: 9, then 10, then the value
+module _ (age year : ℕ) (i f : ℤ) where
+  pub beyond : usable i ≡ false → factorFrom age year i f ≡ refused (refusal 9 age year)
+  unfolding factorFrom
+  beyond h = rw (needed-beyond age year i h) refl
+
+  next : usable i ≡ true → factorFrom age year i f ≡ factorNeeded age year (factorNext f i)
+  unfolding factorFrom
+  next h = rw (needed-usable age year i h) refl
+
+  pub above : (g : ℕ) → usable i ≡ true → pos g ≡ factorNext f i → 4_000_000_000 < g → factorFrom age year i f ≡ refused (refusal 10 age year)
+  unfolding factorNeeded
+  above g h e l = next h ∙ rw (← e) (rw (lt-leb g 4_000_000_000 l) refl)
+
+  pub valued : (g : ℕ) → usable i ≡ true → pos g ≡ factorNext f i → g ≤ 4_000_000_000 → factorFrom age year i f ≡ value (pos g)
+  unfolding factorNeeded
+  valued g h e l = next h ∙ rw (← e) (rw (le-leb g 4_000_000_000 l) refl)
+
+  -- a year that has a factor: its improvement was usable, and its factor is the next one and at most 4 × U
+  pub year-value : (g : ℤ) → factorFrom age year i f ≡ value g → (usable i ≡ true) × (g ≡ factorNext f i) × (leZ g (pos 4_000_000_000) ≡ true)
+  unfolding factorFrom improvementNeeded factorNeeded
+  year-value g h = by (usable i) refl (leZ (factorNext f i) (pos 4_000_000_000)) refl h
+    where
+      by : (s : Bool) → usable i ≡ s → (t : Bool) → leZ (factorNext f i) (pos 4_000_000_000) ≡ t →
+          andThen (cond s (value i) (refused (refusal 9 age year))) (λ j. cond (leZ (factorNext f j) (pos 4_000_000_000)) (value (factorNext f j)) (refused (refusal 10 age year))) ≡ value g →
+          (usable i ≡ true) × (g ≡ factorNext f i) × (leZ g (pos 4_000_000_000) ≡ true)
+      by true p true q k = let e : g ≡ factorNext f i = cc in (p, e, rw e q)
+      by true p false q k = let z : _≡_ {A = ℕ} 0 1 = cc in absurd (omega arith)
+      by false p t q k = let z : _≡_ {A = ℕ} 0 1 = cc in absurd (omega arith)
+
+-- ---- the held year
+pub held-before : (year : ℕ) → year < 2130 → heldYear year ≡ year
+unfolding heldYear
+held-before year h = rw (lt-ltb year 2130 h)
+
+pub held-after : (year : ℕ) → 2130 ≤ year → heldYear year ≡ 2130
+unfolding heldYear
+held-after year h = rw (le-ltb year 2130 h)
+
+pub held-late : (year : ℕ) → heldYear year ≤ 2130
+held-late year = by (decLt year 2130)
+  where
+    by : Dec (year < 2130) → heldYear year ≤ 2130
+    by (yes l) = rw (held-before year l) (omega arith)
+    by (no l) = rw (held-after year (omega arith)) (omega arith)
+
+pub held-early : (base year : ℕ) → base ≤ year → base ≤ 2130 → base ≤ heldYear year
+held-early base year h k = by (decLt year 2130)
+  where
+    by : Dec (year < 2130) → base ≤ heldYear year
+    by (yes l) = rw (held-before year l) h
+    by (no l) = rw (held-after year (omega arith)) k

@@ -1,0 +1,44 @@
+use Rattle.basis.specs.Basis.{basisOf}
+use mathlib.Core.Path.{_≡_, _∙_, ap, sym, refl}
+use native.Mathlib.Omega.{arith}
+use Rattle.projection.proofs.Years.{rate-below, rate-above}
+use Prim.Native.Nat.{_*_, _≤_}
+use native.Mathlib.Nat.{mul-le-mul}
+use borrow.Author.Needs.{needs}
+use Rattle.projection.proofs.rate.rate_from.Statement.{statement}
+use Rattle.projection.proofs.rate.rate_from.Tie as tie
+
+room : (c : tie.After-base-rate) → c .base-rate .result * c .before .before .args .f ≤ 4_000_000_000_000_000_000
+room c =
+    let s = c .before .before in
+    let l = s .pre .0 .limits .baseRate (s .args .age) (s .pre .1) (s .pre .2) in
+    mul-le-mul {n₂ = 1_000_000_000} {m₂ = 4_000_000_000} (omega (arith, c .base-rate .ensures)) (s .pre .3)
+
+base-rate-requires : tie.Need-base-rate-requires
+base-rate-requires c κs = search needs
+
+cast-round-div-unsigned : tie.Need-cast-round-div-unsigned
+cast-round-div-unsigned c = search needs
+
+mul-round-div-unsigned : tie.Need-mul-round-div-unsigned
+mul-round-div-unsigned c = record { fits = omega (arith, room c) }
+
+round-div-unsigned-requires : tie.Need-round-div-unsigned-requires
+round-div-unsigned-requires c κs = omega (arith, room c)
+
+returns : tie.Need-returns
+returns c = let s = c .before .before .before .before in rate-below (basisOf (s .args .run .now)) (s .args .age) _ _ _ (c .before .before .base-rate .ensures) (c .before .round-div-unsigned .ensures) (c .if1 .taken)
+
+returns-2 : tie.Need-returns-2
+returns-2 c = let s = c .before .before .before .before in rate-above (basisOf (s .args .run .now)) (s .args .age) _ _ _ (c .before .before .base-rate .ensures) (c .before .round-div-unsigned .ensures) (c .if1 .left)
+
+pub rate-from-spec : {M : Type 1} → statement M
+rate-from-spec =
+    tie.close
+    (tie.spec
+    base-rate-requires
+    cast-round-div-unsigned
+    mul-round-div-unsigned
+    round-div-unsigned-requires
+    returns
+    returns-2)

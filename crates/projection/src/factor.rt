@@ -1,0 +1,82 @@
+// The reduction factor at an age: U in year B, then reduced year by year by the improvements of that age.
+ghost use mathlib.Core.Path.{_≡_};
+ghost use Prim.Native.Nat.{_≤_};
+ghost use lib.IntN.{pos, natAbs};
+ghost use Rattle.basis.specs.Basis.{basisOf, Accepted};
+ghost use Rattle.basis.specs.Outcome.{meaning};
+ghost use Rattle.projection.specs.Projection.{improvementOf, factorNext, factorFrom, heldYear, factorOf};
+use basis::Answer;
+use basis::Convergence;
+use basis::Refusal;
+use crate::improvement;
+
+const UNIT: u64 = 1_000_000_000;
+
+// This year's factor from last year's and the improvement.
+fn factor_next(f: u64, i: i64) -> u64
+    requires { ⌜ (f ≤ 4_000_000_000) × (natAbs i ≤ 500_000_000) ⌝ }
+    ensures { λ r. ⌜ pos r ≡ factorNext (pos f) i ⌝ }
+{
+    let left = (1_000_000_000 - i) as u64;
+    arithmetic::round_div_unsigned(f * left, UNIT)
+}
+
+// The same with refusals 9 and 10, in this order.
+fn factor_from(age: u32, year: u32, i: i64, f: u64) -> Answer
+    requires { ⌜ f ≤ 4_000_000_000 ⌝ }
+    ensures { λ r. ⌜ meaning r ≡ factorFrom age year i (pos f) ⌝ }
+{
+    if !improvement::is_usable(i) {
+        return Answer::Refused(Refusal {
+            number: 9,
+            first: age as u64,
+            second: year as u64,
+        });
+    }
+    let g = factor_next(f, i);
+    if 4_000_000_000 < g {
+        return Answer::Refused(Refusal {
+            number: 10,
+            first: age as u64,
+            second: year as u64,
+        });
+    }
+    Answer::Value(g)
+}
+
+// The same at an age whose terms the caller has read.
+fn factor_in(run: &[u8], terms: Convergence, age: u32, year: u32, f: u64) -> Answer
+    requires { ⌜ Accepted (now run) × (20 ≤ age) × (age ≤ 150) × (terms ≡ basisOf (now run) .byAge age) × (basisOf (now run) .foundation ≤ year) × (year ≤ 2130) × (f ≤ 4_000_000_000) ⌝ }
+    ensures { λ r. ⌜ meaning r ≡ factorFrom age year (improvementOf (basisOf (now (run .entry))) age year) (pos f) ⌝ }
+{
+    factor_from(age, year, improvement::improvement_at(run, terms, age, year), f)
+}
+
+// After 2130 the factor of 2130 is held.
+fn held_year(year: u32) -> u32
+    ensures { λ r. ⌜ r ≡ heldYear year ⌝ }
+{
+    if year < 2130 { year } else { 2130 }
+}
+
+// The factor at an age in a year from B on.
+pub fn factor_at(run: &[u8], age: u32, year: u32) -> Answer
+    requires { ⌜ Accepted (now run) × (20 ≤ age) × (age ≤ 150) × (basisOf (now run) .base ≤ year) ⌝ }
+    ensures { λ r. ⌜ meaning r ≡ factorOf (basisOf (now (run .entry))) age year ⌝ }
+{
+    let terms = basis::fields::age_terms(run, age);
+    let base = basis::fields::base_year(run);
+    let years = held_year(year) - base;
+    let mut f: u64 = UNIT;
+    let mut k: u32 = 0;
+    while k < years {
+        match factor_in(run, terms, age, base + 1 + k, f) {
+            Answer::Value(v) => {
+                f = v;
+            }
+            Answer::Refused(r) => return Answer::Refused(r),
+        }
+        k += 1;
+    }
+    Answer::Value(f)
+}

@@ -1,0 +1,52 @@
+// The improvement at an age in a year: two components and the constant addition.
+ghost use mathlib.Core.Path.{_≡_};
+ghost use Prim.Native.Nat.{_≤_};
+ghost use lib.IntN.{_+ℤ_};
+ghost use Rattle.basis.specs.Basis.{basisOf, Accepted, ConvergenceLimits};
+ghost use Rattle.basis.specs.Outcome.{meaning};
+ghost use Rattle.component.specs.Component.{componentOf};
+ghost use Rattle.projection.specs.Projection.{additionOf, improvementOf, usable};
+use basis::Convergence;
+
+// The constant addition of a year.
+fn addition_in(run: &[u8], year: u32) -> i32
+    requires { ⌜ Accepted (now run) ⌝ }
+    ensures { λ r. ⌜ r ≡ additionOf (basisOf (now (run .entry))) year ⌝ }
+{
+    if basis::fields::foundation_year(run) < year {
+        basis::fields::constant_addition(run)
+    } else {
+        0
+    }
+}
+
+fn wide(rate: i32) -> i64
+    ensures { λ r. ⌜ r ≡ rate ⌝ }
+{
+    rate as i64
+}
+
+// The component by age, the component by birth year and an addition, a number of years after F.
+fn sum_of(x: Convergence, y: Convergence, years: u32, addition: i32) -> i64
+    requires { ⌜ ConvergenceLimits x × ConvergenceLimits y ⌝ }
+    ensures { λ r. ⌜ r ≡ componentOf x years +ℤ componentOf y years +ℤ addition ⌝ }
+{
+    component::component(x, years) + component::component(y, years) + wide(addition)
+}
+
+// The improvement at an age, whose terms the caller has read, in a year from F to 2130.
+pub fn improvement_at(run: &[u8], terms: Convergence, age: u32, year: u32) -> i64
+    requires { ⌜ Accepted (now run) × (20 ≤ age) × (age ≤ 150) × (terms ≡ basisOf (now run) .byAge age) × (basisOf (now run) .foundation ≤ year) × (year ≤ 2130) ⌝ }
+    ensures { λ r. ⌜ r ≡ improvementOf (basisOf (now (run .entry))) age year ⌝ }
+{
+    let years = year - basis::fields::foundation_year(run);
+    let birth = basis::fields::birth_year_terms(run, year - age);
+    sum_of(terms, birth, years, addition_in(run, year))
+}
+
+// Is an improvement within ±500,000,000?
+pub fn is_usable(i: i64) -> bool
+    ensures { λ r. ⌜ r ≡ usable i ⌝ }
+{
+    -500_000_000 <= i && i <= 500_000_000
+}

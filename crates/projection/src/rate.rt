@@ -1,0 +1,31 @@
+// The mortality rate at an age in a year: the base rate reduced by the factor, and never above one.
+ghost use mathlib.Core.Path.{_≡_};
+ghost use Prim.Native.Nat.{_≤_};
+ghost use lib.IntN.{pos};
+ghost use Rattle.basis.specs.Basis.{basisOf, Accepted};
+ghost use Rattle.basis.specs.Outcome.{meaning};
+ghost use Rattle.projection.specs.Projection.{rateFrom, rateOf};
+use basis::Answer;
+use crate::factor;
+
+const UNIT: u64 = 1_000_000_000;
+
+// The lesser of U and the base rate times the factor.
+fn rate_from(run: &[u8], age: u32, f: u64) -> u64
+    requires { ⌜ Accepted (now run) × (20 ≤ age) × (age ≤ 150) × (f ≤ 4_000_000_000) ⌝ }
+    ensures { λ r. ⌜ pos r ≡ rateFrom (basisOf (now (run .entry))) age (pos f) ⌝ }
+{
+    let q = arithmetic::round_div_unsigned(basis::fields::base_rate(run, age) as u64 * f, UNIT);
+    if q < UNIT { q } else { UNIT }
+}
+
+// The mortality rate at an age in a year from B on.
+pub fn rate_at(run: &[u8], age: u32, year: u32) -> Answer
+    requires { ⌜ Accepted (now run) × (20 ≤ age) × (age ≤ 150) × (basisOf (now run) .base ≤ year) ⌝ }
+    ensures { λ r. ⌜ meaning r ≡ rateOf (basisOf (now (run .entry))) age year ⌝ }
+{
+    match factor::factor_at(run, age, year) {
+        Answer::Value(f) => Answer::Value(rate_from(run, age, f)),
+        Answer::Refused(r) => Answer::Refused(r),
+    }
+}
