@@ -1,28 +1,22 @@
--- A rounding is more than 1 / 2 below at no fraction: v is above q − m / 2. Assumes nothing.
-use mathlib.Core.Path.{_≡_, _∙_, ap, sym, refl}
-use Prim.Native.Nat.{ℕ, suc, _+_, _*_, _≤_, _<_}
+-- The strict half of rounding: a rounded number lies above the fraction less one half, so that a sum of two lies above the exact
+-- sum less one, and is not below zero where that is not. Assumes nothing.
+use Prim.Native.Nat.{ℕ, _+_, _*_, _<_}
 use native.Mathlib.Omega.{arith}
-use native.Mathlib.Nat.{mul-le-mul-right, mul-pos, lt-of-mul-lt-mul-left}
-use lib.IntN.{ℤ, pos, natAbs, _+ℤ_, _-ℤ_, _*ℤ_}
+use native.Mathlib.Nat.{mul-le-mul-right, mul-pos, lt-of-mul-lt-mul-left, one-mul}
+use lib.IntN.{ℤ, pos, _+ℤ_, _*ℤ_}
 use lib.Signed.{_≤ℤ_, _<ℤ_}
-use Rattle.arithmetic.specs.Round.{roundDiv}
-use Rattle.arithmetic.specs.Fraction.{Fraction, Within, whole, round, _+ᶠ_}
+use Rattle.arithmetic.specs.Fraction.{Fraction, Within, round, _+ᶠ_}
 use Rattle.arithmetic.proofs.Difference.{_⊖_, parts, ring, up, dn, ⊖-≤, ≤-⊖, ⊖-<, <-⊖}
-use Rattle.arithmetic.proofs.Rounding.{floor-high}
-use Rattle.arithmetic.proofs.Distance.{Bounds, to-bounds}
+use Rattle.arithmetic.proofs.Rounding.{round-above}
+use Rattle.arithmetic.proofs.Distance.{to-bounds}
 
--- v > q − m / 2
+-- v is above q − m / 2
 pub record Above (v : ℤ) (q : Fraction) (m : ℕ) : Type 0 where
   pub proper : 0 < q .den
   pub over : (pos 2 *ℤ q .num) <ℤ (pos (2 * q .den) *ℤ v +ℤ pos (m * q .den))
 
-half : (a r : ℤ) (b : ℕ) → (pos 2 *ℤ a +ℤ pos b) <ℤ (pos (2 * b) *ℤ r +ℤ pos (2 * b)) → (pos 2 *ℤ a) <ℤ (pos (2 * b) *ℤ r +ℤ pos (1 * b))
-half a r b h =
-    let h′ = <-⊖ _ _ _ _ (simp ring at (rw (parts a, parts r) at h)) in
-    rw (parts a, parts r) (simp ring (⊖-< _ _ _ _ (omega arith)))
-
 pub above-round : (q : Fraction) → 0 < q .den → Above (round q) q 1
-above-round q h = record { proper = h; over = half (q .num) (round q) (q .den) (floor-high (pos 2 *ℤ q .num +ℤ pos (q .den)) (2 * q .den) (omega arith)) }
+above-round q h = record { proper = h; over = rw (one-mul (q .den)) (round-above (q .num) (q .den) h) }
 
 sum : (v w N M : ℤ) (d e a b : ℕ) → 0 < d → 0 < e → (pos 2 *ℤ N) <ℤ (pos (2 * d) *ℤ v +ℤ pos (a * d)) → (pos 2 *ℤ M) ≤ℤ (pos (2 * e) *ℤ w +ℤ pos (b * e)) →
     (pos 2 *ℤ (N *ℤ pos e +ℤ M *ℤ pos d)) <ℤ (pos (2 * (d * e)) *ℤ (v +ℤ w) +ℤ pos ((a + b) * (d * e)))
@@ -39,12 +33,13 @@ swap v w N M d e a b h =
     let h′ = <-⊖ _ _ _ _ (simp ring at (rw (parts v, parts w, parts N, parts M) at h)) in
     rw (parts v, parts w, parts N, parts M) (simp ring (⊖-< _ _ _ _ (omega arith)))
 
-pub above-add : {v w : ℤ} {p q : Fraction} {a b : ℕ} → Above v p a → Within w q b → Above (v +ℤ w) (p +ᶠ q) (a + b)
-above-add {v} {w} {p} {q} {a} {b} h k =
+-- of two summands one need only be within its distance
+pub above-sum : {v w : ℤ} {p q : Fraction} {a b : ℕ} → Above v p a → Within w q b → Above (v +ℤ w) (p +ᶠ q) (a + b)
+above-sum {v} {w} {p} {q} {a} {b} h k =
     record { proper = mul-pos (h .proper) (k .proper); over = sum v w (p .num) (q .num) (p .den) (q .den) a b (h .proper) (k .proper) (h .over) (to-bounds w (q .num) (q .den) b (k .near) .low) }
 
-pub add-above : {v w : ℤ} {p q : Fraction} {a b : ℕ} → Within v p a → Above w q b → Above (v +ℤ w) (p +ᶠ q) (a + b)
-add-above {v} {w} {p} {q} {a} {b} h k =
+pub sum-above : {v w : ℤ} {p q : Fraction} {a b : ℕ} → Within v p a → Above w q b → Above (v +ℤ w) (p +ᶠ q) (a + b)
+sum-above {v} {w} {p} {q} {a} {b} h k =
     record { proper = mul-pos (h .proper) (k .proper); over = swap v w (p .num) (q .num) (p .den) (q .den) a b (sum w v (q .num) (p .num) (q .den) (p .den) b a (k .proper) (h .proper) (k .over) (to-bounds v (p .num) (p .den) a (h .near) .low)) }
 
 -- a whole number above q − 1 is not below zero if q is not

@@ -1,13 +1,13 @@
 -- Fractions from 0 to U, which the exact factors, rates, survivors and discounts are. Assumes nothing.
-use mathlib.Core.Path.{_≡_, _∙_, ap, sym, refl}
+use mathlib.Core.Path.{_≡_, refl}
 use mathlib.Core.Bool.{Bool, true, false, cond}
-use Prim.Native.Nat.{ℕ, zero, suc, _+_, _*_, _-_, _≤_, _<_}
+use Prim.Native.Nat.{ℕ, _*_, _-_, _≤_}
 use native.Mathlib.Omega.{arith}
-use native.Mathlib.Nat.{mul-le-mul, mul-le-mul-right, one-mul}
-use lib.IntN.{ℤ, pos, natAbs, _-ℤ_, _*ℤ_}
+use native.Mathlib.Nat.{mul-le-mul}
+use lib.IntN.{pos, natAbs, _*ℤ_}
 use lib.Signed.{leZ}
-use Rattle.arithmetic.proofs.Difference.{_⊖_, parts, ring, ⊖-eq}
-use Rattle.arithmetic.specs.Fraction.{Fraction, whole, _*ᶠ_, _-ᶠ_, _/ᶠ_, lesser, U}
+use Rattle.arithmetic.proofs.Difference.{_⊖_, ring, ⊖-eq}
+use Rattle.arithmetic.specs.Fraction.{Fraction, whole, _over_, _*ᶠ_, _-ᶠ_, _/ᶠ_, lesser, U}
 
 pub record InUnit (q : Fraction) : Type 0 where
   pub n : ℕ
@@ -17,7 +17,7 @@ pub record InUnit (q : Fraction) : Type 0 where
 pub unit-whole : (n : ℕ) → n ≤ U → InUnit (whole (pos n))
 unit-whole n h = record { n = n; is = refl; small = omega arith }
 
--- what `near-mul` asks
+-- what `within-product` asks
 pub unit-abs : {q : Fraction} → InUnit q → natAbs (q .num) ≤ U * q .den
 unit-abs h = rw (h .is) (h .small)
 
@@ -36,3 +36,8 @@ unit-lesser {p} {q} h k = by (leZ (p .num *ℤ pos (q .den)) (q .num *ℤ pos (p
     by : (b : Bool) → InUnit (cond b p q)
     by true = h
     by false = k
+
+-- the share U / d of it, where d is no less than U
+pub unit-share : {q : Fraction} (d : ℕ) → U ≤ d → InUnit q → InUnit (q *ᶠ (pos U over d))
+unit-share {q} d h k =
+    record { n = k .n * U; is = rw (k .is) refl; small = omega (arith, mul-le-mul (k .small) h) }

@@ -53,4 +53,11 @@ pub enum Limit {
 
 // Numbers of one kind, one after the other: the refusal of one outside its limits, the kind, the two limits, the offset
 // of the first, and how many there are.
-pub struct Field(pub u32, pub Number, pub Limit, pub i64, pub usize, pub usize);
+pub struct Field(
+    pub u32,
+    pub Number,
+    pub Limit,
+    pub i64,
+    pub usize,
+    pub usize,
+);
