@@ -1,3 +1,4 @@
 pub mod Signed
 pub mod Outcome
 mod Accumulation
+mod Turns
