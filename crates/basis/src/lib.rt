@@ -1,6 +1,8 @@
 // The basis: what a data run holds, and whether it may be used. These are the types that every layer above speaks in.
+pub mod checks;
 pub mod fields;
 pub mod little_endian;
+pub mod tables;
 
 // A refusal: its number and its two places (01, "Who can cause a refusal").
 #[repr(C)]
@@ -61,3 +63,17 @@ pub struct Field(
     pub usize,
     pub usize,
 );
+
+// The tables of a data run in the order in which they stand there: one entry for each age from 20, or for each birth
+// year from 1842. Periods are T, proportions P.
+pub enum Table {
+    BaseRates,
+    AgeInitialRates,
+    AgeLongTermRates,
+    AgePeriods,
+    AgeProportions,
+    BirthYearInitialRates,
+    BirthYearLongTermRates,
+    BirthYearPeriods,
+    BirthYearProportions,
+}
