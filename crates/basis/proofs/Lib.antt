@@ -1,4 +1,6 @@
 pub mod Signed
 pub mod Outcome
+pub mod Bytes
+pub mod Lent
 mod Accumulation
 mod Turns

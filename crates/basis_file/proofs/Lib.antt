@@ -1,0 +1,5 @@
+mod Product
+mod WordSums
+mod Parts
+mod Blocks
+mod Files

@@ -1,0 +1,21 @@
+// Writing: the basis file of a data run that nothing refuses.
+ghost use mathlib.Core.Path.{_≡_};
+ghost use mathlib.Core.List.{_++_};
+ghost use Prim.Native.Nat.{_≤_};
+ghost use lib.ListN.{length, drop};
+ghost use Rattle.basis_file.specs.File.{fileOf};
+use crate::block;
+
+// The nine blocks, in the front of `file`.
+fn write_blocks(run: &[u8], file: &mut [u8])
+    requires { ⌜ (length (now run) ≡ 4554) × (4608 ≤ length (now file)) ⌝ }
+    ensures { λ _. ⌜ now (file .exit) ≡ fileOf (now (run .entry)) ++ drop 4608 (now (file .entry)) ⌝ }
+{
+    let mut b: usize = 0;
+    while b < 9 {
+        let from = 506 * b;
+        let to = 512 * b;
+        block::write_block(&run[from..from + 506], b, &mut file[to..to + 512]);
+        b += 1;
+    }
+}
