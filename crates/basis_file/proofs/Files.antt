@@ -70,9 +70,9 @@ pub wrong-length : (file : List ℕ) → (length file ≡ 4608 → ⊥) → file
 unfolding fileCheck
 wrong-length file h = simp (ne-eqb (length file) 4608 h)
 
-pub right-length : (file : List ℕ) → length file ≡ 4608 → fileCheck file ≡ firstOf (blocksCheck 0 9 file) (runCheck (runIn file))
+pub whole-file : (file : List ℕ) (c : Check) → length file ≡ 4608 → c ≡ blocksCheck 0 9 file → fileCheck file ≡ firstOf c (runCheck (runIn file))
 unfolding fileCheck
-right-length file h = simp (eq-eqb (length file) 4608 h)
+whole-file file c h e = simp (eq-eqb (length file) 4608 h, e)
 
 -- a file and a run that are not refused have their length
 pub accepted-length : (file : List ℕ) → fileCheck file ≡ Passed → length file ≡ 4608

@@ -3,3 +3,4 @@ mod WordSums
 mod Parts
 mod Blocks
 mod Files
+pub mod RoundTrip

@@ -15,12 +15,16 @@ wordSum block (suc n) = wordSum block n + u32At block (4 * n) * suc n
 unfoldable pub blockCheckOf : List ℕ → ℕ
 blockCheckOf block = wordSum block 127 % 4_294_967_296
 
--- whether it has it (2), and then whether its number is its place (3)
+-- whether it has it (2)
+abbrev pub rightCheck : ℕ → List ℕ → Check
+rightCheck place block = unless (eqb (u32At block 508) (blockCheckOf block)) (refusal 2 place 0)
+
+-- whether its number is its place (3)
+abbrev pub rightNumber : ℕ → List ℕ → Check
+rightNumber place block = unless (eqb (u16At block 0) place) (refusal 3 place 0)
+
 unfoldable pub blockCheck : ℕ → List ℕ → Check
-blockCheck place block =
-    firstOf
-    (unless (eqb (u32At block 508) (blockCheckOf block)) (refusal 2 place 0))
-    (unless (eqb (u16At block 0) place) (refusal 3 place 0))
+blockCheck place block = firstOf (rightCheck place block) (rightNumber place block)
 
 -- the block of 506 data bytes at a place
 unfoldable pub blockOf : ℕ → List ℕ → List ℕ

@@ -3,11 +3,6 @@ use Rattle.basis_file.proofs.Blocks.{wrong-check, wrong-number, sound}
 use borrow.Author.Needs.{needs}
 use Rattle.basis_file.proofs.block.check_block.Statement.{statement}
 use Rattle.basis_file.proofs.block.check_block.Tie as tie
-use Rattle.basis_file.proofs.block.check_block.Reads as reads
-use Rattle.basis_file.proofs.block.check_block.Lts as lts
-use Rattle.basis_file.proofs.block.check_of.Reads as check-of-reads
-use Rattle.basis.proofs.little_endian.read_u16.Reads as read-u16-reads
-use Rattle.basis.proofs.little_endian.read_u32.Reads as read-u32-reads
 
 read-u32-requires : tie.Need-read-u32-requires
 read-u32-requires c κs = search needs

@@ -1,16 +1,11 @@
 use mathlib.Core.Path.{_≡_, ap, _∙_}
-use Prim.Native.Nat.{ℕ, _*_, _-_, _≤_, _%_}
+use Prim.Native.Nat.{ℕ, _-_, _≤_, _%_}
 use native.Mathlib.Omega.{arith}
 use borrow.Author.Needs.{needs}
 use Rattle.basis_file.specs.Block.{wordSum, blockCheckOf}
 use Rattle.basis_file.proofs.WordSums.{turn}
 use Rattle.basis_file.proofs.block.check_of.Statement.{statement}
 use Rattle.basis_file.proofs.block.check_of.Tie as tie
-use Rattle.basis_file.proofs.block.check_of.Reads as reads
-use Rattle.basis_file.proofs.block.check_of.Lts as lts
-use Rattle.basis_file.proofs.block.wrapping_product.Reads as wrapping-product-reads
-use Rattle.basis.proofs.little_endian.read_u32.Reads as read-u32-reads
-use Rattle.std.proofs.num.wrapping_add_u32.Reads as wrapping-add-u32-reads
 
 abbrev Inv-loop : tie.InvT-loop
 Inv-loop block sum₀ i₀ sum i = (i ≤ 127) × (sum ≡ wordSum block i % 4_294_967_296)

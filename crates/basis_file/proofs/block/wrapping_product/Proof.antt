@@ -2,8 +2,6 @@ use Rattle.basis_file.proofs.Product.{below}
 use borrow.Author.Needs.{needs}
 use Rattle.basis_file.proofs.block.wrapping_product.Statement.{statement}
 use Rattle.basis_file.proofs.block.wrapping_product.Tie as tie
-use Rattle.basis_file.proofs.block.wrapping_product.Reads as reads
-use Rattle.basis_file.proofs.block.wrapping_product.Lts as lts
 
 mul-result : tie.Need-mul-result
 mul-result c = record { fits = below 32 (search needs) (search needs) }

@@ -4,12 +4,6 @@ use Rattle.basis_file.proofs.Blocks.{built}
 use borrow.Author.Needs.{needs}
 use Rattle.basis_file.proofs.block.write_block.Statement.{statement}
 use Rattle.basis_file.proofs.block.write_block.Tie as tie
-use Rattle.basis_file.proofs.block.write_block.Reads as reads
-use Rattle.basis_file.proofs.block.write_block.Lts as lts
-use Rattle.basis_file.proofs.block.check_of.Reads as check-of-reads
-use Rattle.basis.proofs.little_endian.u16_bytes.Reads as u16-bytes-reads
-use Rattle.basis.proofs.little_endian.u32_bytes.Reads as u32-bytes-reads
-use Rattle.basis_file.proofs.copy.copy_part.Reads as copy-part-reads
 
 cast-u16-bytes : tie.Need-cast-u16-bytes
 cast-u16-bytes c = search needs

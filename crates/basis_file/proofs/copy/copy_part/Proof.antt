@@ -2,9 +2,6 @@ use Rattle.basis_file.proofs.Parts.{copied}
 use borrow.Author.Needs.{needs}
 use Rattle.basis_file.proofs.copy.copy_part.Statement.{statement}
 use Rattle.basis_file.proofs.copy.copy_part.Tie as tie
-use Rattle.basis_file.proofs.copy.copy_part.Reads as reads
-use Rattle.basis_file.proofs.copy.copy_part.Lts as lts
-use Rattle.bytes.proofs.copy.Reads as copy-reads
 
 add-copy : tie.Need-add-copy
 add-copy c = search needs

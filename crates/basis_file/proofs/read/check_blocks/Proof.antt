@@ -1,16 +1,14 @@
-use mathlib.Core.Path.{_≡_, refl, sym, ap, _∙_}
-use Prim.Native.Nat.{ℕ, _+_, _*_, _-_, _≤_}
+use mathlib.Core.Path.{_≡_, refl, sym, _∙_}
+use Prim.Native.Nat.{_*_, _-_, _≤_}
 use native.Mathlib.Omega.{arith}
 use borrow.Author.Needs.{needs}
-use lib.ListN.{length, take, drop}
+use lib.ListN.{drop}
 use Rattle.basis_file.proofs.Parts.{part-is, length-part}
+use Rattle.basis.proofs.Outcome.{stop, pass}
 use Rattle.basis_file.specs.File.{blocksCheck}
 use Rattle.basis_file.proofs.Files.{blocks-step}
 use Rattle.basis_file.proofs.read.check_blocks.Statement.{statement}
 use Rattle.basis_file.proofs.read.check_blocks.Tie as tie
-use Rattle.basis_file.proofs.read.check_blocks.Reads as reads
-use Rattle.basis_file.proofs.read.check_blocks.Lts as lts
-use Rattle.basis_file.proofs.block.check_block.Reads as check-block-reads
 
 abbrev Inv-loop : tie.InvT-loop
 Inv-loop file b₀ b = (b ≤ 9) × (blocksCheck b (9 - b) (drop (512 * b) file) ≡ blocksCheck 0 9 file)
@@ -50,7 +48,7 @@ returns c =
     let l = c .before .before .before .before .before in
     let f = l .before .before .args .file .now in
     let k = c .before .before .check-block in
-    let t = blocks-step f (l .loop .b) (k .result) (c .before .before .before .before .loop-test .taken) (rw (part-is f (512 * l .loop .b) 512) at (k .ensures)) in
+    let t = blocks-step f (l .loop .b) (c .before .before .before .before .loop-test .taken) (k .result) (rw (part-is f (512 * l .loop .b) 512) at (k .ensures)) in
     sym (stop (k .result) _ (c .enum-told .given .1)) ∙ sym t ∙ l .loop .inv .1
 
 enum-told-2 : tie.Need-enum-told-2 Inv-loop μ-loop
@@ -67,7 +65,7 @@ loop-again c =
     let l = c .before .before .before .before .before in
     let f = l .before .before .args .file .now in
     let k = c .before .before .check-block in
-    let t = blocks-step f (l .loop .b) (k .result) (c .before .before .before .before .loop-test .taken) (rw (part-is f (512 * l .loop .b) 512) at (k .ensures)) in
+    let t = blocks-step f (l .loop .b) (c .before .before .before .before .loop-test .taken) (k .result) (rw (part-is f (512 * l .loop .b) 512) at (k .ensures)) in
     (omega arith, sym (pass (k .result) _ (c .enum-told2 .given .1)) ∙ sym t ∙ l .loop .inv .1)
 
 returns-2 : tie.Need-returns-2 Inv-loop μ-loop

@@ -1,17 +1,13 @@
-use mathlib.Core.Path.{_≡_, refl, sym, ap, _∙_}
-use mathlib.Core.List.{List, [], _∷_, _++_}
-use Prim.Native.Nat.{ℕ, _+_, _*_, _-_, _≤_}
+use mathlib.Core.Path.{_≡_, refl, _∙_}
+use mathlib.Core.List.{_++_}
+use Prim.Native.Nat.{_+_, _*_, _-_, _≤_}
 use native.Mathlib.Omega.{arith}
-use borrow.Author.Needs.{needs}
 use lib.ListN.{length, take, drop}
 use Rattle.basis_file.specs.File.{partsOf, runIn}
 use Rattle.basis_file.proofs.Files.{parts-step}
 use Rattle.basis_file.proofs.Parts.{length-part, turn, ended}
 use Rattle.basis_file.proofs.read.join_parts.Statement.{statement}
 use Rattle.basis_file.proofs.read.join_parts.Tie as tie
-use Rattle.basis_file.proofs.read.join_parts.Reads as reads
-use Rattle.basis_file.proofs.read.join_parts.Lts as lts
-use Rattle.basis_file.proofs.copy.copy_part.Reads as copy-part-reads
 
 abbrev Inv-loop : tie.InvT-loop
 Inv-loop file run₀ b₀ run b =

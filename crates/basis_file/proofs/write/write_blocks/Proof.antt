@@ -1,8 +1,7 @@
-use mathlib.Core.Path.{_≡_, refl, sym, ap, _∙_}
-use mathlib.Core.List.{List, [], _∷_, _++_}
+use mathlib.Core.Path.{_≡_, refl, ap, _∙_}
+use mathlib.Core.List.{List, _++_}
 use Prim.Native.Nat.{ℕ, _+_, _*_, _-_, _≤_}
 use native.Mathlib.Omega.{arith}
-use borrow.Author.Needs.{needs}
 use lib.ListN.{length, take, drop}
 use Rattle.basis_file.specs.File.{blocksOf, fileOf}
 use Rattle.basis_file.specs.Block.{blockOf}
@@ -11,9 +10,6 @@ use Rattle.basis_file.proofs.Blocks.{length-block}
 use Rattle.basis_file.proofs.Parts.{length-part, part-is, put-back, turn, ended}
 use Rattle.basis_file.proofs.write.write_blocks.Statement.{statement}
 use Rattle.basis_file.proofs.write.write_blocks.Tie as tie
-use Rattle.basis_file.proofs.write.write_blocks.Reads as reads
-use Rattle.basis_file.proofs.write.write_blocks.Lts as lts
-use Rattle.basis_file.proofs.block.write_block.Reads as write-block-reads
 
 abbrev Inv-loop : tie.InvT-loop
 Inv-loop run file₀ b₀ file b =
