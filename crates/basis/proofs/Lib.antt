@@ -1,3 +1,3 @@
 pub mod Signed
 pub mod Outcome
-mod Accumulation
+pub mod Accumulation
