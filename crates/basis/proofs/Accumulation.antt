@@ -2,7 +2,7 @@
 use mathlib.Core.Path.{_≡_, _∙_, ap, sym}
 use Prim.Native.Nat.{ℕ, _+_, _≤_, _<_, _^_}
 use native.Mathlib.Omega.{arith}
-use lib.IntN.{ℤ, pos, natAbs, _+ℤ_}
+use lib.IntN.{ℤ, pos, negsuc, natAbs, _+ℤ_}
 use lib.Signed.{_≤ℤ_, nonNeg, yes-nonNeg}
 use lib.Dec.{T}
 use mir.Syntax.{w64}
@@ -10,6 +10,7 @@ use mir.Val.{SFits}
 use Rattle.arithmetic.specs.Fraction.{U}
 use Rattle.arithmetic.proofs.Difference.{_⊖_, parts, ring, up, dn, ⊖-≤, ⊖-abs, ≤-parts}
 use Rattle.arithmetic.proofs.Machine.{sfits-abs}
+use Rattle.basis.specs.Basis.{Basis, Limited, accumulationOf}
 
 module _ (d : ℤ) (low : pos 0 ≤ℤ d) (high : d ≤ℤ pos 200_000_000) where
   pub size : natAbs (pos U +ℤ d) ≤ 1_200_000_000
@@ -20,3 +21,16 @@ module _ (d : ℤ) (low : pos 0 ≤ℤ d) (high : d ≤ℤ pos 200_000_000) wher
 
   pub fits : SFits w64 (pos U +ℤ d)
   fits = sfits-abs (omega (arith, size))
+
+-- ---- of a basis within its limits: from U to 1.2 × U
+grown : (d : ℤ) → pos 0 ≤ℤ d → U ≤ natAbs (pos U +ℤ d)
+grown (pos n) low = omega arith
+grown (negsuc n) low = absurd (low .le)
+
+pub accumulation-low : (b : Basis) → Limited b → U ≤ accumulationOf b
+unfolding accumulationOf
+accumulation-low b l = grown (b .discount) (l .discount-low)
+
+pub accumulation-high : (b : Basis) → Limited b → accumulationOf b ≤ 1_200_000_000
+unfolding accumulationOf
+accumulation-high b l = size (b .discount) (l .discount-low) (l .discount-high)

@@ -2,7 +2,7 @@ pub mod Signed
 pub mod Outcome
 pub mod Bytes
 pub mod Lent
-mod Accumulation
+pub mod Accumulation
 mod Turns
 mod Stretches
 mod Rows

@@ -1,0 +1,4 @@
+pub mod Survivors
+pub mod Lives
+pub mod Payments
+pub mod Figures

@@ -1,0 +1,34 @@
+use mathlib.Core.Path.{_≡_, _∙_, ap, sym, refl}
+use Rattle.valuation.proofs.Survivors.{survivors-small}
+use Rattle.valuation.proofs.Payments.{refused-before}
+use Rattle.basis.specs.Basis.{basisOf}
+use Rattle.basis.specs.Outcome.{meaning}
+use borrow.Author.Needs.{needs}
+use Rattle.valuation.proofs.annuity.annuity_at.Statement.{statement}
+use Rattle.valuation.proofs.annuity.annuity_at.Tie as tie
+
+survivors-at-requires : tie.Need-survivors-at-requires
+survivors-at-requires c κs = search needs
+
+enum-known-s : tie.Need-enum-known-s
+enum-known-s c = search needs
+
+annuity-from-requires : tie.Need-annuity-from-requires
+annuity-from-requires c κs = let s = c .before .before .before .before .before in let a = s .args in
+    let h = sym (c .before .before .before .survivors-at .ensures) ∙ ap meaning (c .before .s .given .1) in
+    (s .pre .0, s .pre .1, s .pre .2, s .pre .3, s .pre .4, survivors-small (basisOf (a .run .now)) (a .kind) (a .age) (a .year) (a .deferment) (c .before .s .given .0 .0) h, h)
+
+enum-known-r : tie.Need-enum-known-r
+enum-known-r c = search needs
+
+returns : tie.Need-returns
+returns c = search needs
+
+returns-2 : tie.Need-returns-2
+returns-2 c = let s = c .before .before .before .before .before in let a = s .args in
+    refused-before (basisOf (a .run .now)) (a .kind) (a .age) (a .year) (a .deferment) _ (sym (c .before .before .before .survivors-at .ensures) ∙ ap meaning (c .before .r .given .1))
+
+pub annuity-at-spec : {M : Type 1} → statement M
+annuity-at-spec =
+    tie.close
+    (tie.spec survivors-at-requires enum-known-s annuity-from-requires enum-known-r returns returns-2)

@@ -1,0 +1,109 @@
+use mathlib.Core.Path.{_≡_, _∙_, ap, sym, refl}
+use native.Mathlib.Omega.{arith}
+use Prim.Native.Nat.{ℕ, suc, _+_, _*_, _-_, _≤_, _<_}
+use Rattle.valuation.proofs.Payments.{Paying, paying-first, paying-next, paid-refused, paid-last}
+use Rattle.valuation.proofs.Survivors.{survivors-next, year-small, year-late}
+use borrow.Author.Needs.{needs}
+use lib.IntN.{pos}
+use Rattle.basis.specs.Basis.{basisOf}
+use Rattle.basis.proofs.Accumulation.{accumulation-low, accumulation-high}
+use Rattle.basis.specs.Outcome.{value, refused, meaning}
+use Rattle.valuation.proofs.annuity.annuity_from.Statement.{statement}
+use Rattle.valuation.proofs.annuity.annuity_from.Tie as tie
+
+abbrev Inv-loop : tie.InvT-loop
+Inv-loop run kind age year deferment first accumulation last v₀ s₀ j₀ total₀ v s j total = Paying (basisOf run) kind age year deferment j s v total
+
+abbrev μ-loop : tie.MeasureT-loop
+μ-loop run kind age year deferment first accumulation last v₀ s₀ j₀ total₀ v s j total = last - j
+
+accumulation-requires : tie.Need-accumulation-requires Inv-loop μ-loop
+accumulation-requires c κs = search needs
+
+sub-last : tie.Need-sub-last Inv-loop μ-loop
+sub-last c = search needs
+
+discount-after-requires : tie.Need-discount-after-requires Inv-loop μ-loop
+discount-after-requires c κs = search needs
+
+payment-requires : tie.Need-payment-requires Inv-loop μ-loop
+payment-requires c κs = (c .discount-after .ensures .1, c .before .before .before .pre .5)
+
+loop-holds : tie.Need-loop-holds Inv-loop μ-loop
+loop-holds c = let d = c .before in let s = d .before .before .before in let a = s .args in
+    paying-first (basisOf (a .run .now)) (a .kind) (a .age) (a .year) (a .deferment) (a .first) (d .discount-after .result) (c .payment .result) (omega arith) (s .pre .5) (s .pre .6) (d .discount-after .ensures) (c .payment .ensures)
+
+add-survivors-after-year : tie.Need-add-survivors-after-year Inv-loop μ-loop
+add-survivors-after-year c = search needs
+
+year-on-requires : tie.Need-year-on-requires Inv-loop μ-loop
+year-on-requires c κs = search needs
+
+survivors-after-year-requires : tie.Need-survivors-after-year-requires Inv-loop μ-loop
+survivors-after-year-requires c κs = let l = c .before .before in let s = l .before .before .before .before .before in
+    (s .pre .0, omega arith, omega arith, omega (arith, s .pre .3, c .year-on .ensures, year-late (s .args .kind) (s .args .year) (l .loop .j)), l .loop .inv .people)
+
+enum-known-x : tie.Need-enum-known-x Inv-loop μ-loop
+enum-known-x c = search needs
+
+enum-known-r : tie.Need-enum-known-r Inv-loop μ-loop
+enum-known-r c = search needs
+
+returns : tie.Need-returns Inv-loop μ-loop
+returns c = let y = c .before .before .before in let l = y .before .before .before in let s = l .before .before .before .before .before in let a = s .args in
+    let b = basisOf (a .run .now) in
+    let r = c .before .r .given .0 .0 in
+    let i = l .loop .inv in
+    paid-refused b (a .kind) (a .age) (a .year) (a .deferment) (l .loop .j) (pos (l .loop .total)) r (i .begun) (omega arith) (i .paid) (survivors-next b (a .kind) (a .age) (a .year) (l .loop .j) (pos (l .loop .s)) (refused r) (y .before .year-on .ensures) (i .survivors) (sym (ap meaning (c .before .r .given .1)) ∙ y .survivors-after-year .ensures))
+
+discount-next-requires : tie.Need-discount-next-requires Inv-loop μ-loop
+discount-next-requires c κs = let l = c .before .before .before .before .before .before in let h = l .before in let s = h .before .before .before .before in
+    let b = basisOf (s .args .run .now) in
+    let e = h .before .before .accumulation .ensures in
+    (l .loop .inv .worth, omega (arith, e, accumulation-low b (s .pre .0 .limits)), omega (arith, e, accumulation-high b (s .pre .0 .limits)))
+
+add-j : tie.Need-add-j Inv-loop μ-loop
+add-j c = search needs
+
+payment-requires-2 : tie.Need-payment-requires-2 Inv-loop μ-loop
+payment-requires-2 c κs = let x = c .before .before in let y = x .before .before in let l = y .before .before .before in let s = l .before .before .before .before .before in
+    (c .discount-next .ensures .1, year-small (basisOf (s .args .run .now)) (s .args .age + l .loop .j) (y .before .year-on .result) (l .loop .s) (x .x .given .0 .0) (l .loop .inv .people) (sym (sym (ap meaning (x .x .given .1)) ∙ y .survivors-after-year .ensures)))
+
+add-total : tie.Need-add-total Inv-loop μ-loop
+add-total c = omega (arith, c .payment2 .ensures .1)
+
+loop-less : tie.Need-loop-less Inv-loop μ-loop
+loop-less c = search needs
+
+loop-again : tie.Need-loop-again Inv-loop μ-loop
+loop-again c = let d = c .before in let x = d .before .before in let y = x .before .before in let l = y .before .before .before in let h = l .before in let s = h .before .before .before .before in let a = s .args in
+    paying-next (basisOf (a .run .now)) (a .kind) (a .age) (a .year) (a .deferment) (l .loop .j) (l .loop .s) (l .loop .v) (l .loop .total) (x .x .given .0 .0) (d .discount-next .result) (c .payment2 .result) (l .loop .inv) (omega arith) (y .before .year-on .ensures) (h .before .before .accumulation .ensures) (sym (ap meaning (x .x .given .1)) ∙ y .survivors-after-year .ensures) (d .discount-next .ensures) (c .payment2 .ensures)
+
+returns-2 : tie.Need-returns-2 Inv-loop μ-loop
+returns-2 c = let l = c .before in let s = l .before .before .before .before .before in let a = s .args in
+    paid-last (basisOf (a .run .now)) (a .kind) (a .age) (a .year) (a .deferment) (l .loop .j) (pos (l .loop .total)) (omega arith) (l .loop .inv .paid)
+
+pub annuity-from-spec : {M : Type 1} → statement M
+annuity-from-spec =
+    tie.close
+    (tie.spec
+    Inv-loop
+    μ-loop
+    accumulation-requires
+    sub-last
+    discount-after-requires
+    payment-requires
+    loop-holds
+    add-survivors-after-year
+    year-on-requires
+    survivors-after-year-requires
+    enum-known-x
+    enum-known-r
+    returns
+    discount-next-requires
+    add-j
+    payment-requires-2
+    add-total
+    loop-less
+    loop-again
+    returns-2)

@@ -1,0 +1,60 @@
+use mathlib.Core.Path.{_≡_, _∙_, ap, sym, refl}
+use native.Mathlib.Omega.{arith}
+use Prim.Native.Nat.{ℕ, suc, _+_, _*_, _-_, _≤_, _<_}
+use Rattle.valuation.proofs.Payments.{discount-turn}
+use native.Mathlib.Numerals.{add-one}
+use borrow.Author.Needs.{needs}
+use lib.IntN.{pos}
+use Rattle.basis.specs.Basis.{basisOf}
+use Rattle.basis.proofs.Accumulation.{accumulation-low, accumulation-high}
+use Rattle.valuation.specs.Valuation.{discountAfter}
+use Rattle.valuation.proofs.annuity.discount_after.Statement.{statement}
+use Rattle.valuation.proofs.annuity.discount_after.Tie as tie
+
+abbrev Inv-loop : tie.InvT-loop
+Inv-loop run n accumulation v₀ j₀ v j = (j ≤ n) × (v ≤ 1_000_000_000) × (discountAfter (basisOf run) j ≡ pos v)
+
+abbrev μ-loop : tie.MeasureT-loop
+μ-loop run n accumulation v₀ j₀ v j = n - j
+
+accumulation-requires : tie.Need-accumulation-requires Inv-loop μ-loop
+accumulation-requires c κs = search needs
+
+loop-holds : tie.Need-loop-holds Inv-loop μ-loop
+unfolding discountAfter
+loop-holds c = search needs
+
+discount-next-requires : tie.Need-discount-next-requires Inv-loop μ-loop
+discount-next-requires c κs = let l = c .before in let s = l .before .before .before in
+    let b = basisOf (s .args .run .now) in
+    let e = l .before .accumulation .ensures in
+    (l .loop .inv .1, omega (arith, e, accumulation-low b (s .pre .limits)), omega (arith, e, accumulation-high b (s .pre .limits)))
+
+add-j : tie.Need-add-j Inv-loop μ-loop
+add-j c = search needs
+
+loop-less : tie.Need-loop-less Inv-loop μ-loop
+loop-less c = search needs
+
+loop-again : tie.Need-loop-again Inv-loop μ-loop
+loop-again c = let l = c .before .before in
+    (omega arith, c .discount-next .ensures .1, rw add-one (discount-turn (basisOf (l .before .before .before .args .run .now)) (l .loop .j) (pos (l .loop .v)) (l .before .accumulation .ensures) (l .loop .inv .2) ∙ sym (c .discount-next .ensures .0)))
+
+returns : tie.Need-returns Inv-loop μ-loop
+returns c = let l = c .before in
+    let e : l .loop .j ≡ l .before .before .before .args .n = omega arith in
+    (sym (rw e at (l .loop .inv .2)), l .loop .inv .1)
+
+pub discount-after-spec : {M : Type 1} → statement M
+discount-after-spec =
+    tie.close
+    (tie.spec
+    Inv-loop
+    μ-loop
+    accumulation-requires
+    loop-holds
+    discount-next-requires
+    add-j
+    loop-less
+    loop-again
+    returns)

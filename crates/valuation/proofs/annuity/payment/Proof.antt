@@ -1,0 +1,25 @@
+use mathlib.Core.Path.{_≡_, _∙_, ap, sym, refl}
+use native.Mathlib.Omega.{arith}
+use Prim.Native.Nat.{ℕ, suc, _+_, _*_, _-_, _≤_, _<_}
+use Rattle.valuation.proofs.Survivors.{rounded-small}
+use lib.IntN.{pos}
+use Rattle.arithmetic.specs.Fraction.{U}
+use native.Mathlib.Nat.{mul-le-mul}
+use Rattle.valuation.proofs.annuity.payment.Statement.{statement}
+use Rattle.valuation.proofs.annuity.payment.Tie as tie
+
+room : (c : tie.Start) → c .args .v * c .args .s ≤ 1_000_000_000_000_000_000
+room c = mul-le-mul {n₂ = 1_000_000_000} {m₂ = 1_000_000_000} (c .pre .0) (c .pre .1)
+
+mul-round-div-unsigned : tie.Need-mul-round-div-unsigned
+mul-round-div-unsigned c = record { fits = omega (arith, room c) }
+
+round-div-unsigned-requires : tie.Need-round-div-unsigned-requires
+round-div-unsigned-requires c κs = omega (arith, room c)
+
+returns : tie.Need-returns
+returns c = let a = c .before .args in
+    (ap pos (c .round-div-unsigned .ensures), rounded-small (a .v * a .s) U (c .round-div-unsigned .result) (omega arith) (room (c .before)) (c .round-div-unsigned .ensures))
+
+pub payment-spec : {M : Type 1} → statement M
+payment-spec = tie.close (tie.spec mul-round-div-unsigned round-div-unsigned-requires returns)

@@ -1,0 +1,93 @@
+use mathlib.Core.Path.{_≡_, _∙_, ap, sym, refl}
+use native.Mathlib.Omega.{arith}
+use Prim.Native.Nat.{ℕ, suc, _+_, _*_, _-_, _≤_, _<_}
+use Rattle.valuation.proofs.Lives.{Living, living-first, living-next, lived-refused, lived-last}
+use Rattle.valuation.proofs.Survivors.{year-small, year-late}
+use borrow.Author.Needs.{needs}
+use lib.IntN.{pos}
+use Rattle.basis.specs.Basis.{basisOf}
+use Rattle.basis.specs.Outcome.{value, refused, meaning}
+use Rattle.valuation.proofs.expectation.expectation_at.Statement.{statement}
+use Rattle.valuation.proofs.expectation.expectation_at.Tie as tie
+
+abbrev Inv-loop : tie.InvT-loop
+Inv-loop run kind age year deferment from start last s₀ j₀ total₀ s j total = (j ≤ last) × Living (basisOf run) kind from start j s total
+
+abbrev μ-loop : tie.MeasureT-loop
+μ-loop run kind age year deferment from start last s₀ j₀ total₀ s j total = last - j
+
+add-from : tie.Need-add-from Inv-loop μ-loop
+add-from c = search needs
+
+add-start : tie.Need-add-start Inv-loop μ-loop
+add-start c = search needs
+
+sub-last : tie.Need-sub-last Inv-loop μ-loop
+sub-last c = search needs
+
+loop-holds : tie.Need-loop-holds Inv-loop μ-loop
+loop-holds c = let s = c .before in let a = s .args in (omega arith, living-first (basisOf (a .run .now)) (a .kind) (a .age + a .deferment) (a .year + a .deferment))
+
+add-survivors-after-year : tie.Need-add-survivors-after-year Inv-loop μ-loop
+add-survivors-after-year c = search needs
+
+year-on-requires : tie.Need-year-on-requires Inv-loop μ-loop
+year-on-requires c κs = search needs
+
+survivors-after-year-requires : tie.Need-survivors-after-year-requires Inv-loop μ-loop
+survivors-after-year-requires c κs = let l = c .before .before in let s = l .before .before in let a = s .args in
+    (s .pre .0, omega arith, omega arith, omega (arith, s .pre .3, c .year-on .ensures, year-late (a .kind) (a .year + a .deferment) (l .loop .j)), l .loop .inv .1 .people)
+
+enum-known-x : tie.Need-enum-known-x Inv-loop μ-loop
+enum-known-x c = search needs
+
+enum-known-r : tie.Need-enum-known-r Inv-loop μ-loop
+enum-known-r c = search needs
+
+returns : tie.Need-returns Inv-loop μ-loop
+returns c = let y = c .before .before .before in let l = y .before .before .before in let s = l .before .before in let a = s .args in
+    lived-refused (basisOf (a .run .now)) (a .kind) (a .age) (a .year) (a .deferment) (l .loop .j) (l .loop .s) (l .loop .total) (c .before .r .given .0 .0) refl refl (omega arith) (l .loop .inv .1) (y .before .year-on .ensures) (sym (ap meaning (c .before .r .given .1)) ∙ y .survivors-after-year .ensures)
+
+add-j : tie.Need-add-j Inv-loop μ-loop
+add-j c = search needs
+
+add-total : tie.Need-add-total Inv-loop μ-loop
+add-total c = let y = c .before .before .before in let l = y .before .before .before in let s = l .before .before in let a = s .args in
+    omega (arith, l .loop .inv .1 .sum, year-small (basisOf (a .run .now)) (a .age + a .deferment + l .loop .j) (y .before .year-on .result) (l .loop .s) (c .before .x .given .0 .0) (l .loop .inv .1 .people) (sym (sym (ap meaning (c .before .x .given .1)) ∙ y .survivors-after-year .ensures)))
+
+loop-less : tie.Need-loop-less Inv-loop μ-loop
+loop-less c = search needs
+
+loop-again : tie.Need-loop-again Inv-loop μ-loop
+loop-again c = let y = c .before .before .before in let l = y .before .before .before in let s = l .before .before in let a = s .args in
+    (omega arith, living-next (basisOf (a .run .now)) (a .kind) (a .age + a .deferment) (a .year + a .deferment) (l .loop .j) (l .loop .s) (l .loop .total) (c .before .x .given .0 .0) (l .loop .inv .1) (y .before .year-on .ensures) (sym (ap meaning (c .before .x .given .1)) ∙ y .survivors-after-year .ensures))
+
+add-t18 : tie.Need-add-t18 Inv-loop μ-loop
+add-t18 c = omega (arith, c .before .loop .inv .1 .sum)
+
+returns-2 : tie.Need-returns-2 Inv-loop μ-loop
+returns-2 c = let l = c .before in let s = l .before .before in let a = s .args in
+    lived-last (basisOf (a .run .now)) (a .kind) (a .age) (a .year) (a .deferment) (l .loop .j) (l .loop .s) (l .loop .total) refl refl (omega arith) (l .loop .inv .1)
+
+pub expectation-at-spec : {M : Type 1} → statement M
+expectation-at-spec =
+    tie.close
+    (tie.spec
+    Inv-loop
+    μ-loop
+    add-from
+    add-start
+    sub-last
+    loop-holds
+    add-survivors-after-year
+    year-on-requires
+    survivors-after-year-requires
+    enum-known-x
+    enum-known-r
+    returns
+    add-j
+    add-total
+    loop-less
+    loop-again
+    add-t18
+    returns-2)

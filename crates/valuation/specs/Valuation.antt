@@ -1,0 +1,63 @@
+-- Survivorship, expectation and annuity, each period and cohort (01, "The projection").
+use Prim.Native.Nat.{ℕ, zero, suc, _+_, _-_, _/_}
+use lib.IntN.{ℤ, pos, _+ℤ_, _-ℤ_, _*ℤ_}
+use Rattle.arithmetic.specs.Fraction.{_over_, whole, _/ᶠ_, round, U}
+use Rattle.basis.specs.Outcome.{Outcome, value, andThen, steps, sumOf}
+use Rattle.basis.specs.Basis.{Basis, accumulationOf}
+use Rattle.projection.specs.Projection.{rateOf}
+use Rattle.valuation.specs.declared.Kind.{Kind}
+use Rattle.valuation.specs.declared.Kind.the-variants.{Period, Cohort}
+
+-- ---- Survivorship from an age
+-- the cohort kind moves to the next age and year; the period kind moves the age only
+abbrev pub yearOn : Kind → ℕ → ℕ → ℕ
+yearOn Period year j = year
+yearOn Cohort year j = year + j
+
+-- round(survivors × (U − rate) / U)
+abbrev pub survivorsNext : ℤ → ℤ → ℤ
+survivorsNext s q = round (whole (s *ℤ (pos U -ℤ q)) /ᶠ U)
+
+-- the survivors of a year at an age
+unfoldable pub survivorsAfterYear : Basis → ℕ → ℕ → ℤ → Outcome ℤ
+survivorsAfterYear b age year s = andThen (rateOf b age year) (λ q. value (survivorsNext s q))
+
+-- the survivors after j + 1 years from those after j
+abbrev pub survivorsStep : Basis → Kind → ℕ → ℕ → ℕ → ℤ → Outcome ℤ
+survivorsStep b kind age year j s = survivorsAfterYear b (age + j) (yearOn kind year j) s
+
+-- U at first, then year by year
+unfoldable pub survivorsOf : Basis → Kind → ℕ → ℕ → ℕ → Outcome ℤ
+survivorsOf b kind age year n = steps (survivorsStep b kind age year) (pos U) n
+
+-- ---- Expectation
+-- the survivors after 1, 2, up to n years, added: the curtate expectation
+unfoldable pub curtateOf : Basis → Kind → ℕ → ℕ → ℕ → Outcome ℤ
+curtateOf b kind age year n = sumOf (λ k. survivorsOf b kind age year (suc k)) n
+
+-- start at age + deferment in year + deferment, and add U/2; N = 150 − age − deferment
+unfoldable pub expectationOf : Basis → Kind → ℕ → ℕ → ℕ → Outcome ℤ
+expectationOf b kind age year deferment =
+    andThen (curtateOf b kind (age + deferment) (year + deferment) (150 - age - deferment)) (λ t. value (pos (U / 2) +ℤ t))
+
+-- ---- Annuity, yearly in advance
+-- round(discount × U / (U + rate of discount))
+abbrev pub discountNext : ℤ → ℕ → ℤ
+discountNext v accumulation = round ((v *ℤ pos U) over accumulation)
+
+-- discount is U at first, then the next one each year
+unfoldable pub discountAfter : Basis → ℕ → ℤ
+discountAfter b zero = pos U
+discountAfter b (suc j) = discountNext (discountAfter b j) (accumulationOf b)
+
+-- round(discount × survivors / U)
+abbrev pub payment : ℤ → ℤ → ℤ
+payment v s = round (whole (v *ℤ s) /ᶠ U)
+
+-- the payment after j years; survivorship starts at the undeferred age
+unfoldable pub paymentAfter : Basis → Kind → ℕ → ℕ → ℕ → Outcome ℤ
+paymentAfter b kind age year j = andThen (survivorsOf b kind age year j) (λ s. value (payment (discountAfter b j) s))
+
+-- added for each j from the deferment to 150 − age
+unfoldable pub annuityOf : Basis → Kind → ℕ → ℕ → ℕ → Outcome ℤ
+annuityOf b kind age year deferment = sumOf (λ k. paymentAfter b kind age year (deferment + k)) (suc (150 - age - deferment))

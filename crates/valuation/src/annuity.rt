@@ -1,0 +1,84 @@
+// The annuity-due: one unit a year in advance for life, discounted, from the end of a deferment.
+ghost use mathlib.Core.Path.{_≡_};
+ghost use Prim.Native.Nat.{_+_, _≤_};
+ghost use lib.IntN.{pos};
+ghost use Rattle.basis.specs.Basis.{basisOf, accumulationOf, Accepted};
+ghost use Rattle.basis.specs.Outcome.{meaning, value};
+ghost use Rattle.valuation.specs.Valuation.{survivorsOf, discountNext, discountAfter, payment, annuityOf};
+use crate::Kind;
+use crate::survivorship;
+use basis::Answer;
+
+const UNIT: u64 = 1_000_000_000;
+
+// The discount a year later.
+fn discount_next(v: u64, accumulation: u64) -> u64
+    requires { ⌜ (v ≤ 1_000_000_000) × (1_000_000_000 ≤ accumulation) × (accumulation ≤ 1_200_000_000) ⌝ }
+    ensures { λ r. ⌜ (pos r ≡ discountNext (pos v) accumulation) × (r ≤ 1_000_000_000) ⌝ }
+{
+    arithmetic::round_div_unsigned(v * UNIT, accumulation)
+}
+
+// The discount after n years.
+fn discount_after(run: &[u8], n: u32) -> u64
+    requires { ⌜ Accepted (now run) ⌝ }
+    ensures { λ r. ⌜ (pos r ≡ discountAfter (basisOf (now (run .entry))) n) × (r ≤ 1_000_000_000) ⌝ }
+{
+    let accumulation = basis::fields::accumulation(run);
+    let mut v: u64 = UNIT;
+    let mut j: u32 = 0;
+    while j < n {
+        v = discount_next(v, accumulation);
+        j += 1;
+    }
+    v
+}
+
+// One year's payment to the survivors, discounted.
+fn payment(v: u64, s: u64) -> u64
+    requires { ⌜ (v ≤ 1_000_000_000) × (s ≤ 1_000_000_000) ⌝ }
+    ensures { λ r. ⌜ (pos r ≡ payment (pos v) (pos s)) × (r ≤ 1_000_000_000) ⌝ }
+{
+    arithmetic::round_div_unsigned(v * s, UNIT)
+}
+
+// The annuity from the survivors at the deferment's end.
+fn annuity_from(run: &[u8], kind: Kind, age: u32, year: u32, deferment: u32, first: u64) -> Answer
+    requires { ⌜ Accepted (now run) × (20 ≤ age) × (age + deferment ≤ 150) × (basisOf (now run) .base ≤ year) × (year ≤ 2130) × (first ≤ 1_000_000_000) × (survivorsOf (basisOf (now run)) kind age year deferment ≡ value (pos first)) ⌝ }
+    ensures { λ r. ⌜ meaning r ≡ annuityOf (basisOf (now (run .entry))) kind age year deferment ⌝ }
+{
+    let accumulation = basis::fields::accumulation(run);
+    let last = 150 - age;
+    let mut v = discount_after(run, deferment);
+    let mut s = first;
+    let mut j = deferment;
+    let mut total = payment(v, s);
+    while j < last {
+        match survivorship::survivors_after_year(
+            run,
+            age + j,
+            survivorship::year_on(kind, year, j),
+            s,
+        ) {
+            Answer::Value(x) => {
+                s = x;
+            }
+            Answer::Refused(r) => return Answer::Refused(r),
+        }
+        v = discount_next(v, accumulation);
+        j += 1;
+        total += payment(v, s);
+    }
+    Answer::Value(total)
+}
+
+// The annuity at an age in a year, with a deferment.
+pub fn annuity_at(run: &[u8], kind: Kind, age: u32, year: u32, deferment: u32) -> Answer
+    requires { ⌜ Accepted (now run) × (20 ≤ age) × (age + deferment ≤ 150) × (basisOf (now run) .base ≤ year) × (year ≤ 2130) ⌝ }
+    ensures { λ r. ⌜ meaning r ≡ annuityOf (basisOf (now (run .entry))) kind age year deferment ⌝ }
+{
+    match survivorship::survivors_at(run, kind, age, year, deferment) {
+        Answer::Value(s) => annuity_from(run, kind, age, year, deferment, s),
+        Answer::Refused(r) => Answer::Refused(r),
+    }
+}

@@ -1,0 +1,42 @@
+// The expectation of life: the years that U lives have left on average, with half a year for the year of death.
+ghost use mathlib.Core.Path.{_≡_};
+ghost use Prim.Native.Nat.{_+_, _≤_};
+ghost use Rattle.basis.specs.Basis.{basisOf, Accepted};
+ghost use Rattle.basis.specs.Outcome.{meaning};
+ghost use Rattle.valuation.specs.Valuation.{expectationOf};
+use crate::Kind;
+use crate::survivorship;
+use basis::Answer;
+
+const UNIT: u64 = 1_000_000_000;
+
+const HALF: u64 = 500_000_000;
+
+// The expectation from the deferred age in the deferred year.
+pub fn expectation_at(run: &[u8], kind: Kind, age: u32, year: u32, deferment: u32) -> Answer
+    requires { ⌜ Accepted (now run) × (20 ≤ age) × (age + deferment ≤ 150) × (basisOf (now run) .base ≤ year) × (year ≤ 2130) ⌝ }
+    ensures { λ r. ⌜ meaning r ≡ expectationOf (basisOf (now (run .entry))) kind age year deferment ⌝ }
+{
+    let from = age + deferment;
+    let start = year + deferment;
+    let last = 150 - from;
+    let mut s: u64 = UNIT;
+    let mut j: u32 = 0;
+    let mut total: u64 = 0;
+    while j < last {
+        match survivorship::survivors_after_year(
+            run,
+            from + j,
+            survivorship::year_on(kind, start, j),
+            s,
+        ) {
+            Answer::Value(x) => {
+                s = x;
+            }
+            Answer::Refused(r) => return Answer::Refused(r),
+        }
+        j += 1;
+        total += s;
+    }
+    Answer::Value(HALF + total)
+}
