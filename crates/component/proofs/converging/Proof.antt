@@ -68,7 +68,7 @@ round-div-requires : tie.Need-round-div-requires
 round-div-requires c κs =
     let s = c .before .before .before .before .before in let t = s .args .period in
     let h : 0 < t = omega arith in
-    rw (all-is (c .before)) (omega (arith, all-abs (c .before)), omega (arith, mul-pos (mul-pos h h) h), omega (arith, cube t (s .pre .period-high)))
+    rw (all-is (c .before)) (omega (arith, mul-pos (mul-pos h h) h), omega (arith, all-abs (c .before), cube t (s .pre .period-high)))
 
 -- the two summands, and that the sum fits
 long-is : (c : tie.After-round-div) → toZ w64 (ofZ w64 (c .before .wide .result)) ≡ c .before .before .before .before .before .before .args .long
