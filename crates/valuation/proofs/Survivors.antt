@@ -21,7 +21,7 @@ use Rattle.valuation.specs.declared.Kind.the-variants.{Period, Cohort}
 
 -- ---- the survivors after one year, in natural numbers
 -- U − q
-rest : (q : ℕ) → q ≤ U → pos U -ℤ pos q ≡ pos (U - q)
+pub rest : (q : ℕ) → q ≤ U → pos U -ℤ pos q ≡ pos (U - q)
 rest q h = simp ring (⊖-eq _ _ _ _ (omega arith))
 
 pub next-is : (s q : ℕ) → q ≤ U → pos ((2 * (s * (U - q)) + U) / (2 * U)) ≡ survivorsNext (pos s) (pos q)

@@ -1,0 +1,4 @@
+pub mod Improvement
+pub mod Factor
+pub mod Survivors
+pub mod Values

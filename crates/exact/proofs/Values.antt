@@ -1,0 +1,89 @@
+-- Expectation 4d ≤ N(N + 1)(3K + 2) and annuity 4d ≤ (N + 1)(3N(K + 1) + 2): the distances of their terms, added. A term of the
+-- annuity is j halves from the discount, j(3K + 2) from the survivors and one from its rounding. Assumes nothing.
+use mathlib.Core.Path.{_≡_}
+use Prim.Native.Nat.{ℕ, zero, suc, _+_, _*_, _-_, _/_, _≤_, _<_}
+use native.Mathlib.Omega.{arith}
+use native.Mathlib.Nat.{mul-le-mul-right}
+use lib.IntN.{ℤ, pos, _+ℤ_}
+use Rattle.arithmetic.specs.Fraction.{Fraction, Within, sumᶠ, U}
+use Rattle.arithmetic.proofs.Distance.{within-whole, within-more, within-sum, within-product}
+use Rattle.arithmetic.proofs.UnitRange.{unit-abs}
+use Rattle.arithmetic.proofs.Chain.{Chained, chained-first, chained-share}
+use Rattle.arithmetic.proofs.Sums.{sumℕ, total-first, total-next, sum-linear, sum-tail}
+use Rattle.basis.specs.Basis.{Basis, Limited, accumulationOf}
+use Rattle.basis.specs.Outcome.{Outcome, value, sumOf, addTo}
+use Rattle.basis.proofs.Outcome.{along, came}
+use Rattle.basis.proofs.Accumulation.{accumulation-low}
+use Rattle.valuation.specs.Valuation.{yearOn, survivorsOf, curtateOf, expectationOf, discountAfter, payment, paymentAfter, annuityOf}
+use Rattle.valuation.specs.declared.Kind.{Kind}
+use Rattle.exact.specs.Model.{yearsTo, exactSurvivors, exactDiscount, exactExpectation, exactPayment, exactAnnuity}
+use Rattle.exact.specs.Distance.{ImprovingOver, WithinQuarters}
+use Rattle.exact.proofs.Survivors.{survived}
+
+quarters : {v : ℤ} {q : Fraction} {m : ℕ} (r : ℕ) → Within v q m → 2 * m ≤ r → WithinQuarters v q r
+quarters {q = q} r h k = record { proper = h .proper; near = omega (arith, h .near, mul-le-mul-right (q .den) k) }
+
+-- a sum of outcomes is as far from the exact sum as its terms are together
+total-within : (term : ℕ → Outcome ℤ) (exact : ℕ → Fraction) (m : ℕ → ℕ) (n : ℕ) → ((k : ℕ) (t : ℤ) → k < n → term k ≡ value t → Within t (exact k) (m k)) →
+    (total : ℤ) → sumOf term n ≡ value total → Within total (sumᶠ exact n) (sumℕ m n)
+unfolding sumOf
+total-within term exact m n near total h =
+    along (addTo term) (pos 0) (λ k a. Within a (sumᶠ exact k) (sumℕ m k)) n (total-first exact m)
+    (λ k a g l c q.
+    let w = came (term k) (λ t. value (a +ℤ t)) g q in
+    let e : a +ℤ w .0 ≡ g = cc in
+    rw (← e) (total-next exact m k c (near k (w .0) l (w .1))))
+    total h
+
+-- the discount: one half a year
+discounted : (b : Basis) → Limited b → (j : ℕ) → Chained 0 j (discountAfter b j) (exactDiscount b j)
+unfolding discountAfter exactDiscount
+discounted b limits zero = chained-first 0
+discounted b limits (suc j) = chained-share (accumulationOf b) (accumulation-low b limits) (discounted b limits j)
+
+-- ---- the expectation; j years of survivorship are j(3K + 2) halves
+module _ (b : Basis) (kind : Kind) (age year deferment K : ℕ) (limits : Limited b) (low : 20 ≤ age) (high : age + deferment ≤ 150)
+    (improving : ImprovingOver b kind (age + deferment) (year + deferment) (150 - age - deferment))
+    (most : (j : ℕ) → j < 150 - age - deferment → yearsTo b (yearOn kind (year + deferment) j) ≤ K) where
+  pub expectation-within : (a : ℤ) → expectationOf b kind age year deferment ≡ value a →
+      WithinQuarters a (exactExpectation b kind age year deferment) ((150 - age - deferment) * (150 - age - deferment + 1) * (3 * K + 2))
+  unfolding expectationOf curtateOf exactExpectation
+  expectation-within a h =
+      let n = 150 - age - deferment in
+      let from = age + deferment in let start = year + deferment in
+      let m : ℕ → ℕ = λ j. j * (3 * K + 2) + 0 in
+      let w = came (sumOf (λ k. survivorsOf b kind from start (suc k)) n) (λ t. value (pos (U / 2) +ℤ t)) a h in
+      let lives = total-within (λ k. survivorsOf b kind from start (suc k)) (λ k. exactSurvivors b kind from start (suc k)) (λ k. m (1 + k)) n
+      (λ k t l q.
+      within-more
+      (survived b kind from start K (suc k) limits (omega arith) (omega arith) (λ i less. improving i (omega arith)) (λ i less. most i (omega arith)) t q .near)
+      (omega arith))
+      (w .0) (w .1) in
+      let e : pos (U / 2) +ℤ w .0 ≡ a = cc in
+      quarters {m = 0 + sumℕ (λ k. m (1 + k)) n} _ (rw (← e) (within-sum (within-whole (pos (U / 2))) lives)) (omega (arith, rw one-more at (sum-tail m 1 n), sum-linear (3 * K + 2) 0 n))
+    where
+      one-more : 1 + (150 - age - deferment) ≡ suc (150 - age - deferment)
+      one-more = omega arith
+
+-- ---- the annuity
+module _ (b : Basis) (kind : Kind) (age year deferment K : ℕ) (limits : Limited b) (low : 20 ≤ age) (high : age + deferment ≤ 150)
+    (improving : ImprovingOver b kind age year (150 - age)) (most : (j : ℕ) → j < 150 - age → yearsTo b (yearOn kind year j) ≤ K) where
+  payment-within : (j : ℕ) (t : ℤ) → j ≤ 150 - age → paymentAfter b kind age year j ≡ value t → Within t (exactPayment b kind age year j) (j * (3 * K + 3) + 1)
+  unfolding paymentAfter exactPayment
+  payment-within j t l h =
+      let w = came (survivorsOf b kind age year j) (λ s. value (payment (discountAfter b j) s)) t h in
+      let s = survived b kind age year K j limits low (omega arith) (λ i less. improving i (omega arith)) (λ i less. most i (omega arith)) (w .0) (w .1) in
+      let v = discounted b limits j in
+      let e : payment (discountAfter b j) (w .0) ≡ t = cc in
+      rw (← e) (within-more (within-product U (omega arith) (v .near) (s .near) (v .size) (unit-abs (s .unit))) (omega arith))
+
+  pub annuity-within : (a : ℤ) → annuityOf b kind age year deferment ≡ value a →
+      WithinQuarters a (exactAnnuity b kind age year deferment) ((150 - age + 1) * (3 * (150 - age) * (K + 1) + 2))
+  unfolding annuityOf exactAnnuity
+  annuity-within a h =
+      let n = 150 - age - deferment in
+      let m : ℕ → ℕ = λ j. j * (3 * K + 3) + 1 in
+      let paid = total-within (λ k. paymentAfter b kind age year (deferment + k)) (λ k. exactPayment b kind age year (deferment + k)) (λ k. m (deferment + k)) (suc n)
+      (λ k t l q. payment-within (deferment + k) t (omega arith) q) a h in
+      let e : deferment + suc n ≡ suc (150 - age) = omega arith in
+      quarters _ paid (omega (arith, rw e at (sum-tail m deferment (suc n)), sum-linear (3 * K + 3) 1 (150 - age)))

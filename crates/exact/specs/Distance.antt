@@ -1,0 +1,41 @@
+-- The distances of demand 3 (01, "Distances from the exact model"): for every data run, of every enquiry that is answered.
+use mathlib.Core.Path.{_≡_}
+use mathlib.Core.Bool.{cond}
+use mathlib.Core.List.{List}
+use Prim.Native.Nat.{ℕ, zero, suc, _+_, _*_, _-_, _≤_, _<_}
+use lib.Dec.{ltb}
+use lib.IntN.{ℤ, pos, natAbs, _-ℤ_, _*ℤ_}
+use lib.Signed.{_≤ℤ_}
+use Rattle.arithmetic.specs.Fraction.{Fraction, Within}
+use Rattle.basis.specs.Basis.{Basis, basisOf}
+use Rattle.basis.specs.Outcome.{value}
+use Rattle.projection.specs.Projection.{heldYear}
+use Rattle.valuation.specs.Valuation.{yearOn}
+use Rattle.valuation.specs.declared.Kind.{Kind}
+use Rattle.exact.specs.Model.{exactImprovement, yearsTo, exactFactor, exactRate, exactSurvivors, exactExpectation, exactAnnuity}
+
+-- ---- the premise: no exact improvement taken into the answer is below zero
+abbrev pub NotBelowZero : Fraction → Type 0
+NotBelowZero q = pos 0 ≤ℤ q .num
+
+-- those that enter the exact factor at an age in a year: from B + 1 to the year, at most to 2130
+abbrev pub Improving : Basis → ℕ → ℕ → Type 0
+Improving b age year = (t : ℕ) → b .base < t → t ≤ heldYear year → NotBelowZero (exactImprovement b age t)
+
+-- those that enter the rates of n years of survivorship
+abbrev pub ImprovingOver : Basis → Kind → ℕ → ℕ → ℕ → Type 0
+ImprovingOver b kind age year n = (j : ℕ) → j < n → Improving b (age + j) (yearOn kind year j)
+
+-- ---- K is the largest k among the rates used, 0 if none
+unfoldable pub largest : (ℕ → ℕ) → ℕ → ℕ
+largest k zero = 0
+largest k (suc n) = cond (ltb (largest k n) (k n)) (k n) (largest k n)
+
+-- of n years of survivorship
+abbrev pub largestYears : Basis → Kind → ℕ → ℕ → ℕ
+largestYears b kind year n = largest (λ j. yearsTo b (yearOn kind year j)) n
+
+-- ---- v is at most m quarters of a unit from q: 4 |v − q| ≤ m, with the denominator multiplied out
+pub record WithinQuarters (v : ℤ) (q : Fraction) (m : ℕ) : Type 0 where
+  pub proper : 0 < q .den
+  pub near : 4 * natAbs (v *ℤ pos (q .den) -ℤ q .num) ≤ m * q .den

@@ -1,0 +1,60 @@
+-- The exact model (01, "Distances from the exact model"): the projection's rules without rounding, in fractions of whole numbers.
+use Prim.Native.Nat.{ℕ, zero, suc, _+_, _-_, _/_}
+use lib.IntN.{pos, _-ℤ_}
+use Rattle.arithmetic.specs.Fraction.{Fraction, _over_, whole, _+ᶠ_, _-ᶠ_, _*ᶠ_, _/ᶠ_, lesser, sumᶠ, U}
+use Rattle.basis.specs.Basis.{Basis, accumulationOf}
+use Rattle.basis.specs.declared.Convergence.{Convergence}
+use Rattle.component.specs.Component.{weightOf}
+use Rattle.projection.specs.Projection.{additionOf, heldYear}
+use Rattle.valuation.specs.Valuation.{yearOn}
+use Rattle.valuation.specs.declared.Kind.{Kind}
+
+-- L + (I − L) × weight
+unfoldable pub exactComponent : Convergence → ℕ → Fraction
+exactComponent c n = whole (c .long) +ᶠ whole (c .initial -ℤ c .long) *ᶠ weightOf (c .period) (c .remaining) n
+
+-- the two components' sum, plus the addition after F
+unfoldable pub exactImprovement : Basis → ℕ → ℕ → Fraction
+exactImprovement b age year =
+    exactComponent (b .byAge age) (year - b .foundation) +ᶠ exactComponent (b .byBirthYear (year - age)) (year - b .foundation) +ᶠ whole (additionOf b year)
+
+-- U in B; each later year multiplies it by (U − improvement) / U
+unfoldable pub exactFactorAfter : Basis → ℕ → ℕ → Fraction
+exactFactorAfter b age zero = whole (pos U)
+exactFactorAfter b age (suc k) = exactFactorAfter b age k *ᶠ (whole (pos U) -ᶠ exactImprovement b age (b .base + 1 + k)) /ᶠ U
+
+-- k is the years from B to the year, at most to 2130
+abbrev pub yearsTo : Basis → ℕ → ℕ
+yearsTo b year = heldYear year - b .base
+
+-- after 2130 it is held
+unfoldable pub exactFactor : Basis → ℕ → ℕ → Fraction
+exactFactor b age year = exactFactorAfter b age (yearsTo b year)
+
+-- the lesser of U and base rate × factor / U
+unfoldable pub exactRate : Basis → ℕ → ℕ → Fraction
+exactRate b age year = lesser (whole (pos U)) (whole (pos (b .baseRate age)) *ᶠ exactFactor b age year /ᶠ U)
+
+-- U at first; each year multiplies them by (U − rate) / U
+unfoldable pub exactSurvivors : Basis → Kind → ℕ → ℕ → ℕ → Fraction
+exactSurvivors b kind age year zero = whole (pos U)
+exactSurvivors b kind age year (suc n) =
+    exactSurvivors b kind age year n *ᶠ (whole (pos U) -ᶠ exactRate b (age + n) (yearOn kind year n)) /ᶠ U
+
+-- U at first; each year multiplies it by U / (U + rate of discount)
+unfoldable pub exactDiscount : Basis → ℕ → Fraction
+exactDiscount b zero = whole (pos U)
+exactDiscount b (suc j) = exactDiscount b j *ᶠ (pos U over accumulationOf b)
+
+-- U/2 plus the survivors after 1 to N years
+unfoldable pub exactExpectation : Basis → Kind → ℕ → ℕ → ℕ → Fraction
+exactExpectation b kind age year deferment =
+    whole (pos (U / 2)) +ᶠ sumᶠ (λ k. exactSurvivors b kind (age + deferment) (year + deferment) (suc k)) (150 - age - deferment)
+
+-- discount × survivors / U after j years
+unfoldable pub exactPayment : Basis → Kind → ℕ → ℕ → ℕ → Fraction
+exactPayment b kind age year j = exactDiscount b j *ᶠ exactSurvivors b kind age year j /ᶠ U
+
+-- the sum of these over its j, from the deferment to 150 − age
+unfoldable pub exactAnnuity : Basis → Kind → ℕ → ℕ → ℕ → Fraction
+exactAnnuity b kind age year deferment = sumᶠ (λ k. exactPayment b kind age year (deferment + k)) (suc (150 - age - deferment))
