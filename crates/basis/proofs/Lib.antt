@@ -1,5 +1,7 @@
 pub mod Signed
 pub mod Outcome
+pub mod Bytes
+pub mod Lent
 mod Accumulation
 mod Turns
 mod Stretches

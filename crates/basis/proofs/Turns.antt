@@ -12,7 +12,6 @@ use lib.IntN.{ℤ}
 use borrow.Author.Tests.{eq-eqb}
 use Rattle.basis.specs.declared.Number.{Number}
 use Rattle.basis.specs.declared.Field.{Field}
-use Rattle.basis.specs.declared.Refusal.{Refusal}
 use Rattle.basis.specs.declared.Check.{Check}
 use Rattle.basis.specs.declared.Check.the-variants.{Passed, Refused}
 use Rattle.basis.specs.Outcome.{refusal, firstOf}
@@ -36,12 +35,6 @@ module _ (run : List ℕ) (number : ℕ) (kind : Number) (low high : ℤ) (at : 
   outside (suc n) h e = rw e
 
 -- ---- the rows of the table
-pub stop : (c rest : Check) {r : Refusal} → c ≡ Refused r → firstOf c rest ≡ c
-stop c rest g = rw g
-
-pub pass : (c rest : Check) → c ≡ Passed → firstOf c rest ≡ rest
-pass c rest g = rw g
-
 -- a row more of the table
 more : (run : List ℕ) (i : ℕ) → i < 18
     → fieldsCheck run (drop i runFields) ≡ firstOf (fieldCheck run (getD runFields i noField)) (fieldsCheck run (drop (i + 1) runFields))

@@ -1,7 +1,7 @@
 -- Numbers in a list of bytes (01, "The basis file": numbers are little-endian).
-use Prim.Native.Nat.{ℕ, suc, _+_, _*_, _-_, _^_}
+use Prim.Native.Nat.{ℕ, suc, _+_, _*_, _-_, _/_, _%_, _^_}
 use mathlib.Core.Bool.{cond}
-use mathlib.Core.List.{List}
+use mathlib.Core.List.{List, [], _∷_}
 use lib.ListN.{getD}
 use lib.Dec.{ltb}
 use lib.IntN.{ℤ, pos, negsuc}
@@ -21,3 +21,10 @@ signed32 n = cond (ltb n (2 ^ 31)) (pos n) (negsuc (2 ^ 32 - suc n))
 
 abbrev pub i32At : List ℕ → ℕ → ℤ
 i32At s at = signed32 (u32At s at)
+
+-- ---- the bytes of a number, the lowest first
+abbrev pub u16Bytes : ℕ → List ℕ
+u16Bytes n = n % 256 ∷ n / 256 % 256 ∷ []
+
+abbrev pub u32Bytes : ℕ → List ℕ
+u32Bytes n = n % 256 ∷ n / 256 % 256 ∷ n / 65536 % 256 ∷ n / 16777216 % 256 ∷ []

@@ -1,8 +1,8 @@
-// Little-endian numbers at an offset of a slice of bytes.
+// Little-endian numbers: read at an offset of a slice of bytes, and their bytes.
 ghost use mathlib.Core.Path.{_≡_};
 ghost use Prim.Native.Nat.{_+_, _≤_, _<_};
 ghost use lib.ListN.{length};
-ghost use Rattle.basis.specs.Bytes.{u16At, u32At, signed32, i32At};
+ghost use Rattle.basis.specs.Bytes.{u16At, u32At, signed32, i32At, u16Bytes, u32Bytes};
 
 fn wide(b: u8) -> u32
     ensures { λ r. ⌜ (r ≡ b) × (r < 256) ⌝ }
@@ -43,4 +43,23 @@ pub fn read_i32(s: &[u8], at: usize) -> i32
     ensures { λ r. ⌜ r ≡ i32At (now (s .entry)) at ⌝ }
 {
     to_signed(read_u32(s, at))
+}
+
+// The 2 bytes of a number.
+pub fn u16_bytes(n: u32) -> [u8; 2]
+    ensures { λ r. ⌜ r ≡ u16Bytes n ⌝ }
+{
+    [(n % 256) as u8, (n / 256 % 256) as u8]
+}
+
+// The 4 bytes of a number.
+pub fn u32_bytes(n: u32) -> [u8; 4]
+    ensures { λ r. ⌜ r ≡ u32Bytes n ⌝ }
+{
+    [
+        (n % 256) as u8,
+        (n / 256 % 256) as u8,
+        (n / 65536 % 256) as u8,
+        (n / 16777216 % 256) as u8,
+    ]
 }

@@ -6,7 +6,8 @@ use borrow.Author.Needs.{needs}
 use borrow.Author.Tests.{ne-eqb}
 use lib.ListN.{drop}
 use Rattle.basis.specs.Run.{fieldsCheck, runFields, runCheck}
-use Rattle.basis.proofs.Turns.{found, fits, stop, pass, whole}
+use Rattle.basis.proofs.Outcome.{stop, pass}
+use Rattle.basis.proofs.Turns.{found, fits, whole}
 use Rattle.basis.proofs.checks.check_run.Statement.{statement}
 use Rattle.basis.proofs.checks.check_run.Tie as tie
 

@@ -1,0 +1,17 @@
+-- Lent outputs (01, "Who can cause a refusal"): refused where too short, changed by no refusal, and with their further elements kept.
+use Prim.Native.Nat.{ℕ}
+use mathlib.Core.List.{List, _++_}
+use lib.ListN.{length, drop}
+use lib.Dec.{leb}
+use Rattle.basis.specs.declared.Check.{Check}
+use Rattle.basis.specs.declared.Check.the-variants.{Passed, Refused}
+use Rattle.basis.specs.Outcome.{refusal, unless}
+
+-- an output shorter than what is needed (11)
+unfoldable pub roomCheck : {A : Type 0} → ℕ → List A → Check
+roomCheck need out = unless (leb need (length out)) (refusal 11 need 0)
+
+-- what stands in an output after the check: the new elements in front of its further ones, or what stood there
+abbrev pub written : {A : Type 0} → Check → List A → List A → List A
+written Passed new out = new ++ drop (length new) out
+written (Refused r) new out = out
