@@ -5,5 +5,5 @@ pub mod Lent
 pub mod Accumulation
 mod Turns
 mod Stretches
-mod Rows
+pub mod Rows
 pub mod Acceptance

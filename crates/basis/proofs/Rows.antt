@@ -12,9 +12,9 @@ use lib.Signed.{_≤ℤ_, leZ}
 use Rattle.arithmetic.proofs.Difference.{≤-parts, parts-≤}
 use Rattle.basis.specs.declared.Number.{Number}
 use Rattle.basis.specs.declared.Field.{Field}
-use Rattle.basis.specs.declared.Check.{Check}
 use Rattle.basis.specs.declared.Check.the-variants.{Passed, Refused}
-use Rattle.basis.specs.Outcome.{refusal, firstOf}
+use Rattle.basis.specs.Outcome.{refusal}
+use Rattle.basis.proofs.Outcome.{both}
 use Rattle.basis.specs.Run.{widthOf, valueAt, limitOf, between, entriesCheck, noField, fieldCheck, fieldsCheck}
 
 -- ---- a number between its limits
@@ -106,10 +106,6 @@ module _ (run : List ℕ) where
   pub data AllHold : List Field → Type 0 where
     none : AllHold []
     _and_ : {f : Field} {fs : List Field} → Holds run f → AllHold fs → AllHold (f ∷ fs)
-
-  both : (a b : Check) → firstOf a b ≡ Passed → (a ≡ Passed) × (b ≡ Passed)
-  both Passed b h = (refl, h)
-  both (Refused r) b h = let z : _≡_ {A = ℕ} 0 1 = cc in absurd (omega arith)
 
   pub all-hold : (fs : List Field) → fieldsCheck run fs ≡ Passed → (k : ℕ) → k < length fs → Holds run (getD fs k noField)
   unfolding fieldsCheck

@@ -28,3 +28,11 @@ u16Bytes n = n % 256 ∷ n / 256 % 256 ∷ []
 
 abbrev pub u32Bytes : ℕ → List ℕ
 u32Bytes n = n % 256 ∷ n / 256 % 256 ∷ n / 65536 % 256 ∷ n / 16777216 % 256 ∷ []
+
+-- the 32 bits that stand for a signed number
+abbrev pub unsigned32 : ℤ → ℕ
+unsigned32 (pos n) = n
+unsigned32 (negsuc n) = 2 ^ 32 - suc n
+
+abbrev pub i32Bytes : ℤ → List ℕ
+i32Bytes z = u32Bytes (unsigned32 z)

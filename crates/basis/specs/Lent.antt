@@ -1,7 +1,7 @@
 -- Lent outputs (01, "Who can cause a refusal"): refused where too short, changed by no refusal, and with their further elements kept.
-use Prim.Native.Nat.{ℕ}
+use Prim.Native.Nat.{ℕ, _+_}
 use mathlib.Core.List.{List, _++_}
-use lib.ListN.{length, drop}
+use lib.ListN.{length, take, drop}
 use lib.Dec.{leb}
 use Rattle.basis.specs.declared.Check.{Check}
 use Rattle.basis.specs.declared.Check.the-variants.{Passed, Refused}
@@ -15,3 +15,7 @@ roomCheck need out = unless (leb need (length out)) (refusal 11 need 0)
 abbrev pub written : {A : Type 0} → Check → List A → List A → List A
 written Passed new out = new ++ drop (length new) out
 written (Refused r) new out = out
+
+-- an output with other elements in one place of it
+abbrev pub placed : {A : Type 0} → List A → ℕ → List A → List A
+placed out at part = take at out ++ part ++ drop (at + length part) out

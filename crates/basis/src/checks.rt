@@ -108,7 +108,7 @@ fn limit_of(run: &[u8], low: Limit) -> i64
     }
 }
 
-fn in_limits(low: i64, high: i64, n: i64) -> bool
+pub fn in_limits(low: i64, high: i64, n: i64) -> bool
     ensures { λ r. ⌜ r ≡ between low high n ⌝ }
 {
     if low <= n { n <= high } else { false }

@@ -2,7 +2,7 @@
 ghost use mathlib.Core.Path.{_≡_};
 ghost use Prim.Native.Nat.{_+_, _≤_, _<_};
 ghost use lib.ListN.{length};
-ghost use Rattle.basis.specs.Bytes.{u16At, u32At, signed32, i32At, u16Bytes, u32Bytes};
+ghost use Rattle.basis.specs.Bytes.{u16At, u32At, signed32, i32At, u16Bytes, u32Bytes, unsigned32, i32Bytes};
 
 fn wide(b: u8) -> u32
     ensures { λ r. ⌜ (r ≡ b) × (r < 256) ⌝ }
@@ -62,4 +62,23 @@ pub fn u32_bytes(n: u32) -> [u8; 4]
         (n / 65536 % 256) as u8,
         (n / 16777216 % 256) as u8,
     ]
+}
+
+// The 32 bits that stand for a signed number. A cast would refuse what is below zero, so that is reached from 2^32 - 1
+// downwards.
+fn to_unsigned(n: i32) -> u32
+    ensures { λ r. ⌜ r ≡ unsigned32 n ⌝ }
+{
+    if n < 0 {
+        4294967295 - ((-1 - n) as u32)
+    } else {
+        n as u32
+    }
+}
+
+// The 4 bytes of a signed number.
+pub fn i32_bytes(n: i32) -> [u8; 4]
+    ensures { λ r. ⌜ r ≡ i32Bytes n ⌝ }
+{
+    u32_bytes(to_unsigned(n))
 }
