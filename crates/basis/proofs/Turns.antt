@@ -13,7 +13,7 @@ use borrow.Author.Tests.{eq-eqb}
 use Rattle.basis.specs.declared.Number.{Number}
 use Rattle.basis.specs.declared.Field.{Field}
 use Rattle.basis.specs.declared.Check.{Check}
-use Rattle.basis.specs.declared.Check.the-variants.{Passed, Refused}
+use Rattle.basis.specs.declared.Check.the-variants.{Refused}
 use Rattle.basis.specs.Outcome.{refusal, firstOf}
 use Rattle.basis.specs.Run.{widthOf, valueAt, between, entriesCheck, fieldCheck, fieldsCheck, noField, runFields, runCheck}
 

@@ -3,7 +3,7 @@ use mathlib.Core.Path.{_≡_, refl, sym, ap, _∙_}
 use mathlib.Core.List.{List, [], _∷_, _++_, append-assoc}
 use Prim.Native.Nat.{ℕ, zero, suc, _+_, _*_, _<_, _≤_}
 use native.Mathlib.Omega.{arith}
-use lib.ListN.{length, take, drop, getD, length-append, length-take, length-drop, take-append-drop}
+use lib.ListN.{length, take, drop, getD, length-take, length-drop, take-append-drop}
 use lib.Seq.{take-at, drop-at, take-take, take-add, getD-take, getD-drop, getD-append-add}
 use Rattle.basis.specs.declared.Check.the-variants.{Passed}
 use Rattle.basis.specs.Bytes.{u16At, u32At, u16Bytes, u32Bytes}

@@ -1,3 +1,4 @@
+-- The two tests are those of the definition, in its order.
 use mathlib.Core.Path.{sym, _∙_}
 use Rattle.basis_file.proofs.Blocks.{wrong-check, wrong-number, sound}
 use borrow.Author.Needs.{needs}

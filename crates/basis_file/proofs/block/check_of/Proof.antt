@@ -1,3 +1,4 @@
+-- The sum so far is that of the words so far, modulo 4,294,967,296.
 use mathlib.Core.Path.{_≡_, ap, _∙_}
 use Prim.Native.Nat.{ℕ, _-_, _≤_, _%_}
 use native.Mathlib.Omega.{arith}

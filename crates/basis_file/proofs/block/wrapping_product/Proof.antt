@@ -1,3 +1,4 @@
+-- The product of two numbers of 32 bits fits in 64, and its remainder in 32.
 use Rattle.basis_file.proofs.Product.{below}
 use borrow.Author.Needs.{needs}
 use Rattle.basis_file.proofs.block.wrapping_product.Statement.{statement}

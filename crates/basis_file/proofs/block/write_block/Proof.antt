@@ -1,3 +1,4 @@
+-- The number, the data and the check of these are copied in, one behind the other.
 use mathlib.Core.Path.{ap}
 use lib.ListN.{length}
 use Rattle.basis_file.proofs.Blocks.{built}
@@ -37,12 +38,16 @@ same-length c = search needs
 
 returns : tie.Need-returns
 returns c =
-    let s = c .before .before .before .before .before .before .before .before .before .before .before .before .before .before .before .before .before .before .before .before in
-    built (c .before .before .before .before .before .before .before .before .before .before .before .before .before .before .before .before .before .u16-bytes .result) (s .args .part .now) (s .args .block .now) _ _
-    (ap length (c .before .before .before .before .before .before .before .before .before .before .before .before .before .before .before .before .before .u16-bytes .ensures)) (s .pre .0) (s .pre .2)
-    (c .before .before .before .before .before .before .before .before .before .before .before .before .before .before .copy-part .ensures) (c .before .before .before .before .before .before .before .before .before .before .copy-part2 .ensures)
-    (s .args .place) (c .before .before .before .before .before .before .check-of .result) (c .before .before .before .before .before .u32-bytes .result) _
-    (c .before .before .before .before .before .before .before .before .before .before .before .before .before .before .before .before .before .u16-bytes .ensures) (c .before .before .before .before .before .before .check-of .ensures) (c .before .before .before .before .before .u32-bytes .ensures) (c .before .before .copy-part3 .ensures)
+    let check = c .before .before .before .before .before in
+    let sum = check .before in
+    let body = sum .before .before .before .before in
+    let head = body .before .before .before .before in
+    let number = head .before .before .before in
+    let s = number .before .before .before in
+    built (number .u16-bytes .result) (s .args .part .now) (s .args .block .now) _ _ (ap length (number .u16-bytes .ensures)) (s .pre .0) (s .pre .2)
+    (head .copy-part .ensures) (body .copy-part2 .ensures)
+    (s .args .place) (sum .check-of .result) (check .u32-bytes .result) _
+    (number .u16-bytes .ensures) (sum .check-of .ensures) (check .u32-bytes .ensures) (c .before .before .copy-part3 .ensures)
 
 pub write-block-spec : {M : Type 1} → statement M
 write-block-spec =

@@ -1,3 +1,4 @@
+-- A part that is lent, filled and put back is the list with that part replaced.
 use Rattle.basis_file.proofs.Parts.{copied}
 use borrow.Author.Needs.{needs}
 use Rattle.basis_file.proofs.copy.copy_part.Statement.{statement}

@@ -1,3 +1,4 @@
+-- What is left of the blocks gives the same answer as all of them.
 use mathlib.Core.Path.{_≡_, refl, sym, _∙_}
 use Prim.Native.Nat.{_*_, _-_, _≤_}
 use native.Mathlib.Omega.{arith}

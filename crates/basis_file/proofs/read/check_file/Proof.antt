@@ -1,3 +1,4 @@
+-- The length and the blocks are checked as the definition has it, and the array that the parts fill whole is the run.
 use mathlib.Core.Path.{sym, ap, _∙_}
 use borrow.Author.Needs.{needs}
 use Rattle.basis.specs.Run.{runCheck}
@@ -32,11 +33,13 @@ enum-told-2 c = search needs
 
 returns-2 : tie.Need-returns-2
 returns-2 c =
-    let f = c .before .before .before .before .before .before .before .before .before .before .args .file .now in
-    let k = c .before .before .before .before .before .before .before .check-blocks in
-    c .check-run .ensures ∙ ap runCheck (c .before .before .before .join-parts .ensures ∙ all-filled f)
-    ∙ sym (whole-file f (k .result) (c .before .before .before .before .before .before .before .before .if1 .left) (k .ensures)
-    ∙ pass (k .result) _ (c .before .before .before .before .before .enum-told .given .1))
+    let joined = c .before .before .before in
+    let told = joined .before .before in
+    let k = told .before .before .check-blocks in
+    let whole = told .before .before .before in
+    let f = whole .before .before .args .file .now in
+    c .check-run .ensures ∙ ap runCheck (joined .join-parts .ensures ∙ all-filled f)
+    ∙ sym (whole-file f (k .result) (whole .if1 .left) (k .ensures) ∙ pass (k .result) _ (told .enum-told .given .1))
 
 returns-3 : tie.Need-returns-3
 returns-3 c =

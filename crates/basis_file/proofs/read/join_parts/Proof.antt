@@ -1,3 +1,4 @@
+-- What is joined so far, with the parts that are left, is the whole run; behind it the output is as it was.
 use mathlib.Core.Path.{_≡_, refl, _∙_}
 use mathlib.Core.List.{_++_}
 use Prim.Native.Nat.{_+_, _*_, _-_, _≤_}

@@ -1,3 +1,4 @@
+-- The output is written only where both checks have passed, and then it has the run in front.
 use mathlib.Core.Path.{refl, sym, _∙_}
 use native.Mathlib.Omega.{arith}
 use borrow.Author.Needs.{needs}
@@ -29,10 +30,12 @@ same-length c = search needs
 
 returns-2 : tie.Need-returns-2
 returns-2 c =
-    let f = c .before .before .before .before .before .before .before .before .before .before .args .file .now in
-    let k = c .before .before .before .before .before .before .check-file in
-    let z = c .before .before .before .before .enum-told .given .1 in (
-      k .ensures ∙ sym (roomy _ _ _ (c .before .before .before .before .before .before .before .if1 .left)),
+    let told = c .before .before .before .before in
+    let k = told .before .before .check-file in
+    let roomed = told .before .before .before in
+    let f = roomed .before .before .before .args .file .now in
+    let z = told .enum-told .given .1 in (
+      k .ensures ∙ sym (roomy _ _ _ (roomed .if1 .left)),
       c .before .before .join-parts .ensures ∙ sym (filled (k .result) (runIn f) _ 4554 z (length-runIn f (accepted-length f (sym (k .ensures) ∙ z)))),
     )
 

@@ -1,3 +1,4 @@
+-- What is written so far, with the blocks that are left, is the whole file; behind it the output is as it was.
 use mathlib.Core.Path.{_≡_, refl, ap, _∙_}
 use mathlib.Core.List.{List, _++_}
 use Prim.Native.Nat.{ℕ, _+_, _*_, _-_, _≤_}

@@ -1,3 +1,4 @@
+-- The output is written only where both checks have passed, and then it has the file in front.
 use mathlib.Core.Path.{refl, sym, _∙_}
 use native.Mathlib.Omega.{arith}
 use borrow.Author.Needs.{needs}
@@ -29,10 +30,12 @@ same-length c = search needs
 
 returns-2 : tie.Need-returns-2
 returns-2 c =
-    let d = c .before .before .before .before .before .before .before .before .before .before .args .run .now in
-    let k = c .before .before .before .before .before .before .check-run in
-    let z = c .before .before .before .before .enum-told .given .1 in (
-      k .ensures ∙ sym (roomy _ _ _ (c .before .before .before .before .before .before .before .if1 .left)),
+    let told = c .before .before .before .before in
+    let k = told .before .before .check-run in
+    let roomed = told .before .before .before in
+    let d = roomed .before .before .before .args .run .now in
+    let z = told .enum-told .given .1 in (
+      k .ensures ∙ sym (roomy _ _ _ (roomed .if1 .left)),
       c .before .before .write-blocks .ensures ∙ sym (filled (k .result) (fileOf d) _ 4608 z (length-fileOf d (accepted-run d (sym (k .ensures) ∙ z)))),
     )
 

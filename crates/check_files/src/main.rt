@@ -1,0 +1,174 @@
+// Runs the cases of an outside calculation on the basis file: files read and data runs written, with every refusal.
+//
+// Standard input, all numbers little-endian: a file of 4,608 bytes, then cases to the end. A case is its kind (1 byte:
+// 0 read, 1 write), input length (2), output length (2), S (4), number of patches (2), and for each patch an offset (2)
+// and a byte (1). The input is the file for kind 0, else its data run, cut or extended with zero bytes to the input
+// length and then patched; the output is filled with place % 251. A line a case: the refusal's number and places, zeros
+// where there is none, and the sum of (place + 1) * byte over the output after the call.
+ghost use mathlib.Core.Path.{_≡_};
+ghost use Prim.Native.Nat.{_≤_, _<_};
+ghost use lib.ListN.{length};
+use basis::Check;
+use basis::Refusal;
+use basis::little_endian;
+use basis_file::read;
+use basis_file::write;
+use libc::STDIN_FILENO;
+use libc::STDOUT_FILENO;
+
+// ---- the input and the output of a case
+fn room() -> [u8; 5000]
+    ensures { λ r. ⌜ 5000 ≡ length r ⌝ }
+{
+    [0; 5000]
+}
+
+fn file_room() -> [u8; 4608]
+    ensures { λ r. ⌜ 4608 ≡ length r ⌝ }
+{
+    [0; 4608]
+}
+
+fn byte_or_none(s: &[u8], i: usize) -> u8 {
+    if i < s.len() { s[i] } else { 0 }
+}
+
+// A byte of the file, or of its data run, and 0 beyond the end.
+fn base_byte(file: &[u8], kind: u8, i: usize) -> u8
+    requires { ⌜ i < 5000 ⌝ }
+{
+    if kind == 0 {
+        byte_or_none(file, i)
+    } else {
+        byte_or_none(file, 512 * (i / 506) + 2 + i % 506)
+    }
+}
+
+fn lay_base(file: &[u8], kind: u8, input: &mut [u8])
+    requires { ⌜ length (now input) ≤ 5000 ⌝ }
+{
+    for i in 0..input.len() {
+        input[i] = base_byte(file, kind, i);
+    }
+}
+
+// One patch of standard input.
+fn patch(input: &mut [u8]) {
+    let mut read = [0u8; 3];
+    io::read_full(STDIN_FILENO, &mut read);
+    let at = little_endian::read_u16(&read, 0) as usize;
+    if at < input.len() {
+        input[at] = read[2];
+    }
+}
+
+fn patch_all(input: &mut [u8], patches: u32) {
+    for _ in 0..patches {
+        patch(input);
+    }
+}
+
+fn fill(output: &mut [u8]) {
+    for i in 0..output.len() {
+        output[i] = (i % 251) as u8;
+    }
+}
+
+// ---- a case
+fn weighed(place: usize, byte: u8) -> u32
+    requires { ⌜ place < 5000 ⌝ }
+{
+    (place as u32 + 1) * (byte as u32)
+}
+
+fn sum_of(output: &[u8]) -> u32
+    requires { ⌜ length (now output) ≤ 5000 ⌝ }
+{
+    let mut sum: u32 = 0;
+    for i in 0..output.len() {
+        sum = std::num::wrapping_add_u32(sum, weighed(i, output[i]));
+    }
+    sum
+}
+
+fn print_number(n: u64, end: &[u8]) {
+    io::print_decimal(STDOUT_FILENO, n);
+    io::write_all(STDOUT_FILENO, end);
+}
+
+fn print_line(r: Refusal, sum: u32) {
+    print_number(r.number as u64, b" ");
+    print_number(r.first, b" ");
+    print_number(r.second, b" ");
+    print_number(sum as u64, b"\n");
+}
+
+fn print_answer(c: Check, sum: u32) {
+    match c {
+        Check::Passed => print_line(
+            Refusal {
+                number: 0,
+                first: 0,
+                second: 0,
+            },
+            sum,
+        ),
+        Check::Refused(r) => print_line(r, sum),
+    }
+}
+
+fn answer(kind: u8, input: &[u8], output: &mut [u8]) -> Check {
+    if kind == 0 {
+        read::read_file(input, output)
+    } else {
+        write::write_file(input, output)
+    }
+}
+
+fn work(file: &[u8], header: &[u8], input: &mut [u8], output: &mut [u8])
+    requires { ⌜ (length (now header) ≡ 11) × (length (now input) ≤ 5000) × (length (now output) ≤ 5000) ⌝ }
+{
+    let kind = header[0];
+    lay_base(file, kind, input);
+    patch_all(input, little_endian::read_u16(header, 9));
+    fill(output);
+    let c = answer(kind, input, output);
+    print_answer(c, sum_of(output));
+}
+
+fn run_case(file: &[u8], header: &[u8])
+    requires { ⌜ length (now header) ≡ 11 ⌝ }
+{
+    let mut input = room();
+    let mut output = room();
+    let given = io::count(little_endian::read_u16(header, 1) as isize, &input);
+    let lent = io::count(little_endian::read_u16(header, 3) as isize, &output);
+    work(file, header, &mut input[..given], &mut output[..lent]);
+}
+
+// Reads a case and works it; false at the end of the input.
+fn next_case(file: &[u8]) -> bool {
+    let mut header = [0u8; 11];
+    if io::read_full(STDIN_FILENO, &mut header) < 11 {
+        return false;
+    }
+    run_case(file, &header);
+    true
+}
+
+// Nothing says that the input ends, so the cases are counted up to a number that no run reaches.
+fn run_cases(file: &[u8]) -> u64 {
+    let mut cases: u64 = 0;
+    while cases < 1000000000000000 && next_case(file) {
+        cases += 1;
+    }
+    cases
+}
+
+fn main() {
+    let mut file = file_room();
+    io::read_full(STDIN_FILENO, &mut file);
+    let cases = run_cases(&file);
+    io::write_all(STDOUT_FILENO, b"cases ");
+    print_number(cases, b"\n");
+}
