@@ -1,3 +1,6 @@
 pub mod Signed
 pub mod Outcome
 pub mod Accumulation
+mod Turns
+mod Rows
+pub mod Acceptance

@@ -14,7 +14,7 @@ use Rattle.basis.specs.declared.Number.{Number}
 use Rattle.basis.specs.declared.Number.the-variants.{Byte, Half, Word, SignedWord}
 use Rattle.basis.specs.declared.Field.{Field}
 use Rattle.basis.specs.Bytes.{byteAt, u16At, u32At, i32At}
-use Rattle.basis.specs.Outcome.{refusal, unless, firstOf}
+use Rattle.basis.specs.Outcome.{refusal, firstOf}
 
 abbrev pub widthOf : Number → ℕ
 widthOf Byte = 1
@@ -46,6 +46,10 @@ entriesCheck run refused kind low high at (suc n) =
 -- a field: its refusal's number, its kind of number, its limits, its offset, and how many stand there
 abbrev pub field : ℕ → Number → Limit → ℤ → ℕ → ℕ → Field
 field refused kind low high offset count = (refused, kind, low, high, offset, count)
+
+-- what stands past the end of a table of fields
+abbrev pub noField : Field
+noField = field 0 Byte (Is (pos 0)) (pos 0) 0 0
 
 unfoldable pub fieldCheck : List ℕ → Field → Check
 fieldCheck run f = entriesCheck run (f .0) (f .1) (limitOf run (f .2)) (f .3) (f .4) (f .5)

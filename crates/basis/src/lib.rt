@@ -1,4 +1,5 @@
 // The basis: what a data run holds, and whether it may be used. These are the types that every layer above speaks in.
+pub mod checks;
 pub mod fields;
 pub mod little_endian;
 
@@ -53,4 +54,11 @@ pub enum Limit {
 
 // Numbers of one kind, one after the other: the refusal of one outside its limits, the kind, the two limits, the offset
 // of the first, and how many there are.
-pub struct Field(pub u32, pub Number, pub Limit, pub i64, pub usize, pub usize);
+pub struct Field(
+    pub u32,
+    pub Number,
+    pub Limit,
+    pub i64,
+    pub usize,
+    pub usize,
+);

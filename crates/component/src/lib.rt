@@ -45,7 +45,11 @@ fn converging(initial: i32, long: i32, period: u8, remaining: u8, years: u32) ->
     let span = period as u64;
     let past = years as u64;
     if past < span {
-        let dividend = weighted(excess(initial, long), span - past, slope(span, remaining as u64, past));
+        let dividend = weighted(
+            excess(initial, long),
+            span - past,
+            slope(span, remaining as u64, past),
+        );
         wide(long) + arithmetic::round_div(dividend, 100 * (span * span * span))
     } else {
         wide(long)
@@ -57,5 +61,11 @@ pub fn component(terms: Convergence, years: u32) -> i64
     requires { ⌜ ConvergenceLimits terms ⌝ }
     ensures { λ r. ⌜ r ≡ componentOf terms years ⌝ }
 {
-    converging(terms.initial, terms.long, terms.period, terms.remaining, years)
+    converging(
+        terms.initial,
+        terms.long,
+        terms.period,
+        terms.remaining,
+        years,
+    )
 }

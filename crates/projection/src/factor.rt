@@ -5,10 +5,10 @@ ghost use lib.IntN.{pos, natAbs};
 ghost use Rattle.basis.specs.Basis.{basisOf, Accepted};
 ghost use Rattle.basis.specs.Outcome.{meaning};
 ghost use Rattle.projection.specs.Projection.{improvementOf, factorNext, factorFrom, heldYear, factorOf};
+use crate::improvement;
 use basis::Answer;
 use basis::Convergence;
 use basis::Refusal;
-use crate::improvement;
 
 const UNIT: u64 = 1_000_000_000;
 
@@ -49,7 +49,12 @@ fn factor_in(run: &[u8], terms: Convergence, age: u32, year: u32, f: u64) -> Ans
     requires { ⌜ Accepted (now run) × (20 ≤ age) × (age ≤ 150) × (terms ≡ basisOf (now run) .byAge age) × (basisOf (now run) .foundation ≤ year) × (year ≤ 2130) × (f ≤ 4_000_000_000) ⌝ }
     ensures { λ r. ⌜ meaning r ≡ factorFrom age year (improvementOf (basisOf (now (run .entry))) age year) (pos f) ⌝ }
 {
-    factor_from(age, year, improvement::improvement_at(run, terms, age, year), f)
+    factor_from(
+        age,
+        year,
+        improvement::improvement_at(run, terms, age, year),
+        f,
+    )
 }
 
 // After 2130 the factor of 2130 is held.

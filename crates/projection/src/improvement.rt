@@ -3,10 +3,12 @@ ghost use mathlib.Core.Path.{_≡_};
 ghost use Prim.Native.Nat.{_≤_};
 ghost use lib.IntN.{_+ℤ_};
 ghost use Rattle.basis.specs.Basis.{basisOf, Accepted, ConvergenceLimits};
-ghost use Rattle.basis.specs.Outcome.{meaning};
+ghost use Rattle.basis.specs.Outcome.{signedMeaning};
 ghost use Rattle.component.specs.Component.{componentOf};
-ghost use Rattle.projection.specs.Projection.{additionOf, improvementOf, usable};
+ghost use Rattle.projection.specs.Projection.{additionOf, improvementOf, improvementNeeded, usable};
 use basis::Convergence;
+use basis::Refusal;
+use basis::SignedAnswer;
 
 // The constant addition of a year.
 fn addition_in(run: &[u8], year: u32) -> i32
@@ -49,4 +51,21 @@ pub fn is_usable(i: i64) -> bool
     ensures { λ r. ⌜ r ≡ usable i ⌝ }
 {
     -500_000_000 <= i && i <= 500_000_000
+}
+
+// The improvement at an age in a year from F to 2130, with refusal 9.
+pub fn improvement_needed(run: &[u8], age: u32, year: u32) -> SignedAnswer
+    requires { ⌜ Accepted (now run) × (20 ≤ age) × (age ≤ 150) × (basisOf (now run) .foundation ≤ year) × (year ≤ 2130) ⌝ }
+    ensures { λ r. ⌜ signedMeaning r ≡ improvementNeeded age year (improvementOf (basisOf (now (run .entry))) age year) ⌝ }
+{
+    let i = improvement_at(run, basis::fields::age_terms(run, age), age, year);
+    if is_usable(i) {
+        SignedAnswer::Value(i)
+    } else {
+        SignedAnswer::Refused(Refusal {
+            number: 9,
+            first: age as u64,
+            second: year as u64,
+        })
+    }
 }

@@ -5,8 +5,8 @@ ghost use lib.IntN.{pos};
 ghost use Rattle.basis.specs.Basis.{basisOf, Accepted};
 ghost use Rattle.basis.specs.Outcome.{meaning};
 ghost use Rattle.projection.specs.Projection.{rateFrom, rateOf};
-use basis::Answer;
 use crate::factor;
+use basis::Answer;
 
 const UNIT: u64 = 1_000_000_000;
 
