@@ -1,5 +1,6 @@
 // The values that rest on mortality rates: survivorship, expectation of life and annuity-due, each period and cohort.
 pub mod annuity;
+pub mod enquiry;
 pub mod expectation;
 pub mod survivorship;
 

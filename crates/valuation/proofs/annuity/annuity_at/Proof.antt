@@ -1,9 +1,10 @@
-use mathlib.Core.Path.{_≡_, _∙_, ap, sym, refl}
-use Rattle.valuation.proofs.Survivors.{survivors-small}
-use Rattle.valuation.proofs.Payments.{refused-before}
+-- A refusal within the deferment refuses the first payment; otherwise the payments begin with the survivors at its end.
+use mathlib.Core.Path.{_∙_, ap, sym}
+use borrow.Author.Needs.{needs}
 use Rattle.basis.specs.Basis.{basisOf}
 use Rattle.basis.specs.Outcome.{meaning}
-use borrow.Author.Needs.{needs}
+use Rattle.valuation.proofs.Payments.{refused-before}
+use Rattle.valuation.proofs.Survivors.{survivors-small}
 use Rattle.valuation.proofs.annuity.annuity_at.Statement.{statement}
 use Rattle.valuation.proofs.annuity.annuity_at.Tie as tie
 
@@ -16,7 +17,8 @@ enum-known-s c = search needs
 annuity-from-requires : tie.Need-annuity-from-requires
 annuity-from-requires c κs = let s = c .before .before .before .before .before in let a = s .args in
     let h = sym (c .before .before .before .survivors-at .ensures) ∙ ap meaning (c .before .s .given .1) in
-    (s .pre .0, s .pre .1, s .pre .2, s .pre .3, s .pre .4, survivors-small (basisOf (a .run .now)) (a .kind) (a .age) (a .year) (a .deferment) (c .before .s .given .0 .0) h, h)
+    let small = survivors-small (basisOf (a .run .now)) (a .kind) (a .age) (a .year) (a .deferment) (c .before .s .given .0 .0) h in
+    (s .pre .0, s .pre .1, s .pre .2, s .pre .3, s .pre .4, small, h)
 
 enum-known-r : tie.Need-enum-known-r
 enum-known-r c = search needs

@@ -1,13 +1,14 @@
-use mathlib.Core.Path.{_≡_, _∙_, ap, sym, refl}
+-- After j turns of the loop survivors, discount and total are those of `Paying`; the payments to 150 − age are the annuity.
+use mathlib.Core.Path.{_∙_, ap, sym}
+use Prim.Native.Nat.{_+_, _-_}
 use native.Mathlib.Omega.{arith}
-use Prim.Native.Nat.{ℕ, suc, _+_, _*_, _-_, _≤_, _<_}
+use lib.IntN.{pos}
+use borrow.Author.Needs.{needs}
+use Rattle.basis.proofs.Accumulation.{accumulation-low, accumulation-high}
+use Rattle.basis.specs.Basis.{basisOf}
+use Rattle.basis.specs.Outcome.{refused, meaning}
 use Rattle.valuation.proofs.Payments.{Paying, paying-first, paying-next, paid-refused, paid-last}
 use Rattle.valuation.proofs.Survivors.{survivors-next, year-small, year-late}
-use borrow.Author.Needs.{needs}
-use lib.IntN.{pos}
-use Rattle.basis.specs.Basis.{basisOf}
-use Rattle.basis.proofs.Accumulation.{accumulation-low, accumulation-high}
-use Rattle.basis.specs.Outcome.{value, refused, meaning}
 use Rattle.valuation.proofs.annuity.annuity_from.Statement.{statement}
 use Rattle.valuation.proofs.annuity.annuity_from.Tie as tie
 
@@ -27,7 +28,7 @@ discount-after-requires : tie.Need-discount-after-requires Inv-loop μ-loop
 discount-after-requires c κs = search needs
 
 payment-requires : tie.Need-payment-requires Inv-loop μ-loop
-payment-requires c κs = (c .discount-after .ensures .1, c .before .before .before .pre .5)
+payment-requires c κs = (c .discount-after .ensures .1, omega (arith, c .before .before .before .pre .5))
 
 loop-holds : tie.Need-loop-holds Inv-loop μ-loop
 loop-holds c = let d = c .before in let s = d .before .before .before in let a = s .args in
@@ -54,7 +55,9 @@ returns c = let y = c .before .before .before in let l = y .before .before .befo
     let b = basisOf (a .run .now) in
     let r = c .before .r .given .0 .0 in
     let i = l .loop .inv in
-    paid-refused b (a .kind) (a .age) (a .year) (a .deferment) (l .loop .j) (pos (l .loop .total)) r (i .begun) (omega arith) (i .paid) (survivors-next b (a .kind) (a .age) (a .year) (l .loop .j) (pos (l .loop .s)) (refused r) (y .before .year-on .ensures) (i .survivors) (sym (ap meaning (c .before .r .given .1)) ∙ y .survivors-after-year .ensures))
+    let g = sym (ap meaning (c .before .r .given .1)) ∙ y .survivors-after-year .ensures in
+    let h = survivors-next b (a .kind) (a .age) (a .year) (l .loop .j) (pos (l .loop .s)) (refused r) (y .before .year-on .ensures) (i .survivors) g in
+    paid-refused b (a .kind) (a .age) (a .year) (a .deferment) (l .loop .j) (pos (l .loop .total)) r (i .begun) (omega arith) (i .paid) h
 
 discount-next-requires : tie.Need-discount-next-requires Inv-loop μ-loop
 discount-next-requires c κs = let l = c .before .before .before .before .before .before in let h = l .before in let s = h .before .before .before .before in
@@ -67,7 +70,8 @@ add-j c = search needs
 
 payment-requires-2 : tie.Need-payment-requires-2 Inv-loop μ-loop
 payment-requires-2 c κs = let x = c .before .before in let y = x .before .before in let l = y .before .before .before in let s = l .before .before .before .before .before in
-    (c .discount-next .ensures .1, year-small (basisOf (s .args .run .now)) (s .args .age + l .loop .j) (y .before .year-on .result) (l .loop .s) (x .x .given .0 .0) (l .loop .inv .people) (sym (sym (ap meaning (x .x .given .1)) ∙ y .survivors-after-year .ensures)))
+    let g = sym (ap meaning (x .x .given .1)) ∙ y .survivors-after-year .ensures in
+    (c .discount-next .ensures .1, year-small (basisOf (s .args .run .now)) (s .args .age + l .loop .j) (y .before .year-on .result) (l .loop .s) (x .x .given .0 .0) (l .loop .inv .people) (sym g))
 
 add-total : tie.Need-add-total Inv-loop μ-loop
 add-total c = omega (arith, c .payment2 .ensures .1)
@@ -77,7 +81,8 @@ loop-less c = search needs
 
 loop-again : tie.Need-loop-again Inv-loop μ-loop
 loop-again c = let d = c .before in let x = d .before .before in let y = x .before .before in let l = y .before .before .before in let h = l .before in let s = h .before .before .before .before in let a = s .args in
-    paying-next (basisOf (a .run .now)) (a .kind) (a .age) (a .year) (a .deferment) (l .loop .j) (l .loop .s) (l .loop .v) (l .loop .total) (x .x .given .0 .0) (d .discount-next .result) (c .payment2 .result) (l .loop .inv) (omega arith) (y .before .year-on .ensures) (h .before .before .accumulation .ensures) (sym (ap meaning (x .x .given .1)) ∙ y .survivors-after-year .ensures) (d .discount-next .ensures) (c .payment2 .ensures)
+    let g = sym (ap meaning (x .x .given .1)) ∙ y .survivors-after-year .ensures in
+    paying-next (basisOf (a .run .now)) (a .kind) (a .age) (a .year) (a .deferment) (l .loop .j) (l .loop .s) (l .loop .v) (l .loop .total) (x .x .given .0 .0) (d .discount-next .result) (c .payment2 .result) (l .loop .inv) (omega arith) (y .before .year-on .ensures) (h .before .before .accumulation .ensures) g (d .discount-next .ensures) (c .payment2 .ensures)
 
 returns-2 : tie.Need-returns-2 Inv-loop μ-loop
 returns-2 c = let l = c .before in let s = l .before .before .before .before .before in let a = s .args in

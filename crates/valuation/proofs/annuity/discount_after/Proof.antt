@@ -1,13 +1,14 @@
-use mathlib.Core.Path.{_≡_, _∙_, ap, sym, refl}
-use native.Mathlib.Omega.{arith}
-use Prim.Native.Nat.{ℕ, suc, _+_, _*_, _-_, _≤_, _<_}
-use Rattle.valuation.proofs.Payments.{discount-turn}
+-- After j turns of the loop the discount is that of the definition after j years.
+use mathlib.Core.Path.{_≡_, _∙_, sym}
+use Prim.Native.Nat.{_-_, _≤_}
 use native.Mathlib.Numerals.{add-one}
-use borrow.Author.Needs.{needs}
+use native.Mathlib.Omega.{arith}
 use lib.IntN.{pos}
-use Rattle.basis.specs.Basis.{basisOf}
+use borrow.Author.Needs.{needs}
 use Rattle.basis.proofs.Accumulation.{accumulation-low, accumulation-high}
+use Rattle.basis.specs.Basis.{basisOf}
 use Rattle.valuation.specs.Valuation.{discountAfter}
+use Rattle.valuation.proofs.Payments.{discount-turn}
 use Rattle.valuation.proofs.annuity.discount_after.Statement.{statement}
 use Rattle.valuation.proofs.annuity.discount_after.Tie as tie
 

@@ -1,10 +1,11 @@
-use mathlib.Core.Path.{_≡_, _∙_, ap, sym, refl}
+-- The divisor is at least U, so the quotient is at most the discount before; the unsigned rounding is the definition's.
+use mathlib.Core.Path.{ap}
+use Prim.Native.Nat.{_*_}
 use native.Mathlib.Omega.{arith}
-use Prim.Native.Nat.{ℕ, suc, _+_, _*_, _-_, _≤_, _<_}
-use Rattle.valuation.proofs.Survivors.{rounded-small}
 use lib.IntN.{pos}
-use Rattle.arithmetic.specs.Fraction.{U}
 use borrow.Author.Needs.{needs}
+use Rattle.arithmetic.specs.Fraction.{U}
+use Rattle.valuation.proofs.Survivors.{rounded-small}
 use Rattle.valuation.proofs.annuity.discount_next.Statement.{statement}
 use Rattle.valuation.proofs.annuity.discount_next.Tie as tie
 

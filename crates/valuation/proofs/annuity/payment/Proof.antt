@@ -1,10 +1,11 @@
-use mathlib.Core.Path.{_≡_, _∙_, ap, sym, refl}
+-- Both factors are at most U, so the product fits; the unsigned rounding is the definition's.
+use mathlib.Core.Path.{ap}
+use Prim.Native.Nat.{_*_, _≤_}
+use native.Mathlib.Nat.{mul-le-mul}
 use native.Mathlib.Omega.{arith}
-use Prim.Native.Nat.{ℕ, suc, _+_, _*_, _-_, _≤_, _<_}
-use Rattle.valuation.proofs.Survivors.{rounded-small}
 use lib.IntN.{pos}
 use Rattle.arithmetic.specs.Fraction.{U}
-use native.Mathlib.Nat.{mul-le-mul}
+use Rattle.valuation.proofs.Survivors.{rounded-small}
 use Rattle.valuation.proofs.annuity.payment.Statement.{statement}
 use Rattle.valuation.proofs.annuity.payment.Tie as tie
 

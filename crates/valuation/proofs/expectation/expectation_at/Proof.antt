@@ -1,12 +1,12 @@
-use mathlib.Core.Path.{_≡_, _∙_, ap, sym, refl}
+-- After j turns of the loop the survivors and the total are those of `Living`; the total of N years and the half are the expectation.
+use mathlib.Core.Path.{_∙_, ap, sym, refl}
+use Prim.Native.Nat.{_+_, _-_, _≤_}
 use native.Mathlib.Omega.{arith}
-use Prim.Native.Nat.{ℕ, suc, _+_, _*_, _-_, _≤_, _<_}
+use borrow.Author.Needs.{needs}
+use Rattle.basis.specs.Basis.{basisOf}
+use Rattle.basis.specs.Outcome.{meaning}
 use Rattle.valuation.proofs.Lives.{Living, living-first, living-next, lived-refused, lived-last}
 use Rattle.valuation.proofs.Survivors.{year-small, year-late}
-use borrow.Author.Needs.{needs}
-use lib.IntN.{pos}
-use Rattle.basis.specs.Basis.{basisOf}
-use Rattle.basis.specs.Outcome.{value, refused, meaning}
 use Rattle.valuation.proofs.expectation.expectation_at.Statement.{statement}
 use Rattle.valuation.proofs.expectation.expectation_at.Tie as tie
 
@@ -26,7 +26,8 @@ sub-last : tie.Need-sub-last Inv-loop μ-loop
 sub-last c = search needs
 
 loop-holds : tie.Need-loop-holds Inv-loop μ-loop
-loop-holds c = let s = c .before in let a = s .args in (omega arith, living-first (basisOf (a .run .now)) (a .kind) (a .age + a .deferment) (a .year + a .deferment))
+loop-holds c = let a = c .before .args in
+    (omega arith, living-first (basisOf (a .run .now)) (a .kind) (a .age + a .deferment) (a .year + a .deferment))
 
 add-survivors-after-year : tie.Need-add-survivors-after-year Inv-loop μ-loop
 add-survivors-after-year c = search needs
@@ -46,21 +47,25 @@ enum-known-r c = search needs
 
 returns : tie.Need-returns Inv-loop μ-loop
 returns c = let y = c .before .before .before in let l = y .before .before .before in let s = l .before .before in let a = s .args in
-    lived-refused (basisOf (a .run .now)) (a .kind) (a .age) (a .year) (a .deferment) (l .loop .j) (l .loop .s) (l .loop .total) (c .before .r .given .0 .0) refl refl (omega arith) (l .loop .inv .1) (y .before .year-on .ensures) (sym (ap meaning (c .before .r .given .1)) ∙ y .survivors-after-year .ensures)
+    let g = sym (ap meaning (c .before .r .given .1)) ∙ y .survivors-after-year .ensures in
+    lived-refused (basisOf (a .run .now)) (a .kind) (a .age) (a .year) (a .deferment) (l .loop .j) (l .loop .s) (l .loop .total) (c .before .r .given .0 .0) refl refl (omega arith) (l .loop .inv .1) (y .before .year-on .ensures) g
 
 add-j : tie.Need-add-j Inv-loop μ-loop
 add-j c = search needs
 
 add-total : tie.Need-add-total Inv-loop μ-loop
 add-total c = let y = c .before .before .before in let l = y .before .before .before in let s = l .before .before in let a = s .args in
-    omega (arith, l .loop .inv .1 .sum, year-small (basisOf (a .run .now)) (a .age + a .deferment + l .loop .j) (y .before .year-on .result) (l .loop .s) (c .before .x .given .0 .0) (l .loop .inv .1 .people) (sym (sym (ap meaning (c .before .x .given .1)) ∙ y .survivors-after-year .ensures)))
+    let g = sym (ap meaning (c .before .x .given .1)) ∙ y .survivors-after-year .ensures in
+    let small = year-small (basisOf (a .run .now)) (a .age + a .deferment + l .loop .j) (y .before .year-on .result) (l .loop .s) (c .before .x .given .0 .0) (l .loop .inv .1 .people) (sym g) in
+    omega (arith, l .loop .inv .1 .sum, small)
 
 loop-less : tie.Need-loop-less Inv-loop μ-loop
 loop-less c = search needs
 
 loop-again : tie.Need-loop-again Inv-loop μ-loop
 loop-again c = let y = c .before .before .before in let l = y .before .before .before in let s = l .before .before in let a = s .args in
-    (omega arith, living-next (basisOf (a .run .now)) (a .kind) (a .age + a .deferment) (a .year + a .deferment) (l .loop .j) (l .loop .s) (l .loop .total) (c .before .x .given .0 .0) (l .loop .inv .1) (y .before .year-on .ensures) (sym (ap meaning (c .before .x .given .1)) ∙ y .survivors-after-year .ensures))
+    let g = sym (ap meaning (c .before .x .given .1)) ∙ y .survivors-after-year .ensures in
+    (omega arith, living-next (basisOf (a .run .now)) (a .kind) (a .age + a .deferment) (a .year + a .deferment) (l .loop .j) (l .loop .s) (l .loop .total) (c .before .x .given .0 .0) (l .loop .inv .1) (y .before .year-on .ensures) g)
 
 add-t18 : tie.Need-add-t18 Inv-loop μ-loop
 add-t18 c = omega (arith, c .before .loop .inv .1 .sum)

@@ -1,9 +1,10 @@
-use mathlib.Core.Path.{_≡_, _∙_, ap, sym, refl}
-use Rattle.valuation.proofs.Survivors.{rate-at-most, year-value, year-refused}
+-- A value or a refusal of the rate is one of the year's survivors: the two cases of `andThen`.
+use mathlib.Core.Path.{_∙_, ap, sym}
 use lib.IntN.{pos}
+use borrow.Author.Needs.{needs}
 use Rattle.basis.specs.Basis.{basisOf}
 use Rattle.basis.specs.Outcome.{meaning, value}
-use borrow.Author.Needs.{needs}
+use Rattle.valuation.proofs.Survivors.{rate-at-most, year-value, year-refused}
 use Rattle.valuation.proofs.survivorship.survivors_after_year.Statement.{statement}
 use Rattle.valuation.proofs.survivorship.survivors_after_year.Tie as tie
 

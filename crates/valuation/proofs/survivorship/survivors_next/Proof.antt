@@ -1,10 +1,11 @@
-use mathlib.Core.Path.{_≡_, _∙_, ap, sym, refl}
-use native.Mathlib.Omega.{arith}
-use Rattle.valuation.proofs.Survivors.{next-is, next-small}
+-- The rate is at most U, so the difference and the product fit, and the unsigned rounding is the definition's.
+use mathlib.Core.Path.{_∙_, ap}
 use Prim.Native.Nat.{_*_, _-_, _≤_}
 use native.Mathlib.Nat.{mul-le-mul}
+use native.Mathlib.Omega.{arith}
 use lib.IntN.{pos}
 use borrow.Author.Needs.{needs}
+use Rattle.valuation.proofs.Survivors.{next-is, next-small}
 use Rattle.valuation.proofs.survivorship.survivors_next.Statement.{statement}
 use Rattle.valuation.proofs.survivorship.survivors_next.Tie as tie
 

@@ -1,4 +1,5 @@
-use mathlib.Core.Path.{_≡_, _∙_, ap, sym, refl}
+-- The two kinds are the two cases of the definition.
+use mathlib.Core.Path.{refl}
 use borrow.Author.Needs.{needs}
 use Rattle.valuation.proofs.survivorship.year_on.Statement.{statement}
 use Rattle.valuation.proofs.survivorship.year_on.Tie as tie
