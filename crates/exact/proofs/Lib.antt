@@ -2,3 +2,5 @@ pub mod Improvement
 pub mod Factor
 pub mod Survivors
 pub mod Values
+pub mod Largest
+pub mod Demands

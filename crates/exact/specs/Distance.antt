@@ -10,7 +10,9 @@ use Rattle.arithmetic.specs.Fraction.{Fraction, Within}
 use Rattle.basis.specs.Basis.{Basis, basisOf}
 use Rattle.basis.specs.Outcome.{value}
 use Rattle.projection.specs.Projection.{heldYear}
+use Rattle.projection.specs.Enquiry.{factorEnquiry, rateEnquiry}
 use Rattle.valuation.specs.Valuation.{yearOn}
+use Rattle.valuation.specs.Enquiry.{survivorshipEnquiry, expectationEnquiry, annuityEnquiry}
 use Rattle.valuation.specs.declared.Kind.{Kind}
 use Rattle.exact.specs.Model.{exactImprovement, yearsTo, exactFactor, exactRate, exactSurvivors, exactExpectation, exactAnnuity}
 
@@ -39,3 +41,28 @@ largestYears b kind year n = largest (λ j. yearsTo b (yearOn kind year j)) n
 pub record WithinQuarters (v : ℤ) (q : Fraction) (m : ℕ) : Type 0 where
   pub proper : 0 < q .den
   pub near : 4 * natAbs (v *ℤ pos (q .den) -ℤ q .num) ≤ m * q .den
+
+-- ---- Demand 3: where the engine answers, with no exact improvement taken below zero
+pub record Demand3 (run : List ℕ) : Type 0 where
+  -- factor 2d ≤ 3k
+  pub factor : (age year : ℕ) (f : ℤ) → factorEnquiry run age year ≡ value f → Improving (basisOf run) age year →
+      Within f (exactFactor (basisOf run) age year) (3 * yearsTo (basisOf run) year)
+  -- rate 2d ≤ 3k + 1
+  pub rate : (age year : ℕ) (q : ℤ) → rateEnquiry run age year ≡ value q → Improving (basisOf run) age year →
+      Within q (exactRate (basisOf run) age year) (3 * yearsTo (basisOf run) year + 1)
+  -- survivorship after n years 2d ≤ n(3K + 2)
+  pub survivorship : (kind : Kind) (age n year : ℕ) (s : ℤ) → survivorshipEnquiry run kind age n year ≡ value s → ImprovingOver (basisOf run) kind age year n →
+      let K = largestYears (basisOf run) kind year n in
+      Within s (exactSurvivors (basisOf run) kind age year n) (n * (3 * K + 2))
+  -- expectation 4d ≤ N(N + 1)(3K + 2), N = 150 − age − deferment
+  pub expectation : (kind : Kind) (age deferment year : ℕ) (e : ℤ) → expectationEnquiry run kind age deferment year ≡ value e →
+      let N = 150 - age - deferment in
+      let K = largestYears (basisOf run) kind (year + deferment) N in
+      ImprovingOver (basisOf run) kind (age + deferment) (year + deferment) N →
+      WithinQuarters e (exactExpectation (basisOf run) kind age year deferment) (N * (N + 1) * (3 * K + 2))
+  -- annuity 4d ≤ (N + 1)(3N(K + 1) + 2), N = 150 − age
+  pub annuity : (kind : Kind) (age deferment year : ℕ) (a : ℤ) → annuityEnquiry run kind age deferment year ≡ value a →
+      let N = 150 - age in
+      let K = largestYears (basisOf run) kind year N in
+      ImprovingOver (basisOf run) kind age year N →
+      WithinQuarters a (exactAnnuity (basisOf run) kind age year deferment) ((N + 1) * (3 * N * (K + 1) + 2))
