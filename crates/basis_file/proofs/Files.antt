@@ -12,6 +12,7 @@ use Rattle.basis.specs.declared.Check.{Check}
 use Rattle.basis.specs.declared.Check.the-variants.{Passed, Refused}
 use Rattle.basis.specs.Outcome.{refusal, firstOf}
 use Rattle.basis.specs.Run.{runCheck}
+use Rattle.basis.proofs.Acceptance.{accepted}
 use Rattle.basis_file.specs.Block.{blockCheck, blockOf}
 use Rattle.basis_file.specs.File.{blocksCheck, partsOf, runIn, fileCheck, blocksOf, fileOf}
 use Rattle.basis_file.proofs.Blocks.{length-block}
@@ -84,12 +85,7 @@ accepted-length file h = by (eqb (length file) 4608) refl
     by false e = let g : Refused (refusal 1 0 0) ≡ Passed = simp e at h in let z : _≡_ {A = ℕ} 0 1 = cc in omega arith
 
 pub accepted-run : (run : List ℕ) → runCheck run ≡ Passed → length run ≡ 4554
-unfolding runCheck
-accepted-run run h = by (eqb (length run) 4554) refl
-  where
-    by : (t : Bool) → eqb (length run) 4554 ≡ t → length run ≡ 4554
-    by true e = eqb-true (length run) 4554 e
-    by false e = let g : Refused (refusal 1 0 0) ≡ Passed = simp e at h in let z : _≡_ {A = ℕ} 0 1 = cc in omega arith
+accepted-run run h = accepted run h .size
 
 -- an array of zeros as long as a run is filled whole
 pub all-filled : (file : List ℕ) → runIn file ++ drop 4554 (replicate 4554 0) ≡ runIn file

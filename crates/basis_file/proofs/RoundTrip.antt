@@ -147,9 +147,15 @@ blocks-back (suc n) place file l b h =
     simp (take-at part rest 506 p, drop-at part rest 506 p, later)
     (ap (λ (x : List ℕ). blockOf place x ++ drop 512 file) (sym (part-of file)) ∙ ap (λ (x : List ℕ). x ++ drop 512 file) back ∙ take-append-drop 512 file)
 
+-- what an accepted file says of its blocks and of its run
+opened : (file : List ℕ) → fileCheck file ≡ Passed → (blocksCheck 0 9 file ≡ Passed) × (runCheck (runIn file) ≡ Passed)
+opened file h = both _ _ (sym (whole-file file _ (accepted-length file h) refl) ∙ h)
+
+-- the run in an accepted file is accepted
+pub run-accepted : (file : List ℕ) → fileCheck file ≡ Passed → runCheck (runIn file) ≡ Passed
+run-accepted file h = opened file h .1
+
 -- a basis read and written back is the same file (its elements are bytes, as those of every lent file are)
 pub file-back : (file : List ℕ) → ((i : ℕ) → getD file i 0 < 256) → fileCheck file ≡ Passed → fileOf (runIn file) ≡ file
 unfolding fileOf runIn
-file-back file b h =
-    let l = accepted-length file h in
-    blocks-back 9 0 file l b (both (blocksCheck 0 9 file) (runCheck (runIn file)) (sym (whole-file file _ l refl) ∙ h) .0)
+file-back file b h = blocks-back 9 0 file (accepted-length file h) b (opened file h .0)

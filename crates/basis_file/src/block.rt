@@ -16,7 +16,7 @@ fn wrapping_product(a: u32, b: u32) -> u32
 }
 
 // The check that a block ought to have: its first 127 words, each times its place 1 to 127.
-pub fn check_of(block: &[u8]) -> u32
+pub(crate) fn check_of(block: &[u8]) -> u32
     requires { ⌜ 508 ≤ length (now block) ⌝ }
     ensures { λ r. ⌜ r ≡ blockCheckOf (now (block .entry)) ⌝ }
 {
@@ -32,7 +32,7 @@ pub fn check_of(block: &[u8]) -> u32
 }
 
 // Whether a block has its check, and then whether its number is its place.
-pub fn check_block(block: &[u8], place: usize) -> Check
+pub(crate) fn check_block(block: &[u8], place: usize) -> Check
     requires { ⌜ (length (now block) ≡ 512) × (place < 9) ⌝ }
     ensures { λ r. ⌜ r ≡ blockCheck place (now (block .entry)) ⌝ }
 {
@@ -54,7 +54,7 @@ pub fn check_block(block: &[u8], place: usize) -> Check
 }
 
 // The block of 506 data bytes at a place.
-pub fn write_block(part: &[u8], place: usize, block: &mut [u8])
+pub(crate) fn write_block(part: &[u8], place: usize, block: &mut [u8])
     requires { ⌜ (length (now part) ≡ 506) × (place < 9) × (length (now block) ≡ 512) ⌝ }
     ensures { λ _. ⌜ now (block .exit) ≡ blockOf place (now (part .entry)) ⌝ }
 {

@@ -1,5 +1,5 @@
 // The basis file: nine blocks of 512 bytes that hold a data run, read and written.
-pub mod block;
+mod block;
 mod copy;
 pub mod read;
 pub mod write;
