@@ -1,14 +1,14 @@
 -- Figures of the paper, and the end of the ages, by computation of the definitions.
 use mathlib.Core.Path.{_≡_, refl}
 use mathlib.Core.List.{[], _∷_}
-use Prim.Native.Nat.{ℕ, _+_, _/_}
+use Prim.Native.Nat.{ℕ, _/_}
 use lib.IntN.{ℤ, pos}
 use Rattle.arithmetic.specs.Fraction.{U}
 use Rattle.basis.specs.Basis.{Basis, accumulationOf}
 use Rattle.basis.specs.Outcome.{value, steps, sumOf}
 use Rattle.basis.specs.declared.Convergence.{Convergence}
 use Rattle.projection.specs.Projection.{heldYear, factorOf, rateOf}
-use Rattle.valuation.specs.Valuation.{yearOn, survivorsAfterYear, survivorsOf, curtateOf, expectationOf, discountAfter, paymentAfter, annuityOf}
+use Rattle.valuation.specs.Valuation.{survivorsAfterYear, survivorsOf, curtateOf, expectationOf, discountAfter, paymentAfter, annuityOf}
 use Rattle.valuation.specs.declared.Kind.{Kind}
 use Rattle.valuation.specs.declared.Kind.the-variants.{Period, Cohort}
 
@@ -31,11 +31,6 @@ pub annuity-figure : (annuityOf (level 100_000_000 (pos 200_000_000)) Period 149
     ≡ (value (pos 1_750_000_000) ∷ value (pos 1_750_000_000) ∷ [])
 unfolding level heldYear factorOf rateOf accumulationOf survivorsAfterYear survivorsOf discountAfter paymentAfter annuityOf steps sumOf
 annuity-figure = refl
-
--- the same of every basis with that rate and that discount
-pub annuity-by-rate : (b : Basis) (kind : Kind) (year : ℕ) → accumulationOf b ≡ U + 200_000_000 → rateOf b 149 (yearOn kind year 0) ≡ value (pos 100_000_000) → annuityOf b kind 149 year 0 ≡ value (pos 1_750_000_000)
-unfolding survivorsAfterYear survivorsOf discountAfter paymentAfter annuityOf steps sumOf
-annuity-by-rate b kind year d q = rw (q, d) refl
 
 -- at age 150 there is no year to come, on any basis: half a unit, and one payment at once
 pub expectation-at-end : (b : Basis) (kind : Kind) (year : ℕ) → expectationOf b kind 150 year 0 ≡ value (pos (U / 2))

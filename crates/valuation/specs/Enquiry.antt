@@ -15,13 +15,9 @@ use Rattle.valuation.specs.Valuation.{survivorsOf, expectationOf, annuit
 unfoldable pub defermentCheck : ℕ → ℕ → Check
 defermentCheck age deferment = unless (leb (age + deferment) 150) (refusal 8 age deferment)
 
--- the data run and the age, then the deferment
-abbrev pub defermentEnquiryCheck : List ℕ → ℕ → ℕ → Check
-defermentEnquiryCheck run age deferment = firstOf (enquiryCheck run age) (defermentCheck age deferment)
-
--- then the year, from B on; year + deferment may be after 2130
+-- the data run and the age, then the deferment, then the year, from B on; year + deferment may be after 2130
 abbrev pub valuationCheck : List ℕ → ℕ → ℕ → ℕ → Check
-valuationCheck run age deferment year = firstOf (defermentEnquiryCheck run age deferment) (yearCheck (basisOf run .base) year)
+valuationCheck run age deferment year = firstOf (enquiryCheck run age) (firstOf (defermentCheck age deferment) (yearCheck (basisOf run .base) year))
 
 -- an enquiry for survivorship names its number of years as the deferment
 unfoldable pub survivorshipEnquiry : List ℕ → Kind → ℕ → ℕ → ℕ → Outcome ℤ

@@ -1,8 +1,10 @@
 // Enquiries for survivorship, an expectation and an annuity: any bytes, any age, deferment and year are answered or refused.
 ghost use mathlib.Core.Path.{_≡_};
 ghost use Prim.Native.Nat.{_≤_};
-ghost use Rattle.basis.specs.Outcome.{meaning};
-ghost use Rattle.valuation.specs.Enquiry.{defermentCheck, defermentEnquiryCheck, valuationCheck, survivorshipEnquiry, expectationEnquiry, annuityEnquiry};
+ghost use Rattle.basis.specs.Basis.{basisOf, Accepted};
+ghost use Rattle.basis.specs.Outcome.{firstOf, meaning};
+ghost use Rattle.projection.specs.Enquiry.{yearCheck};
+ghost use Rattle.valuation.specs.Enquiry.{defermentCheck, valuationCheck, survivorshipEnquiry, expectationEnquiry, annuityEnquiry};
 use crate::Kind;
 use crate::annuity;
 use crate::expectation;
@@ -27,22 +29,31 @@ fn check_deferment(age: u32, deferment: u32) -> Check
     }
 }
 
-// The data run afresh and the age, then the deferment.
-fn check_deferment_enquiry(run: &[u8], age: u32, deferment: u32) -> Check
-    ensures { λ r. ⌜ r ≡ defermentEnquiryCheck (now (run .entry)) age deferment ⌝ }
+fn first_of(first: Check, next: Check) -> Check
+    ensures { λ r. ⌜ r ≡ firstOf first next ⌝ }
 {
-    match projection::enquiry::check_enquiry(run, age) {
-        Check::Passed => check_deferment(age, deferment),
+    match first {
+        Check::Passed => next,
         Check::Refused(r) => Check::Refused(r),
     }
 }
 
-// The same and the year, from B on.
+// The deferment, then the year, from B on.
+fn check_deferment_and_year(run: &[u8], age: u32, deferment: u32, year: u32) -> Check
+    requires { ⌜ Accepted (now run) × (age ≤ 150) ⌝ }
+    ensures { λ r. ⌜ r ≡ firstOf (defermentCheck age deferment) (yearCheck (basisOf (now (run .entry)) .base) year) ⌝ }
+{
+    let of_deferment = check_deferment(age, deferment);
+    let of_year = projection::enquiry::check_year(basis::fields::base_year(run), year);
+    first_of(of_deferment, of_year)
+}
+
+// The data run afresh and the age, then these.
 pub fn check_valuation(run: &[u8], age: u32, deferment: u32, year: u32) -> Check
     ensures { λ r. ⌜ r ≡ valuationCheck (now (run .entry)) age deferment year ⌝ }
 {
-    match check_deferment_enquiry(run, age, deferment) {
-        Check::Passed => projection::enquiry::check_year(basis::fields::base_year(run), year),
+    match projection::enquiry::check_enquiry(run, age) {
+        Check::Passed => check_deferment_and_year(run, age, deferment, year),
         Check::Refused(r) => Check::Refused(r),
     }
 }
