@@ -1,7 +1,15 @@
+// Rounding of a fraction to a whole number, ties up (01, "Products and units").
 ghost use mathlib.Core.Path.{_≡_};
 ghost use Prim.Native.Nat.{_<_, _≤_, _^_, _*_, _+_, _/_};
 ghost use lib.IntN.{natAbs};
 ghost use Rattle.arithmetic.specs.Round.{floorDiv, roundDiv};
+
+// A signed number of 32 bits, in 64.
+pub fn wide(n: i32) -> i64
+    ensures { λ r. ⌜ r ≡ n ⌝ }
+{
+    n as i64
+}
 
 // The greatest whole number not above n / d.
 pub fn floor_div(n: i64, d: u64) -> i64
