@@ -5,6 +5,13 @@ ghost use Prim.Native.Nat.{_<_, _*_, _+_, _/_, _^_};
 ghost use lib.IntN.{natAbs};
 ghost use Rattle.arithmetic.specs.Round.{floorDiv, roundDiv};
 
+// A signed number of 32 bits, in 64.
+pub fn wide(n: i32) -> i64
+    ensures { λ r. ⌜ r ≡ n ⌝ }
+{
+    n as i64
+}
+
 // The greatest whole number not above n / d. Below zero the division goes by −1 − n, since the machine's rounds towards 0.
 pub fn floor_div(n: i64, d: u64) -> i64
     requires { ⌜ 0 < d ⌝ }

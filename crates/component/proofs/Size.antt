@@ -3,12 +3,12 @@ use mathlib.Core.Path.{_≡_, _∙_, ap}
 use Prim.Native.Nat.{ℕ, _+_, _*_, _-_, _≤_, _<_}
 use native.Mathlib.Omega.{arith}
 use native.Mathlib.Decide.{decLt}
-use native.Mathlib.Nat.{mul-le-mul, mul-pos, one-mul}
+use native.Mathlib.Nat.{mul-le-mul, one-mul}
 use lib.IntN.{ℤ, pos, natAbs, negℤ, _+ℤ_, _-ℤ_, _*ℤ_, *ℤ-zero, +ℤ-idr}
 use borrow.Author.Tests.{lt-ltb, le-ltb}
 use Rattle.arithmetic.specs.Round.{roundDiv}
 use Rattle.arithmetic.specs.Fraction.{Fraction, whole, round, _*ᶠ_}
-use Rattle.arithmetic.proofs.Difference.{_⊖_, ring, ⊖-eq, ⊖-abs, natAbs-mul, natAbs-add, natAbs-neg}
+use Rattle.arithmetic.proofs.Difference.{ring, ⊖-eq, ⊖-abs, natAbs-mul, natAbs-add, natAbs-neg}
 use Rattle.arithmetic.proofs.Rounding.{round-abs}
 use Rattle.component.specs.Component.{slopeOf, weightOf, componentOf, terms}
 use Rattle.basis.specs.Basis.{ConvergenceLimits}
@@ -40,10 +40,12 @@ pub inner-abs : (k : ℕ) (s : ℤ) → k ≤ 50 → natAbs s ≤ 55_000 → nat
 inner-abs k s h l = omega (arith, natAbs-mul (pos (k * k)) s, mul-le-mul {n₂ = 2500} {m₂ = 55_000} (square k h) l)
 
 pub weighted-abs : (d : ℤ) (k : ℕ) (s : ℤ) → natAbs d ≤ 400_000_000 → k ≤ 50 → natAbs s ≤ 55_000 → natAbs (d *ℤ (pos (k * k) *ℤ s)) ≤ most
-weighted-abs d k s f g h = omega (arith, natAbs-mul d (pos (k * k) *ℤ s), mul-le-mul {n₂ = 400_000_000} {m₂ = 137_500_000} f (inner-abs k s g h))
+weighted-abs d k s f g h =
+    omega (arith, natAbs-mul d (pos (k * k) *ℤ s), mul-le-mul {n₂ = 400_000_000} {m₂ = 137_500_000} f (inner-abs k s g h))
 
 -- ---- a component before and after T
-pub component-before : (I L : ℤ) (T P n : ℕ) → n < T → componentOf (terms I L T P) n ≡ L +ℤ roundDiv ((I -ℤ L) *ℤ (pos ((T - n) * (T - n)) *ℤ slopeOf T P n)) (100 * (T * T * T))
+pub component-before : (I L : ℤ) (T P n : ℕ) → n < T →
+    componentOf (terms I L T P) n ≡ L +ℤ roundDiv ((I -ℤ L) *ℤ (pos ((T - n) * (T - n)) *ℤ slopeOf T P n)) (100 * (T * T * T))
 unfolding componentOf
 component-before I L T P n h = simp (lt-ltb n T h, one-mul)
 
@@ -63,9 +65,15 @@ component-abs c n h = by (decLt n (c .period))
   where
     by : Dec (n < c .period) → natAbs (componentOf c n) ≤ 2 * most + 12_700_000_000
     by (yes l) =
-        let T = c .period in let s = slopeOf T (c .remaining) n in
-        let x = (c .initial -ℤ c .long) *ℤ (pos ((T - n) * (T - n)) *ℤ s) in
-        let w = weighted-abs (c .initial -ℤ c .long) (T - n) s (excess-abs (c .initial) (c .long) (h .initial) (h .long)) (omega (arith, h .period-high)) (slope-abs T (c .remaining) n (h .period-high) (h .remaining) (omega arith)) in
+        let T = c .period in
+        let excess = c .initial -ℤ c .long in
+        let slope = slopeOf T (c .remaining) n in
+        let dividend = excess *ℤ (pos ((T - n) * (T - n)) *ℤ slope) in
+        let divisor = 100 * (T * T * T) in
+        let excess-small = excess-abs (c .initial) (c .long) (h .initial) (h .long) in
+        let slope-small = slope-abs T (c .remaining) n (h .period-high) (h .remaining) (omega arith) in
+        let dividend-small = weighted-abs excess (T - n) slope excess-small (omega (arith, h .period-high)) slope-small in
+        let sum = natAbs-add (c .long) (roundDiv dividend divisor) in
         rw (component-before (c .initial) (c .long) T (c .remaining) n l)
-        (omega (arith, h .long, natAbs-add (c .long) (roundDiv x (100 * (T * T * T))), round-abs x (100 * (T * T * T)), cube T (h .period-high)))
+        (omega (arith, h .long, dividend-small, sum, round-abs dividend divisor, cube T (h .period-high)))
     by (no l) = rw (component-after (c .initial) (c .long) (c .period) (c .remaining) n (omega arith)) (omega (arith, h .long))

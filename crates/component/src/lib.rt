@@ -6,17 +6,11 @@ ghost use Rattle.basis.specs.Basis.{ConvergenceLimits};
 ghost use Rattle.component.specs.Component.{slopeOf, componentOf, terms};
 use basis::Convergence;
 
-fn wide(rate: i32) -> i64
-    ensures { λ r. ⌜ r ≡ rate ⌝ }
-{
-    rate as i64
-}
-
 // I − L
 fn excess(initial: i32, long: i32) -> i64
     ensures { λ r. ⌜ r ≡ initial -ℤ long ⌝ }
 {
-    wide(initial) - wide(long)
+    arithmetic::wide(initial) - arithmetic::wide(long)
 }
 
 // 100T + (8P − 200)n. The two signs are gathered apart, so that only the difference is signed.
@@ -50,9 +44,9 @@ fn converging(initial: i32, long: i32, period: u8, remaining: u8, years: u32) ->
             span - past,
             slope(span, remaining as u64, past),
         );
-        wide(long) + arithmetic::round_div(dividend, 100 * (span * span * span))
+        arithmetic::wide(long) + arithmetic::round_div(dividend, 100 * (span * span * span))
     } else {
-        wide(long)
+        arithmetic::wide(long)
     }
 }
 

@@ -1,6 +1,6 @@
 -- The definitions of the projection case by case: before and after F, within and beyond ±500,000,000, up to and above 4 × U,
 -- before and after 2130. Assumes nothing.
-use mathlib.Core.Path.{_≡_, _∙_, ap, sym, refl}
+use mathlib.Core.Path.{_≡_, _∙_, sym, refl}
 use mathlib.Core.Bool.{Bool, true, false, cond}
 use Prim.Native.Nat.{ℕ, suc, _-_, _≤_, _<_}
 use native.Mathlib.Omega.{arith}
@@ -9,7 +9,7 @@ use lib.IntN.{ℤ, pos, negsuc, natAbs, _+ℤ_}
 use lib.Signed.{leZ}
 use borrow.Author.Tests.{lt-ltb, le-ltb, leb-true, leb-false, le-leb, lt-leb}
 use Rattle.basis.specs.Basis.{Basis, ConvergenceLimits}
-use Rattle.basis.specs.Outcome.{Outcome, value, refused, andThen, refusal}
+use Rattle.basis.specs.Outcome.{value, refused, andThen, refusal}
 use Rattle.basis.specs.declared.Convergence.{Convergence}
 use Rattle.component.specs.Component.{componentOf}
 use Rattle.projection.specs.Projection.{additionOf, improvementOf, usable, improvementNeeded, factorNeeded, factorNext, factorFrom, heldYear}
@@ -23,13 +23,14 @@ pub addition-at : (b : Basis) (year : ℕ) → year ≤ b .foundation → additi
 unfolding additionOf
 addition-at b year h = rw (le-ltb (b .foundation) year h)
 
-pub limits-of : {x y : Convergence} → x ≡ y → ConvergenceLimits y → ConvergenceLimits x
+pub limits-of : {found terms : Convergence} → found ≡ terms → ConvergenceLimits terms → ConvergenceLimits found
 limits-of e h = rw e h
 
-pub improvement-is : (b : Basis) (age year : ℕ) {x y : Convergence} {f : ℕ} {a : ℤ} → x ≡ b .byAge age → y ≡ b .byBirthYear (year - age) → f ≡ b .foundation → a ≡ additionOf b year →
-    componentOf x (year - f) +ℤ componentOf y (year - f) +ℤ a ≡ improvementOf b age year
+pub improvement-is : (b : Basis) (age year : ℕ) {attained birth : Convergence} {foundation : ℕ} {addition : ℤ} →
+    attained ≡ b .byAge age → birth ≡ b .byBirthYear (year - age) → foundation ≡ b .foundation → addition ≡ additionOf b year →
+    componentOf attained (year - foundation) +ℤ componentOf birth (year - foundation) +ℤ addition ≡ improvementOf b age year
 unfolding improvementOf
-improvement-is b age year ex ey ef ea = rw (ex, ey, ef, ea) refl
+improvement-is b age year e g h k = rw (e, g, h, k) refl
 
 -- ---- 9: the code's two tests are the one of the definition
 pub usable-high : (i : ℤ) → leZ (negsuc 499_999_999) i ≡ true → leZ i (pos 500_000_000) ≡ usable i
@@ -76,7 +77,8 @@ module _ (age year : ℕ) (i f : ℤ) where
   year-value g h = by (usable i) refl (leZ (factorNext f i) (pos 4_000_000_000)) refl h
     where
       by : (s : Bool) → usable i ≡ s → (t : Bool) → leZ (factorNext f i) (pos 4_000_000_000) ≡ t →
-          andThen (cond s (value i) (refused (refusal 9 age year))) (λ j. cond (leZ (factorNext f j) (pos 4_000_000_000)) (value (factorNext f j)) (refused (refusal 10 age year))) ≡ value g →
+          andThen (cond s (value i) (refused (refusal 9 age year)))
+          (λ j. cond (leZ (factorNext f j) (pos 4_000_000_000)) (value (factorNext f j)) (refused (refusal 10 age year))) ≡ value g →
           (usable i ≡ true) × (g ≡ factorNext f i) × (leZ g (pos 4_000_000_000) ≡ true)
       by true p true q k = let e : g ≡ factorNext f i = cc in (p, e, rw e q)
       by true p false q k = let z : _≡_ {A = ℕ} 0 1 = cc in absurd (omega arith)

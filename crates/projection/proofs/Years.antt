@@ -20,7 +20,8 @@ use Rattle.projection.proofs.Cases.{year-value, usable-abs}
 
 -- the factor after an improvement of at most U is a natural number
 next-natural : (f : ℕ) (i : ℤ) → natAbs i ≤ 500_000_000 → (n : ℕ) × (factorNext (pos f) i ≡ pos n)
-next-natural f i h = ((2 * (f * natAbs (pos U -ℤ i)) + U) / (2 * U), ap (λ (z : ℤ). roundDiv (pos f *ℤ z) U) (sym (rest-natural U i (omega arith))))
+next-natural f i h =
+    ((2 * (f * natAbs (pos U -ℤ i)) + U) / (2 * U), ap (λ (z : ℤ). roundDiv (pos f *ℤ z) U) (sym (rest-natural U i (omega arith))))
 
 -- the lesser of U and a natural number
 least : (q : ℕ) → q < U → pos q ≡ lesserℤ (pos U) (pos q)
@@ -32,9 +33,11 @@ most q h = rw (le-leb U q h) refl
 module _ (b : Basis) (age : ℕ) where
   -- ---- the factor
   -- one year more
-  pub turn : {base : ℕ} (k : ℕ) (f : ℤ) (o : Outcome ℤ) → base ≡ b .base → steps (factorStep b age) (pos U) k ≡ value f → o ≡ factorFrom age (base + 1 + k) (improvementOf b age (base + 1 + k)) f →
-      steps (factorStep b age) (pos U) (suc k) ≡ o
-  turn k f o e h g = next (factorStep b age) (pos U) k f h ∙ sym (g ∙ ap (λ (n : ℕ). factorFrom age (n + 1 + k) (improvementOf b age (n + 1 + k)) f) e)
+  pub turn : {base : ℕ} (k : ℕ) (f : ℤ) (o : Outcome ℤ) → base ≡ b .base → steps (factorStep b age) (pos U) k ≡ value f →
+      o ≡ factorFrom age (base + 1 + k) (improvementOf b age (base + 1 + k)) f → steps (factorStep b age) (pos U) (suc k) ≡ o
+  turn k f o e h g =
+      next (factorStep b age) (pos U) k f h
+      ∙ sym (g ∙ ap (λ (n : ℕ). factorFrom age (n + 1 + k) (improvementOf b age (n + 1 + k)) f) e)
 
   -- what the last year gives is the answer
   pub ended : (year n : ℕ) (o : Outcome ℤ) → n ≡ heldYear year - b .base → steps (factorStep b age) (pos U) n ≡ o → o ≡ factorOf b age year
@@ -57,9 +60,12 @@ module _ (b : Basis) (age : ℕ) where
   unfolding factorOf
   factor-natural year f h =
       along (factorStep b age) (pos U) (λ k a. (n : ℕ) × (a ≡ pos n)) (heldYear year - b .base) (U, refl)
-      (λ k a g l p q. let y = year-value age (b .base + 1 + k) (improvementOf b age (b .base + 1 + k)) a g q in
-      let z = next-natural (p .0) (improvementOf b age (b .base + 1 + k)) (usable-abs (improvementOf b age (b .base + 1 + k)) (y .0)) in
-      (z .0, y .1 ∙ ap (λ (x : ℤ). factorNext x (improvementOf b age (b .base + 1 + k))) (p .1) ∙ z .1)) f h
+      (λ k a g l p q.
+      let year = b .base + 1 + k in
+      let i = improvementOf b age year in
+      let y = year-value age year i a g q in
+      let z = next-natural (p .0) i (usable-abs i (y .0)) in
+      (z .0, y .1 ∙ ap (λ (x : ℤ). factorNext x i) (p .1) ∙ z .1)) f h
 
   -- ---- the rate
   rate-of : (n f q : ℕ) → n ≡ b .baseRate age → q ≡ (2 * (n * f) + U) / (2 * U) → lesserℤ (pos U) (pos q) ≡ rateFrom b age (pos f)

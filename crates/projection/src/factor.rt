@@ -13,47 +13,47 @@ use basis::Refusal;
 const UNIT: u64 = 1_000_000_000;
 
 // This year's factor from last year's and the improvement.
-fn factor_next(f: u64, i: i64) -> u64
-    requires { ⌜ (f ≤ 4_000_000_000) × (natAbs i ≤ 500_000_000) ⌝ }
-    ensures { λ r. ⌜ pos r ≡ factorNext (pos f) i ⌝ }
+fn factor_next(factor: u64, improvement: i64) -> u64
+    requires { ⌜ (factor ≤ 4_000_000_000) × (natAbs improvement ≤ 500_000_000) ⌝ }
+    ensures { λ r. ⌜ pos r ≡ factorNext (pos factor) improvement ⌝ }
 {
-    let left = (1_000_000_000 - i) as u64;
-    arithmetic::round_div_unsigned(f * left, UNIT)
+    let left = (1_000_000_000 - improvement) as u64;
+    arithmetic::round_div_unsigned(factor * left, UNIT)
 }
 
 // The same with refusals 9 and 10, in this order.
-fn factor_from(age: u32, year: u32, i: i64, f: u64) -> Answer
-    requires { ⌜ f ≤ 4_000_000_000 ⌝ }
-    ensures { λ r. ⌜ meaning r ≡ factorFrom age year i (pos f) ⌝ }
+fn factor_from(age: u32, year: u32, improvement: i64, factor: u64) -> Answer
+    requires { ⌜ factor ≤ 4_000_000_000 ⌝ }
+    ensures { λ r. ⌜ meaning r ≡ factorFrom age year improvement (pos factor) ⌝ }
 {
-    if !improvement::is_usable(i) {
+    if !improvement::is_usable(improvement) {
         return Answer::Refused(Refusal {
             number: 9,
             first: age as u64,
             second: year as u64,
         });
     }
-    let g = factor_next(f, i);
-    if 4_000_000_000 < g {
+    let next = factor_next(factor, improvement);
+    if 4_000_000_000 < next {
         return Answer::Refused(Refusal {
             number: 10,
             first: age as u64,
             second: year as u64,
         });
     }
-    Answer::Value(g)
+    Answer::Value(next)
 }
 
 // The same at an age whose terms the caller has read.
-fn factor_in(run: &[u8], terms: Convergence, age: u32, year: u32, f: u64) -> Answer
-    requires { ⌜ Accepted (now run) × (20 ≤ age) × (age ≤ 150) × (terms ≡ basisOf (now run) .byAge age) × (basisOf (now run) .foundation ≤ year) × (year ≤ 2130) × (f ≤ 4_000_000_000) ⌝ }
-    ensures { λ r. ⌜ meaning r ≡ factorFrom age year (improvementOf (basisOf (now (run .entry))) age year) (pos f) ⌝ }
+fn factor_in(run: &[u8], terms: Convergence, age: u32, year: u32, factor: u64) -> Answer
+    requires { ⌜ Accepted (now run) × (20 ≤ age) × (age ≤ 150) × (terms ≡ basisOf (now run) .byAge age) × (basisOf (now run) .foundation ≤ year) × (year ≤ 2130) × (factor ≤ 4_000_000_000) ⌝ }
+    ensures { λ r. ⌜ meaning r ≡ factorFrom age year (improvementOf (basisOf (now (run .entry))) age year) (pos factor) ⌝ }
 {
     factor_from(
         age,
         year,
         improvement::improvement_at(run, terms, age, year),
-        f,
+        factor,
     )
 }
 
@@ -72,16 +72,16 @@ pub fn factor_at(run: &[u8], age: u32, year: u32) -> Answer
     let terms = basis::fields::age_terms(run, age);
     let base = basis::fields::base_year(run);
     let years = held_year(year) - base;
-    let mut f: u64 = UNIT;
+    let mut factor: u64 = UNIT;
     let mut k: u32 = 0;
     while k < years {
-        match factor_in(run, terms, age, base + 1 + k, f) {
+        match factor_in(run, terms, age, base + 1 + k, factor) {
             Answer::Value(v) => {
-                f = v;
+                factor = v;
             }
             Answer::Refused(r) => return Answer::Refused(r),
         }
         k += 1;
     }
-    Answer::Value(f)
+    Answer::Value(factor)
 }

@@ -22,18 +22,14 @@ fn addition_in(run: &[u8], year: u32) -> i32
     }
 }
 
-fn wide(rate: i32) -> i64
-    ensures { λ r. ⌜ r ≡ rate ⌝ }
+// The component by attained age, the component by birth year and an addition, a number of years after F.
+fn improvement_from(attained: Convergence, birth: Convergence, years: u32, addition: i32) -> i64
+    requires { ⌜ ConvergenceLimits attained × ConvergenceLimits birth ⌝ }
+    ensures { λ r. ⌜ r ≡ componentOf attained years +ℤ componentOf birth years +ℤ addition ⌝ }
 {
-    rate as i64
-}
-
-// The component by age, the component by birth year and an addition, a number of years after F.
-fn sum_of(x: Convergence, y: Convergence, years: u32, addition: i32) -> i64
-    requires { ⌜ ConvergenceLimits x × ConvergenceLimits y ⌝ }
-    ensures { λ r. ⌜ r ≡ componentOf x years +ℤ componentOf y years +ℤ addition ⌝ }
-{
-    component::component(x, years) + component::component(y, years) + wide(addition)
+    component::component(attained, years)
+        + component::component(birth, years)
+        + arithmetic::wide(addition)
 }
 
 // The improvement at an age, whose terms the caller has read, in a year from F to 2130.
@@ -43,14 +39,14 @@ pub fn improvement_at(run: &[u8], terms: Convergence, age: u32, year: u32) -> i6
 {
     let years = year - basis::fields::foundation_year(run);
     let birth = basis::fields::birth_year_terms(run, year - age);
-    sum_of(terms, birth, years, addition_in(run, year))
+    improvement_from(terms, birth, years, addition_in(run, year))
 }
 
 // Is an improvement within ±500,000,000?
-pub fn is_usable(i: i64) -> bool
-    ensures { λ r. ⌜ r ≡ usable i ⌝ }
+pub fn is_usable(improvement: i64) -> bool
+    ensures { λ r. ⌜ r ≡ usable improvement ⌝ }
 {
-    -500_000_000 <= i && i <= 500_000_000
+    -500_000_000 <= improvement && improvement <= 500_000_000
 }
 
 // The improvement at an age in a year from F to 2130, with refusal 9.
@@ -58,9 +54,9 @@ pub fn improvement_needed(run: &[u8], age: u32, year: u32) -> SignedAnswer
     requires { ⌜ Accepted (now run) × (20 ≤ age) × (age ≤ 150) × (basisOf (now run) .foundation ≤ year) × (year ≤ 2130) ⌝ }
     ensures { λ r. ⌜ signedMeaning r ≡ improvementNeeded age year (improvementOf (basisOf (now (run .entry))) age year) ⌝ }
 {
-    let i = improvement_at(run, basis::fields::age_terms(run, age), age, year);
-    if is_usable(i) {
-        SignedAnswer::Value(i)
+    let improvement = improvement_at(run, basis::fields::age_terms(run, age), age, year);
+    if is_usable(improvement) {
+        SignedAnswer::Value(improvement)
     } else {
         SignedAnswer::Refused(Refusal {
             number: 9,

@@ -11,12 +11,15 @@ use basis::Answer;
 const UNIT: u64 = 1_000_000_000;
 
 // The lesser of U and the base rate times the factor.
-fn rate_from(run: &[u8], age: u32, f: u64) -> u64
-    requires { ⌜ Accepted (now run) × (20 ≤ age) × (age ≤ 150) × (f ≤ 4_000_000_000) ⌝ }
-    ensures { λ r. ⌜ pos r ≡ rateFrom (basisOf (now (run .entry))) age (pos f) ⌝ }
+fn rate_from(run: &[u8], age: u32, factor: u64) -> u64
+    requires { ⌜ Accepted (now run) × (20 ≤ age) × (age ≤ 150) × (factor ≤ 4_000_000_000) ⌝ }
+    ensures { λ r. ⌜ pos r ≡ rateFrom (basisOf (now (run .entry))) age (pos factor) ⌝ }
 {
-    let q = arithmetic::round_div_unsigned(basis::fields::base_rate(run, age) as u64 * f, UNIT);
-    if q < UNIT { q } else { UNIT }
+    let rate = arithmetic::round_div_unsigned(
+        basis::fields::base_rate(run, age) as u64 * factor,
+        UNIT,
+    );
+    if rate < UNIT { rate } else { UNIT }
 }
 
 // The mortality rate at an age in a year from B on.

@@ -1,11 +1,11 @@
+-- Each sign's sum is small, so their signed difference is the definition's.
+use mathlib.Core.Path.{_≡_}
+use Prim.Native.Nat.{_+_, _*_}
 use native.Mathlib.Omega.{arith}
-use mathlib.Core.Path.{_∙_}
+use lib.IntN.{_-ℤ_}
 use mir.Syntax.{w64}
 use mir.Val.{SFits, toZ}
 use mir.Facts.{toZ-ofZ, toZ-pos}
-use mathlib.Core.Path.{_≡_}
-use Prim.Native.Nat.{_+_, _*_}
-use lib.IntN.{pos, _-ℤ_}
 use borrow.Author.Needs.{needs}
 use Rattle.arithmetic.proofs.Machine.{sfits-abs}
 use Rattle.component.specs.Component.{slopeOf}
@@ -13,13 +13,18 @@ use Rattle.component.proofs.Size.{grow, slope-is, slope-abs}
 use Rattle.component.proofs.slope.Statement.{statement}
 use Rattle.component.proofs.slope.Tie as tie
 
-small : (c : tie.Start) → let a = c .args in toZ w64 (100 * a .period + 8 * a .remaining * a .years) -ℤ toZ w64 (200 * a .years) ≡ slopeOf (a .period) (a .remaining) (a .years)
-small c = let a = c .args in
+difference : (c : tie.Start) → let a = c .args in
+    toZ w64 (100 * a .period + 8 * a .remaining * a .years) -ℤ toZ w64 (200 * a .years) ≡ slopeOf (a .period) (a .remaining) (a .years)
+difference c =
+    let a = c .args in
     let g = grow (a .remaining) (a .years) (c .pre .1) in
-    rw (toZ-pos w64 {n = 100 * a .period + 8 * a .remaining * a .years} (omega arith), toZ-pos w64 {n = 200 * a .years} (omega arith)) (slope-is (a .period) (a .remaining) (a .years))
+    rw (toZ-pos w64 {n = 100 * a .period + 8 * a .remaining * a .years} (omega arith), toZ-pos w64 {n = 200 * a .years} (omega arith))
+    (slope-is (a .period) (a .remaining) (a .years))
 
 fits : (c : tie.Start) → SFits w64 (slopeOf (c .args .period) (c .args .remaining) (c .args .years))
-fits c = sfits-abs (omega (arith, slope-abs (c .args .period) (c .args .remaining) (c .args .years) (c .pre .0) (c .pre .1) (c .pre .2)))
+fits c =
+    let a = c .args in
+    sfits-abs (omega (arith, slope-abs (a .period) (a .remaining) (a .years) (c .pre .0) (c .pre .1) (c .pre .2)))
 
 mul-up : tie.Need-mul-up
 mul-up c = search needs
@@ -43,21 +48,12 @@ cast-result-2 : tie.Need-cast-result-2
 cast-result-2 c = search needs
 
 sub-result : tie.Need-sub-result
-sub-result c = rw (small c) (fits c)
+sub-result c = rw (difference c) (fits c)
 
 returns : tie.Need-returns
-returns c = rw (small c) (toZ-ofZ (fits c))
+returns c = rw (difference c) (toZ-ofZ (fits c))
 
 pub slope-spec : {M : Type 1} → statement M
 slope-spec =
     tie.close
-    (tie.spec
-    mul-up
-    mul-up-2
-    mul-up-3
-    add-up
-    mul-down
-    cast-result
-    cast-result-2
-    sub-result
-    returns)
+    (tie.spec mul-up mul-up-2 mul-up-3 add-up mul-down cast-result cast-result-2 sub-result returns)

@@ -1,5 +1,5 @@
 -- The test is the definition's.
-use mathlib.Core.Path.{_≡_, _∙_, sym, refl}
+use mathlib.Core.Path.{_∙_, sym, refl}
 use borrow.Author.Needs.{needs}
 use Rattle.projection.specs.Enquiry.{ageCheck}
 use Rattle.projection.proofs.enquiry.check_age.Statement.{statement}

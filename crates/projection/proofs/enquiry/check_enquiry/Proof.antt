@@ -1,5 +1,5 @@
 -- The run's check decides first, then the age's.
-use mathlib.Core.Path.{_≡_, _∙_, sym}
+use mathlib.Core.Path.{_∙_, sym}
 use borrow.Author.Needs.{needs}
 use Rattle.basis.proofs.Outcome.{first-passed, first-refused}
 use Rattle.projection.proofs.enquiry.check_enquiry.Statement.{statement}

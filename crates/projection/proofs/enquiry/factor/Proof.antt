@@ -1,5 +1,5 @@
 -- The checks decide first; what they let pass is all that the work asks for.
-use mathlib.Core.Path.{_≡_, _∙_, sym}
+use mathlib.Core.Path.{_∙_, sym}
 use borrow.Author.Needs.{needs}
 use Rattle.basis.specs.Basis.{basisOf}
 use Rattle.basis.proofs.Outcome.{checked-passed, checked-refused}
@@ -17,7 +17,8 @@ enum-told c = search needs
 factor-at-requires : tie.Need-factor-at-requires
 factor-at-requires c κs =
     let a = c .before .before .before .before .args in
-    let p = from-passed (a .run .now) (a .age) (basisOf (a .run .now) .base) (a .year) (sym (c .before .before .check-from-base .ensures) ∙ c .enum-told .given .1) in
+    let passed = sym (c .before .before .check-from-base .ensures) ∙ c .enum-told .given .1 in
+    let p = from-passed (a .run .now) (a .age) (basisOf (a .run .now) .base) (a .year) passed in
     (p .0, p .1, p .2, p .3)
 
 enum-known-r : tie.Need-enum-known-r

@@ -1,5 +1,5 @@
 -- The checks decide first; what they let pass is all that the work asks for.
-use mathlib.Core.Path.{_≡_, _∙_, sym}
+use mathlib.Core.Path.{_∙_, sym}
 use borrow.Author.Needs.{needs}
 use Rattle.basis.specs.Basis.{basisOf}
 use Rattle.basis.proofs.Outcome.{checked-passed, checked-refused}
@@ -17,7 +17,8 @@ enum-told c = search needs
 improvement-needed-requires : tie.Need-improvement-needed-requires
 improvement-needed-requires c κs =
     let a = c .before .before .before .before .args in
-    let p = from-passed (a .run .now) (a .age) (basisOf (a .run .now) .foundation) (a .year) (sym (c .before .before .check-from-foundation .ensures) ∙ c .enum-told .given .1) in
+    let passed = sym (c .before .before .check-from-foundation .ensures) ∙ c .enum-told .given .1 in
+    let p = from-passed (a .run .now) (a .age) (basisOf (a .run .now) .foundation) (a .year) passed in
     p
 
 enum-known-r : tie.Need-enum-known-r

@@ -1,5 +1,5 @@
 -- The second test counts only where the first holds, which is what && says.
-use mathlib.Core.Path.{_≡_, refl}
+use mathlib.Core.Path.{refl}
 use borrow.Author.Tests.{le-leb, lt-leb}
 use Rattle.projection.proofs.enquiry.is_in_range.Statement.{statement}
 use Rattle.projection.proofs.enquiry.is_in_range.Tie as tie

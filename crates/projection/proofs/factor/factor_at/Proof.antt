@@ -1,24 +1,26 @@
-use mathlib.Core.Path.{_≡_, _∙_, ap, sym, refl}
-use Prim.Native.Nat.{ℕ, suc, _+_, _-_, _≤_, _<_}
+-- After k years the factor so far is the definition's after k steps; a refusal stands in every later year.
+use mathlib.Core.Path.{_≡_, _∙_, ap, sym}
+use Prim.Native.Nat.{suc, _+_, _-_, _≤_}
 use native.Mathlib.Omega.{arith}
 use native.Mathlib.Numerals.{add-one}
-use lib.IntN.{ℤ, pos}
+use lib.IntN.{pos}
 use borrow.Author.Needs.{needs}
 use Rattle.arithmetic.specs.Fraction.{U}
 use Rattle.basis.specs.Basis.{basisOf}
 use Rattle.basis.specs.Outcome.{value, refused, steps, meaning}
-use Rattle.basis.proofs.Outcome.{none, persists}
-use Rattle.projection.specs.Projection.{factorStep, heldYear}
+use Rattle.basis.proofs.Outcome.{persists}
+use Rattle.projection.specs.Projection.{factorStep}
 use Rattle.projection.proofs.Years.{turn, ended, year-small}
 use Rattle.projection.proofs.Cases.{held-late, held-early}
 use Rattle.projection.proofs.factor.factor_at.Statement.{statement}
 use Rattle.projection.proofs.factor.factor_at.Tie as tie
 
 abbrev Inv-loop : tie.InvT-loop
-Inv-loop run age year terms base years f₀ k₀ f k = (k ≤ years) × (f ≤ 4_000_000_000) × (steps (factorStep (basisOf run) age) (pos U) k ≡ value (pos f))
+Inv-loop run age year terms base years factor₀ k₀ factor k =
+    (k ≤ years) × (factor ≤ 4_000_000_000) × (steps (factorStep (basisOf run) age) (pos U) k ≡ value (pos factor))
 
 abbrev μ-loop : tie.MeasureT-loop
-μ-loop run age year terms base years f₀ k₀ f k = years - k
+μ-loop run age year terms base years factor₀ k₀ factor k = years - k
 
 age-terms-requires : tie.Need-age-terms-requires Inv-loop μ-loop
 age-terms-requires c κs = search needs
@@ -30,8 +32,10 @@ held-year-requires : tie.Need-held-year-requires Inv-loop μ-loop
 held-year-requires c κs = search needs
 
 sub-years : tie.Need-sub-years Inv-loop μ-loop
-sub-years c = let s = c .before .before .before .before in
-    omega (arith, c .held-year .ensures, c .before .base-year .ensures, held-early (basisOf (s .args .run .now) .base) (s .args .year) (s .pre .3) (s .pre .0 .limits .base-high))
+sub-years c =
+    let s = c .before .before .before .before in
+    let early = held-early (basisOf (s .args .run .now) .base) (s .args .year) (s .pre .3) (s .pre .0 .limits .base-high) in
+    omega (arith, c .held-year .ensures, c .before .base-year .ensures, early)
 
 loop-holds : tie.Need-loop-holds Inv-loop μ-loop
 unfolding steps
@@ -44,9 +48,20 @@ add-factor-in-2 : tie.Need-add-factor-in-2 Inv-loop μ-loop
 add-factor-in-2 c = search needs
 
 factor-in-requires : tie.Need-factor-in-requires Inv-loop μ-loop
-factor-in-requires c κs = let l = c .before in let h = l .before in let s = h .before .before .before .before in
-    let e = h .before .base-year .ensures in
-    (s .pre .0, s .pre .1, s .pre .2, h .before .before .age-terms .ensures, omega (arith, s .pre .0 .limits .base-low), omega (arith, h .held-year .ensures, held-late (s .args .year)), l .loop .inv .1)
+factor-in-requires c κs =
+    let l = c .before in
+    let h = l .before in
+    let s = h .before .before .before .before in
+    let base = h .before .base-year .ensures in
+    let late = held-late (s .args .year) in (
+      s .pre .0,
+      s .pre .1,
+      s .pre .2,
+      h .before .before .age-terms .ensures,
+      omega (arith, base, s .pre .0 .limits .base-low),
+      omega (arith, h .held-year .ensures, late),
+      l .loop .inv .1,
+    )
 
 enum-known-v : tie.Need-enum-known-v Inv-loop μ-loop
 enum-known-v c = search needs
@@ -55,12 +70,18 @@ enum-known-r : tie.Need-enum-known-r Inv-loop μ-loop
 enum-known-r c = search needs
 
 returns : tie.Need-returns Inv-loop μ-loop
-returns c = let y = c .before .before .before in let l = y .before .before in let h = l .before in let s = h .before .before .before .before in
-    let b = basisOf (s .args .run .now) in
+returns c =
+    let y = c .before .before .before in
+    let l = y .before .before in
+    let h = l .before in
+    let a = h .before .before .before .before .args in
+    let b = basisOf (a .run .now) in
     let r = c .before .r .given .0 .0 in
-    let e = turn b (s .args .age) (l .loop .k) (pos (l .loop .f)) (refused r) (h .before .base-year .ensures) (l .loop .inv .2) (sym (ap meaning (c .before .r .given .1)) ∙ y .factor-in .ensures) in
     let n = h .held-year .result - h .before .base-year .result in
-    ended b (s .args .age) (s .args .year) n (refused r) (omega (arith, h .held-year .ensures, h .before .base-year .ensures)) (persists (factorStep b (s .args .age)) (pos U) (suc (l .loop .k)) n r (omega arith) e)
+    let told = sym (ap meaning (c .before .r .given .1)) ∙ y .factor-in .ensures in
+    let here = turn b (a .age) (l .loop .k) (pos (l .loop .factor)) (refused r) (h .before .base-year .ensures) (l .loop .inv .2) told in
+    ended b (a .age) (a .year) n (refused r) (omega (arith, h .held-year .ensures, h .before .base-year .ensures))
+    (persists (factorStep b (a .age)) (pos U) (suc (l .loop .k)) n r (omega arith) here)
 
 add-k : tie.Need-add-k Inv-loop μ-loop
 add-k c = search needs
@@ -69,15 +90,27 @@ loop-less : tie.Need-loop-less Inv-loop μ-loop
 loop-less c = search needs
 
 loop-again : tie.Need-loop-again Inv-loop μ-loop
-loop-again c = let y = c .before .before .before in let l = y .before .before in let h = l .before in let s = h .before .before .before .before in
-    let b = basisOf (s .args .run .now) in
+loop-again c =
+    let y = c .before .before .before in
+    let l = y .before .before in
+    let h = l .before in
+    let a = h .before .before .before .before .args in
+    let b = basisOf (a .run .now) in
     let v = c .before .v .given .0 .0 in
-    let g = sym (ap meaning (c .before .v .given .1)) ∙ y .factor-in .ensures in
-    (omega arith, year-small b (s .args .age) (h .before .base-year .result + 1 + l .loop .k) _ (pos (l .loop .f)) v (sym g), rw add-one (turn b (s .args .age) (l .loop .k) (pos (l .loop .f)) (value (pos v)) (h .before .base-year .ensures) (l .loop .inv .2) g))
+    let last = pos (l .loop .factor) in
+    let told = sym (ap meaning (c .before .v .given .1)) ∙ y .factor-in .ensures in (
+      omega arith,
+      year-small b (a .age) (h .before .base-year .result + 1 + l .loop .k) _ last v (sym told),
+      rw add-one (turn b (a .age) (l .loop .k) last (value (pos v)) (h .before .base-year .ensures) (l .loop .inv .2) told),
+    )
 
 returns-2 : tie.Need-returns-2 Inv-loop μ-loop
-returns-2 c = let l = c .before in let h = l .before in let s = h .before .before .before .before in
-    ended (basisOf (s .args .run .now)) (s .args .age) (s .args .year) (l .loop .k) (value (pos (l .loop .f))) (omega (arith, h .held-year .ensures, h .before .base-year .ensures)) (l .loop .inv .2)
+returns-2 c =
+    let l = c .before in
+    let h = l .before in
+    let a = h .before .before .before .before .args in
+    ended (basisOf (a .run .now)) (a .age) (a .year) (l .loop .k) (value (pos (l .loop .factor)))
+    (omega (arith, h .held-year .ensures, h .before .base-year .ensures)) (l .loop .inv .2)
 
 pub factor-at-spec : {M : Type 1} → statement M
 factor-at-spec =

@@ -1,36 +1,51 @@
-use mathlib.Core.Path.{_≡_, _∙_, ap, sym, refl}
-use native.Mathlib.Omega.{arith}
-use Rattle.projection.proofs.Cases.{beyond, above, valued, usable-abs}
+-- The code asks the definition's questions in its order: is the improvement usable, and is the factor at most 4 × U?
+use mathlib.Core.Path.{_≡_, _∙_, sym}
+use mathlib.Core.Bool.{true, false}
+use lib.IntN.{pos}
 use mir.Syntax.{w64}
 use mir.Facts.{toZ-ofZ}
-use mathlib.Core.Bool.{true}
-use Rattle.projection.specs.Projection.{usable}
-use borrow.Author.Tests.{not-true, not-false}
 use borrow.Author.Needs.{needs}
+use borrow.Author.Tests.{not-true, not-false}
+use Rattle.projection.specs.Projection.{usable, factorNext}
+use Rattle.projection.proofs.Cases.{beyond, above, valued, usable-abs}
 use Rattle.projection.proofs.factor.factor_from.Statement.{statement}
 use Rattle.projection.proofs.factor.factor_from.Tie as tie
 
-used : (c : tie.Else1) → usable (c .before .before .args .i) ≡ true
-used c = sym (rw (toZ-ofZ {w = w64} (c .before .before .fits .i)) at (c .before .is-usable .ensures)) ∙ not-false _ (c .if1 .left)
+-- what the first test says of the improvement
+not-usable : (c : tie.Then1) → usable (c .before .before .args .improvement) ≡ false
+not-usable c =
+    let s = c .before .before in
+    sym (rw (toZ-ofZ {w = w64} (s .fits .improvement)) at (c .before .is-usable .ensures)) ∙ not-true _ (c .if1 .taken)
+
+is-used : (c : tie.Else1) → usable (c .before .before .args .improvement) ≡ true
+is-used c =
+    let s = c .before .before in
+    sym (rw (toZ-ofZ {w = w64} (s .fits .improvement)) at (c .before .is-usable .ensures)) ∙ not-false _ (c .if1 .left)
+
+-- what the next factor is
+next-is : (c : tie.After-factor-next) → let a = c .before .before .before .args in pos (c .factor-next .result) ≡ factorNext (pos (a .factor)) (a .improvement)
+next-is c = rw (toZ-ofZ {w = w64} (c .before .before .before .fits .improvement)) at (c .factor-next .ensures)
 
 is-usable-requires : tie.Need-is-usable-requires
 is-usable-requires c κs = search needs
 
 returns : tie.Need-returns
-returns c = let s = c .before .before in
-    sym (beyond _ _ (s .args .i) _ (sym (rw (toZ-ofZ {w = w64} (s .fits .i)) at (c .before .is-usable .ensures)) ∙ not-true _ (c .if1 .taken)))
+returns c = sym (beyond _ _ (c .before .before .args .improvement) _ (not-usable c))
 
 factor-next-requires : tie.Need-factor-next-requires
-factor-next-requires c κs = let s = c .before .before in
-    rw (toZ-ofZ {w = w64} (s .fits .i)) (s .pre, usable-abs (s .args .i) (sym (rw (toZ-ofZ {w = w64} (s .fits .i)) at (c .before .is-usable .ensures)) ∙ not-false _ (c .if1 .left)))
+factor-next-requires c κs =
+    let s = c .before .before in
+    rw (toZ-ofZ {w = w64} (s .fits .improvement)) (s .pre, usable-abs (s .args .improvement) (is-used c))
 
 returns-2 : tie.Need-returns-2
-returns-2 c = let s = c .before .before .before .before in
-    sym (above _ _ (s .args .i) _ (c .before .factor-next .result) (used (c .before .before)) (rw (toZ-ofZ {w = w64} (s .fits .i)) at (c .before .factor-next .ensures)) (c .if2 .taken))
+returns-2 c =
+    let n = c .before in
+    sym (above _ _ (n .before .before .before .args .improvement) _ (n .factor-next .result) (is-used (n .before)) (next-is n) (c .if2 .taken))
 
 returns-3 : tie.Need-returns-3
-returns-3 c = let s = c .before .before .before .before in
-    sym (valued _ _ (s .args .i) _ (c .before .factor-next .result) (used (c .before .before)) (rw (toZ-ofZ {w = w64} (s .fits .i)) at (c .before .factor-next .ensures)) (c .if2 .left))
+returns-3 c =
+    let n = c .before in
+    sym (valued _ _ (n .before .before .before .args .improvement) _ (n .factor-next .result) (is-used (n .before)) (next-is n) (c .if2 .left))
 
 pub factor-from-spec : {M : Type 1} → statement M
 factor-from-spec =

@@ -1,4 +1,5 @@
-use mathlib.Core.Path.{_≡_, _∙_, ap, sym, refl}
+-- The test is the definition's.
+use mathlib.Core.Path.{sym}
 use Rattle.projection.proofs.Cases.{held-before, held-after}
 use Rattle.projection.proofs.factor.held_year.Statement.{statement}
 use Rattle.projection.proofs.factor.held_year.Tie as tie

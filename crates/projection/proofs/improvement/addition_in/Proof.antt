@@ -1,9 +1,10 @@
-use mathlib.Core.Path.{_≡_, _∙_, ap, sym, refl}
+-- The test is the definition's.
+use mathlib.Core.Path.{_∙_, sym}
 use native.Mathlib.Omega.{arith}
-use Rattle.projection.proofs.Cases.{addition-after, addition-at}
 use mir.Syntax.{w32}
-use Rattle.arithmetic.proofs.Machine.{got}
 use borrow.Author.Needs.{needs}
+use Rattle.arithmetic.proofs.Machine.{got}
+use Rattle.projection.proofs.Cases.{addition-after, addition-at}
 use Rattle.projection.proofs.improvement.addition_in.Statement.{statement}
 use Rattle.projection.proofs.improvement.addition_in.Tie as tie
 

@@ -1,10 +1,11 @@
-use mathlib.Core.Path.{_≡_, _∙_, ap, sym, refl}
-use native.Mathlib.Omega.{arith}
-use Rattle.projection.proofs.Cases.{limits-of, improvement-is}
-use mir.Syntax.{w32, w64}
+-- The terms, the years and the addition are those of the basis, and their limits are those of an accepted run.
+use mathlib.Core.Path.{_∙_}
 use Prim.Native.Nat.{_-_}
-use Rattle.arithmetic.proofs.Machine.{got}
+use native.Mathlib.Omega.{arith}
+use mir.Syntax.{w32, w64}
 use borrow.Author.Needs.{needs}
+use Rattle.arithmetic.proofs.Machine.{got}
+use Rattle.projection.proofs.Cases.{limits-of, improvement-is}
 use Rattle.projection.proofs.improvement.improvement_at.Statement.{statement}
 use Rattle.projection.proofs.improvement.improvement_at.Tie as tie
 
@@ -23,14 +24,24 @@ birth-year-terms-requires c κs = search needs
 addition-in-requires : tie.Need-addition-in-requires
 addition-in-requires c κs = search needs
 
-sum-of-requires : tie.Need-sum-of-requires
-sum-of-requires c κs = let s = c .before .before .before .before in
-    let l = s .pre .0 .limits in
-    (limits-of (s .pre .3) (l .byAge (s .args .age) (s .pre .1) (s .pre .2)), limits-of (c .before .birth-year-terms .ensures) (l .byBirthYear (s .args .year - s .args .age) (omega arith) (omega arith)))
+improvement-from-requires : tie.Need-improvement-from-requires
+improvement-from-requires c κs =
+    let s = c .before .before .before .before in
+    let a = s .args in
+    let l = s .pre .0 .limits in (
+      limits-of (s .pre .3) (l .byAge (a .age) (s .pre .1) (s .pre .2)),
+      limits-of (c .before .birth-year-terms .ensures) (l .byBirthYear (a .year - a .age) (omega arith) (omega arith)),
+    )
 
 returns : tie.Need-returns
-returns c = let d = c .before in let s = d .before .before .before .before in
-    got w64 (c .sum-of .ok) (c .sum-of .ensures ∙ improvement-is _ (s .args .age) (s .args .year) (s .pre .3) (d .before .birth-year-terms .ensures) (d .before .before .foundation-year .ensures) (got w32 (d .addition-in .ok) (d .addition-in .ensures)))
+returns c =
+    let d = c .before in
+    let s = d .before .before .before .before in
+    let birth = d .before .birth-year-terms .ensures in
+    let foundation = d .before .before .foundation-year .ensures in
+    let addition = got w32 (d .addition-in .ok) (d .addition-in .ensures) in
+    got w64 (c .improvement-from .ok)
+    (c .improvement-from .ensures ∙ improvement-is _ (s .args .age) (s .args .year) (s .pre .3) birth foundation addition)
 
 pub improvement-at-spec : {M : Type 1} → statement M
 improvement-at-spec =
@@ -41,5 +52,5 @@ improvement-at-spec =
     sub-birth-year-terms
     birth-year-terms-requires
     addition-in-requires
-    sum-of-requires
+    improvement-from-requires
     returns)

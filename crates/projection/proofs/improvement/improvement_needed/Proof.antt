@@ -1,5 +1,5 @@
 -- The improvement is usable or beyond its limits, and the test says which.
-use mathlib.Core.Path.{_≡_, _∙_, ap, sym}
+use mathlib.Core.Path.{_∙_, ap, sym}
 use mir.Syntax.{w64}
 use borrow.Author.Needs.{needs}
 use Rattle.arithmetic.proofs.Machine.{got}

@@ -1,14 +1,14 @@
-use Rattle.basis.specs.Basis.{basisOf}
-use mathlib.Core.Path.{_≡_, _∙_, ap, sym, refl}
-use native.Mathlib.Omega.{arith}
-use Rattle.projection.proofs.Years.{rate-below, rate-above}
+-- A base rate of at most U times a factor of at most 4 × U fits, and the test takes the lesser.
 use Prim.Native.Nat.{_*_, _≤_}
+use native.Mathlib.Omega.{arith}
 use native.Mathlib.Nat.{mul-le-mul}
 use borrow.Author.Needs.{needs}
+use Rattle.basis.specs.Basis.{basisOf}
+use Rattle.projection.proofs.Years.{rate-below, rate-above}
 use Rattle.projection.proofs.rate.rate_from.Statement.{statement}
 use Rattle.projection.proofs.rate.rate_from.Tie as tie
 
-room : (c : tie.After-base-rate) → c .base-rate .result * c .before .before .args .f ≤ 4_000_000_000_000_000_000
+room : (c : tie.After-base-rate) → c .base-rate .result * c .before .before .args .factor ≤ 4_000_000_000_000_000_000
 room c =
     let s = c .before .before in
     let l = s .pre .0 .limits .baseRate (s .args .age) (s .pre .1) (s .pre .2) in
@@ -27,10 +27,16 @@ round-div-unsigned-requires : tie.Need-round-div-unsigned-requires
 round-div-unsigned-requires c κs = omega (arith, room c)
 
 returns : tie.Need-returns
-returns c = let s = c .before .before .before .before in rate-below (basisOf (s .args .run .now)) (s .args .age) _ _ _ (c .before .before .base-rate .ensures) (c .before .round-div-unsigned .ensures) (c .if1 .taken)
+returns c =
+    let d = c .before in
+    let a = d .before .before .before .args in
+    rate-below (basisOf (a .run .now)) (a .age) _ _ _ (d .before .base-rate .ensures) (d .round-div-unsigned .ensures) (c .if1 .taken)
 
 returns-2 : tie.Need-returns-2
-returns-2 c = let s = c .before .before .before .before in rate-above (basisOf (s .args .run .now)) (s .args .age) _ _ _ (c .before .before .base-rate .ensures) (c .before .round-div-unsigned .ensures) (c .if1 .left)
+returns-2 c =
+    let d = c .before in
+    let a = d .before .before .before .args in
+    rate-above (basisOf (a .run .now)) (a .age) _ _ _ (d .before .base-rate .ensures) (d .round-div-unsigned .ensures) (c .if1 .left)
 
 pub rate-from-spec : {M : Type 1} → statement M
 rate-from-spec =
