@@ -1,0 +1,172 @@
+"""The basis: its data run and its file of nine blocks, their checks, the short form, the tables."""
+
+from dataclasses import dataclass
+from functools import lru_cache
+
+from outside.layout import (ADDITION_OFFSET, BASE_YEAR_OFFSET, BLOCK_DATA_LENGTH, BLOCK_LENGTH,
+                            BLOCKS, CHECK_MODULUS, CHECK_WORDS, DISCOUNT_OFFSET, FILE_LENGTH,
+                            FOUNDATION_YEAR_OFFSET, LONG_TERM_OFFSET, MARK, RATE_LIMIT, RUN_LENGTH,
+                            TABLES, ZERO_LENGTH, ZERO_OFFSET, limits, number_at)
+from outside.refusals import Refusal
+from outside.units import AGES, BIRTH_YEARS, rounded
+
+
+@dataclass(frozen=True)
+class Basis:
+    """A basis decoded; the fields by age start at age 20, those by birth year at 1842."""
+
+    foundation_year: int
+    base_year: int
+    constant_addition: int
+    discount_rate: int
+    base_rates: tuple
+    age_initial_rates: tuple
+    age_long_term_rates: tuple
+    age_convergence_periods: tuple
+    age_proportions_remaining: tuple
+    cohort_initial_rates: tuple
+    cohort_long_term_rates: tuple
+    cohort_convergence_periods: tuple
+    cohort_proportions_remaining: tuple
+
+
+# ---- the data run
+
+def encode(basis):
+    """The data run, 4,554 bytes. Limits are not looked at here."""
+    run = bytearray(MARK)
+    run += basis.foundation_year.to_bytes(2, "little")
+    run += basis.base_year.to_bytes(2, "little")
+    run += basis.constant_addition.to_bytes(4, "little", signed=True)
+    run += basis.discount_rate.to_bytes(4, "little", signed=True)
+    run += bytes(ZERO_LENGTH)
+    for table in TABLES:
+        assert len(run) == table.offset, table.name
+        numbers = getattr(basis, table.name)
+        assert len(numbers) == table.entries, table.name
+        for number in numbers:
+            run += number.to_bytes(table.width, "little", signed=table.width == 4)
+    assert len(run) == RUN_LENGTH
+    return bytes(run)
+
+
+def decode(run):
+    """The basis of a data run of the right length."""
+    fields = {table.name: tuple(number_at(run, table.offset + table.width * entry, table.width)
+                                for entry in range(table.entries))
+              for table in TABLES}
+    return Basis(number_at(run, FOUNDATION_YEAR_OFFSET, 2), number_at(run, BASE_YEAR_OFFSET, 2),
+                 number_at(run, ADDITION_OFFSET, 4), number_at(run, DISCOUNT_OFFSET, 4), **fields)
+
+
+def _first_fault(run):
+    """The refusal of a data run by 1, 4 or 5, or None."""
+    if len(run) != RUN_LENGTH:
+        return Refusal(1)
+    for place, letter in enumerate(MARK):
+        if run[place] != letter:
+            return Refusal(4, place)
+    for place in range(ZERO_OFFSET, ZERO_OFFSET + ZERO_LENGTH):
+        if run[place] != 0:
+            return Refusal(4, place)
+    for offset, number, low, high in limits(run):
+        if not low <= number <= high:
+            return Refusal(5, offset)
+    return None
+
+
+# The answer depends on the bytes alone, so that keeping it is as good as checking afresh.
+_kept_fault = lru_cache(maxsize=256)(_first_fault)
+
+
+def check_run(run):
+    """Gives 1, 4 or 5 where the data run is refused."""
+    fault = _kept_fault(bytes(run))
+    if fault is not None:
+        raise fault.again()
+
+
+# ---- the file
+
+def block_check(block):
+    """The first 127 four-byte words, each times its place from 1, summed modulo 2^32."""
+    words = (int.from_bytes(block[4 * i:4 * i + 4], "little") for i in range(CHECK_WORDS))
+    return sum(place * word for place, word in enumerate(words, start=1)) % CHECK_MODULUS
+
+
+def encode_file(run):
+    """The nine blocks of a data run of the right length, unchecked."""
+    file = bytearray()
+    for place in range(BLOCKS):
+        data = run[BLOCK_DATA_LENGTH * place:BLOCK_DATA_LENGTH * (place + 1)]
+        block = place.to_bytes(2, "little") + data
+        file += block + block_check(block).to_bytes(4, "little")
+    return bytes(file)
+
+
+def blocks_of(file):
+    return [file[BLOCK_LENGTH * place:BLOCK_LENGTH * (place + 1)] for place in range(BLOCKS)]
+
+
+def joined_data(file):
+    """The nine data parts joined."""
+    return b"".join(block[2:2 + BLOCK_DATA_LENGTH] for block in blocks_of(file))
+
+
+def check_file(file):
+    """Gives 1; 2 and 3 by block; then 4 and 5 of the data run, with offsets in the data run."""
+    if len(file) != FILE_LENGTH:
+        raise Refusal(1)
+    for place, block in enumerate(blocks_of(file)):
+        if int.from_bytes(block[-4:], "little") != block_check(block):
+            raise Refusal(2, place)
+        if int.from_bytes(block[:2], "little") != place:
+            raise Refusal(3, place)
+    check_run(joined_data(file))
+
+
+def check_output(needed, output_length):
+    if output_length < needed:
+        raise Refusal(11, needed)
+
+
+def read_file(file, output_length=RUN_LENGTH):
+    """The data run of an accepted file."""
+    check_output(RUN_LENGTH, output_length)
+    check_file(file)
+    return joined_data(file)
+
+
+def write_file(run, output_length=FILE_LENGTH):
+    """The file of an accepted data run."""
+    check_output(FILE_LENGTH, output_length)
+    check_run(run)
+    return encode_file(run)
+
+
+# ---- the short form and the tables
+
+SHARES = tuple(max(0, min(30, 120 - age)) for age in AGES)  # thirtieths of S, one for each age
+
+
+def short_form(run, long_term_rate, output_length=RUN_LENGTH):
+    """An accepted data run with new long-term rates, T and P, and all else as it was."""
+    check_output(RUN_LENGTH, output_length)
+    check_run(run)
+    if not -RATE_LIMIT <= long_term_rate <= RATE_LIMIT:
+        raise Refusal(5, LONG_TERM_OFFSET)
+    fields = dict(vars(decode(run)))
+    fields["age_long_term_rates"] = tuple(rounded(long_term_rate * share, 30) for share in SHARES)
+    fields["cohort_long_term_rates"] = (0,) * len(BIRTH_YEARS)
+    for kind, count in (("age", len(AGES)), ("cohort", len(BIRTH_YEARS))):
+        fields[kind + "_convergence_periods"] = (20,) * count
+        fields[kind + "_proportions_remaining"] = (50,) * count
+    return encode(Basis(**fields))
+
+
+def table(run, name):
+    """The stretch of the lent data run with one of the nine tables, empty of a refused run."""
+    if _kept_fault(bytes(run)) is not None:
+        return memoryview(run)[:0]
+    wanted = next(each for each in TABLES if each.name == name)
+    return memoryview(run)[wanted.offset:wanted.offset + wanted.width * wanted.entries]

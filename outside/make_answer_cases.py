@@ -1,0 +1,117 @@
+"""Writes the cases of `check_answers`: enquiries of all nine kinds, with the answers.
+
+Run with `python3 -m outside.make_answer_cases` from the folder that holds `crates/`.
+
+Standard input, all numbers little-endian: the number of bases (2 bytes), as many data runs of 4,554
+bytes, then cases to the end. A case is its kind (1 byte, its place in `enquiries.KINDS`), the place
+of its basis (1), and age, deferment and year (4 each, unsigned). Expected, a line a case: `value`
+and the number, or `refused` and the refusal's number and places.
+"""
+
+import random
+from pathlib import Path
+
+from outside.bases import named_bases, realistic
+from outside.basis import decode, encode
+from outside.damage import with_number
+from outside.enquiries import KINDS, ask
+from outside.refusals import Refusal, outcome
+
+FOLDER = Path("crates/check_answers")
+GREATEST = 4_294_967_295
+
+CHOSEN = ("sample", "realistic", "improvements high", "all limits low", "P 150", "B 2130", "F 2080",
+          "9 in mid-course", "9 and 10 in one year", "10 in mid-course", "exactly four",
+          "just beyond low", "random gentle", "random mixed", "random wide")
+
+
+def bases():
+    """Accepted data runs by choice, then one refused by 4 and one by 5."""
+    by_name = named_bases()
+    runs = [encode(by_name[name]) for name in CHOSEN]
+    return runs + [with_number(encode(realistic()), 20, 1, 1),
+                   with_number(encode(realistic()), 554 + 4 * 40, 4, 200_000_001)]
+
+
+# ---- the questions
+
+def edges(base_year, foundation_year):
+    """Ages, deferments and years at and beyond each end, and numbers that fill four bytes."""
+    last = 2130
+    yield from [(20, 0, base_year), (150, 0, base_year), (150, 0, last), (20, 0, last),
+                (20, 130, base_year), (20, 130, last), (149, 1, last), (149, 0, last),
+                (149, 1, base_year), (100, 50, last), (100, 49, last), (21, 128, base_year)]
+    yield from [(19, 0, last), (151, 0, last), (0, 0, last), (GREATEST, 0, last),
+                (GREATEST, GREATEST, GREATEST), (19, 132, last + 1)]
+    yield from [(20, 131, last), (150, 1, last), (149, 2, last), (60, GREATEST, last),
+                (150, GREATEST - 149, last), (60, GREATEST - 30, 0), (60, 91, last + 1)]
+    yield from [(60, 0, base_year - 1), (60, 0, last + 1), (60, 0, 0), (60, 0, GREATEST),
+                (60, 0, foundation_year), (60, 0, foundation_year - 1), (60, 90, last + 1),
+                (20, 0, foundation_year), (150, 0, foundation_year), (60, 20, GREATEST - 19)]
+
+
+def ordinary(draw, base_year):
+    """A question that 6, 8 and 7 do not refuse; young ages and late years often among them."""
+    age = draw(20, 150)
+    deferment = draw(0, 150 - age) if draw(0, 2) else 0
+    first = base_year if draw(0, 2) else max(base_year, 2100)
+    return age, deferment, draw(first, min(2130, first + 40))
+
+
+def along(kind, basis, draw):
+    """Ordinary questions, the first years in order, and the ages and years at which bases stop."""
+    for _ in range(14):
+        yield ordinary(draw, basis.base_year)
+    if kind[1] is None:
+        first = basis.foundation_year if kind[0] == "improvement" else basis.base_year
+        for years in range(10):
+            yield 80, 0, first + years
+    # Just before and at the ages that stop the chosen bases, and past them by deferment.
+    for age in (79, 80, 97, 110):
+        yield age, 1, min(2130, basis.base_year + 10)
+        yield age - 3, 6, min(2130, basis.base_year + 1)
+
+
+def questions(kind, place, basis, draw):
+    """The edges on every third basis, and few questions on the two refused ones at the end."""
+    if place >= len(CHOSEN):
+        yield from [(60, 0, 2020), (19, 0, 2020), (150, 1, 2020), (60, 0, 2131)]
+        return
+    if place % 3 == 1:
+        yield from edges(basis.base_year, basis.foundation_year)
+    yield from along(kind, basis, draw)
+
+
+def cases():
+    draw = random.Random(20_060_101).randint
+    runs = bases()
+    for number, kind in enumerate(KINDS):
+        for place, run in enumerate(runs):
+            for age, deferment, year in questions(kind, place, decode(run), draw):
+                if kind[1] is None:
+                    deferment = 0
+                asked = bytes([number, place]) + b"".join(
+                    each.to_bytes(4, "little") for each in (age, deferment, year))
+                answer = outcome(ask, run, kind, age, deferment, year)
+                yield asked, (str(answer) if isinstance(answer, Refusal) else "value %d" % answer)
+
+
+def input_and_output():
+    """The bytes of standard input and of the expected standard output."""
+    runs, asked_and_answered = bases(), list(cases())
+    lines = [line for _, line in asked_and_answered] + ["cases %d" % len(asked_and_answered)]
+    return (len(runs).to_bytes(2, "little") + b"".join(runs)
+            + b"".join(asked for asked, _ in asked_and_answered),
+            ("\n".join(lines) + "\n").encode("ascii"))
+
+
+def main():
+    asked, expected = input_and_output()
+    FOLDER.mkdir(parents=True, exist_ok=True)
+    (FOLDER / "stdin").write_bytes(asked)
+    (FOLDER / "stdout").write_bytes(expected)
+    print("%s: %d bytes in, %s" % (FOLDER, len(asked), expected.decode().splitlines()[-1]))
+
+
+if __name__ == "__main__":
+    main()

@@ -1,0 +1,64 @@
+"""The points program's output, worked outside: a basis file and lines in, a table of results out.
+
+Run with `python3 -m outside.points_program` in a folder with `basis.bin`, the lines on standard
+input.
+"""
+
+import re
+import sys
+
+from outside.basis import read_file
+from outside.points import point
+from outside.refusals import Refusal
+from outside.units import UNIT
+
+HEADER = "age deferment year period_ex cohort_ex period_annuity cohort_annuity"
+_NUMBER = rb"(0|[1-9][0-9]{0,3})"
+_LINE = re.compile(_NUMBER + b" " + _NUMBER + b" " + _NUMBER)
+
+
+def _decimal(units):
+    return "%d.%09d" % divmod(units, UNIT)
+
+
+def lines_of(text):
+    """Each line ends in byte 10; the last may lack it, and nothing at all is no line."""
+    lines = text.split(b"\n")
+    return lines[:-1] if lines[-1] == b"" else lines
+
+
+def answered_line(run, number, line):
+    """One line of the answer; lines are numbered from 1, the refused ones counted."""
+    match = _LINE.fullmatch(line)
+    try:
+        if match is None:
+            raise Refusal(12, number)
+        question = [int(digits) for digits in match.groups()]
+        results = point(run, *question)
+    except Refusal as refusal:
+        return str(refusal)
+    return " ".join([str(each) for each in question] + [_decimal(each) for each in results])
+
+
+def points_output(file, text):
+    """All of standard output, every line ended."""
+    try:
+        run = read_file(file)
+    except Refusal as refusal:
+        return "%s\n" % refusal
+    answered = [answered_line(run, number, line)
+                for number, line in enumerate(lines_of(text), start=1)]
+    return "\n".join([HEADER] + answered) + "\n"
+
+
+def main():
+    try:
+        with open("basis.bin", "rb") as lent:
+            file = lent.read()
+    except FileNotFoundError:
+        file = b""
+    sys.stdout.write(points_output(file, sys.stdin.buffer.read()))
+
+
+if __name__ == "__main__":
+    main()

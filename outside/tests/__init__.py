@@ -1,0 +1,1 @@
+"""Tests of the outside calculation itself, against the paper's own figures."""

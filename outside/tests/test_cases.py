@@ -1,0 +1,81 @@
+"""The written cases, read back as the test programs do, give the answers written with them."""
+
+import struct
+import unittest
+from collections import Counter
+
+from outside import make_answer_cases, make_file_cases
+from outside.basis import joined_data, read_file, short_form, write_file
+from outside.enquiries import KINDS, ask
+from outside.refusals import Refusal
+
+
+def answered(function, *arguments):
+    """The answer and the refusal's numbers, one of them empty."""
+    try:
+        return function(*arguments), (0, 0, 0)
+    except Refusal as refusal:
+        return b"", refusal.numbers()
+
+
+def file_case_lines(text):
+    """What a program that follows the format's description prints."""
+    file, place, lines = text[:4_608], 4_608, []
+    while place < len(text):
+        kind, input_length, output_length, rate, patches = struct.unpack_from("<BHHiH", text, place)
+        place += 11
+        base = file if kind == 0 else joined_data(file)
+        lent = bytearray((base + bytes(5_000))[:input_length])
+        for _ in range(patches):
+            offset, byte = struct.unpack_from("<HB", text, place)
+            place += 3
+            lent[offset] = byte
+        output = bytearray(i % 251 for i in range(output_length))
+        if kind == 2:
+            answer, numbers = answered(short_form, bytes(lent), rate, output_length)
+        else:
+            answer, numbers = answered((read_file, write_file)[kind], bytes(lent), output_length)
+        output[:len(answer)] = answer
+        assert len(output) == output_length <= 5_000 and input_length <= 5_000
+        total = sum((i + 1) * byte for i, byte in enumerate(output)) % 4_294_967_296
+        lines.append("%d %d %d %d" % (numbers + (total,)))
+    return lines
+
+
+def answer_case_lines(text):
+    (count,), place = struct.unpack_from("<H", text), 2
+    runs = [text[2 + 4_554 * i:2 + 4_554 * (i + 1)] for i in range(count)]
+    lines, place = [], 2 + 4_554 * count
+    while place < len(text):
+        kind, basis, age, deferment, year = struct.unpack_from("<BBIII", text, place)
+        place += 14
+        try:
+            lines.append("value %d" % ask(runs[basis], KINDS[kind], age, deferment, year))
+        except Refusal as refusal:
+            lines.append("refused %d %d %d" % refusal.numbers())
+    return lines
+
+
+def with_last_line(lines):
+    return ("\n".join(lines + ["cases %d" % len(lines)]) + "\n").encode("ascii")
+
+
+class WrittenCases(unittest.TestCase):
+    def test_file_cases(self):
+        asked, expected = make_file_cases.input_and_output()
+        lines = file_case_lines(asked)
+        self.assertEqual(with_last_line(lines), expected)
+        found = Counter(line.split()[0] for line in lines)
+        self.assertEqual(set(found), {"0", "1", "2", "3", "4", "5", "11"})
+        self.assertGreater(min(found.values()), 20)
+
+    def test_answer_cases(self):
+        asked, expected = make_answer_cases.input_and_output()
+        lines = answer_case_lines(asked)
+        self.assertEqual(with_last_line(lines), expected)
+        found = Counter(" ".join(line.split()[:2]) for line in lines if line[0] == "r")
+        self.assertEqual(set(found), {"refused %d" % n for n in (4, 5, 6, 7, 8, 9, 10)})
+
+
+if __name__ == "__main__":
+    unittest.main()

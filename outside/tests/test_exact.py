@@ -1,0 +1,130 @@
+"""The exact model: its enclosures hold the true fractions, its figures, and its distances hold."""
+
+import random
+import unittest
+from fractions import Fraction
+
+from outside.bases import level, named_bases, random_basis
+from outside.basis import encode
+from outside.distance import distance, exact_answer, improvements_taken, premise_holds
+from outside.enquiries import KINDS, ask
+from outside.exact import SCALE, ExactModel, component, rates_used
+from outside.units import LAST_AGE, LAST_YEAR, UNIT
+
+FACTOR, RATE = KINDS[1], KINDS[2]
+COHORT_ANNUITY = KINDS[8]
+
+
+def plain_rate(model, age, year):
+    """The rate as a plain fraction, for a few years only: its denominator grows with each."""
+    factor = Fraction(1)
+    for each in range(model.basis.base_year + 1, min(year, LAST_YEAR) + 1):
+        factor *= (UNIT - model.improvement(age, each)) / Fraction(UNIT)
+    return min(Fraction(1), model.basis.base_rates[age - 20] * factor / UNIT)
+
+
+def plain_answer(model, kind, age, deferment, year):
+    """Survivorship, expectation or annuity in plain fractions."""
+    survivors = [Fraction(1)]
+    for each in rates_used(kind, age, deferment, year):
+        survivors.append(survivors[-1] * (1 - plain_rate(model, *each)))
+    if kind[0] == "survivorship":
+        return survivors[-1]
+    if kind[0] == "expectation":
+        return Fraction(1, 2) + sum(survivors[1:])
+    discount = Fraction(UNIT, UNIT + model.basis.discount_rate)
+    return sum(discount ** j * survivors[j] for j in range(deferment, LAST_AGE - age + 1))
+
+
+class Enclosures(unittest.TestCase):
+    def test_they_hold_the_plain_fractions_and_are_narrow(self):
+        draw = random.Random(3).randint
+        for seed, (low, high) in enumerate(((0, 20_000_000), (-200_000_000, 200_000_000))):
+            basis = random_basis(seed, low, high, years_after=20)
+            model = ExactModel(basis)
+            for kind in KINDS[2:]:
+                age = draw(145, 150)
+                deferment = draw(0, 150 - age)
+                year = min(LAST_YEAR, basis.base_year + draw(0, 8))
+                exact = exact_answer(model, kind, age, deferment, year)
+                plain = SCALE * (plain_rate(model, age, year) if kind == RATE
+                                 else plain_answer(model, kind, age, deferment, year))
+                self.assertLessEqual(exact.lower, plain)
+                self.assertLessEqual(plain, exact.upper)
+                self.assertLess(exact.upper - exact.lower, 2 ** 40)
+
+    def test_narrow_also_over_a_whole_life(self):
+        model = ExactModel(named_bases()["F 1992"])
+        exact = exact_answer(model, COHORT_ANNUITY, 20, 0, 1992)
+        self.assertLess(exact.upper - exact.lower, 2 ** 40)
+
+
+class Figures(unittest.TestCase):
+    def test_components_without_rounding(self):
+        self.assertEqual(component(10_000_000, 0, 3, 50, 1), Fraction(200_000_000, 27))
+        self.assertEqual(component(20_000_000, 10_000_000, 40, 125, 10), 26_875_000)
+
+    def test_a_tie_is_one_unit_of_distance(self):
+        """Two components of one half each round up: 1 unit, two thirds of the bound for k = 1."""
+        basis = level(age=(1, 0, 2, 50), cohort=(1, 0, 2, 50))
+        found = distance(ExactModel(basis), FACTOR, 60, 0, 2007,
+                         ask(encode(basis), FACTOR, 60, 0, 2007))
+        self.assertTrue(found.premise)
+        self.assertEqual(found.bound, Fraction(3, 2))
+        self.assertLessEqual(found.lower, 1)
+        self.assertLessEqual(1, found.upper)
+
+    def test_improvements_taken(self):
+        model = ExactModel(named_bases()["realistic"])
+        self.assertEqual(len(improvements_taken(model, FACTOR, 60, 0, 2020)), 12)
+        self.assertEqual(len(improvements_taken(model, RATE, 60, 0, 2008)), 0)
+        # A cohort of 148 from 2129 uses 148 in 2129 and 149 in 2130.
+        self.assertEqual(len(improvements_taken(model, COHORT_ANNUITY, 148, 0, 2129)), 121 + 122)
+        # The factor of 2130 is held, so nothing is taken from after it.
+        self.assertEqual(len(improvements_taken(model, COHORT_ANNUITY, 148, 0, 2130)), 122 + 122)
+
+    def test_premise_is_about_every_improvement_taken(self):
+        draw = random.Random(9).randint
+        model = ExactModel(random_basis(2, -2_000_000, 40_000_000, years_after=20))
+        found = set()
+        for kind in KINDS[1:]:
+            for _ in range(20):
+                age = draw(120, 150)
+                question = age, draw(0, 150 - age), draw(model.basis.base_year, LAST_YEAR)
+                expected = all(each >= 0 for each in improvements_taken(model, kind, *question))
+                self.assertEqual(premise_holds(model, kind, *question), expected)
+                found.add(expected)
+        self.assertEqual(found, {True, False})
+
+    def test_premise(self):
+        basis = named_bases()["rising rates"]
+        question = RATE, 100, 0, 2040
+        found = distance(ExactModel(basis), *question, ask(encode(basis), *question))
+        self.assertFalse(found.premise)
+
+
+class Bounds(unittest.TestCase):
+    def test_written_out(self):
+        """k and K at B + 10, and K of a cohort that runs past 2130."""
+        basis = level(age=(5_000_000, 1_000_000, 30, 40))
+        model, run = ExactModel(basis), encode(basis)
+        for kind, question, bound in (
+                (KINDS[1], (60, 0, 2016), Fraction(30, 2)),
+                (KINDS[2], (60, 0, 2016), Fraction(31, 2)),
+                (KINDS[3], (60, 7, 2016), Fraction(7 * 32, 2)),
+                (KINDS[4], (60, 7, 2016), Fraction(7 * (3 * 16 + 2), 2)),
+                (KINDS[5], (140, 4, 2016), Fraction(6 * 7 * (3 * 14 + 2), 4)),
+                (KINDS[6], (140, 4, 2016), Fraction(6 * 7 * (3 * 19 + 2), 4)),
+                (KINDS[7], (140, 4, 2016), Fraction(11 * (30 * 11 + 2), 4)),
+                (KINDS[8], (140, 4, 2016), Fraction(11 * (30 * 20 + 2), 4)),
+                (KINDS[8], (140, 4, 2130), Fraction(11 * (30 * 125 + 2), 4)),
+                (KINDS[8], (150, 0, 2130), Fraction(2, 4)),
+                (KINDS[6], (140, 10, 2016), Fraction(0)),
+                (KINDS[3], (60, 0, 2016), Fraction(0))):
+            found = distance(model, kind, *question, ask(run, kind, *question))
+            self.assertEqual(found.bound, bound, (kind, question))
+            self.assertLessEqual(found.upper, bound)
+
+
+if __name__ == "__main__":
+    unittest.main()
