@@ -1,0 +1,4 @@
+mod Shares
+pub mod LongTerm
+mod Placing
+mod Checking
