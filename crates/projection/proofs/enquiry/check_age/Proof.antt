@@ -1,6 +1,8 @@
 -- The test is the definition's.
-use mathlib.Core.Path.{_∙_, sym, refl}
+use mathlib.Core.Path.{_∙_, sym, ap}
+use mathlib.Core.Bool.{Bool}
 use borrow.Author.Needs.{needs}
+use Rattle.basis.specs.Outcome.{refusal, unless}
 use Rattle.projection.specs.Enquiry.{ageCheck}
 use Rattle.projection.proofs.enquiry.check_age.Statement.{statement}
 use Rattle.projection.proofs.enquiry.check_age.Tie as tie
@@ -10,11 +12,11 @@ is-in-range-requires c κs = search needs
 
 returns : tie.Need-returns
 unfolding ageCheck
-returns c = rw (sym (c .before .is-in-range .ensures) ∙ c .if1 .taken) refl
+returns c = ap (λ (ok : Bool). unless ok (refusal 6 (c .before .before .args .age) 0)) (sym (c .if1 .taken) ∙ c .before .is-in-range .ensures)
 
 returns-2 : tie.Need-returns-2
 unfolding ageCheck
-returns-2 c = rw (sym (c .before .is-in-range .ensures) ∙ c .if1 .left) refl
+returns-2 c = ap (λ (ok : Bool). unless ok (refusal 6 (c .before .before .args .age) 0)) (sym (c .if1 .left) ∙ c .before .is-in-range .ensures)
 
 pub check-age-spec : {M : Type 1} → statement M
 check-age-spec = tie.close (tie.spec is-in-range-requires returns returns-2)

@@ -60,7 +60,7 @@ factor-in-requires c κs =
       h .before .before .age-terms .ensures,
       omega (arith, base, s .pre .0 .limits .base-low),
       omega (arith, h .held-year .ensures, late),
-      l .loop .inv .1,
+      omega (arith, l .loop .inv .1),
     )
 
 enum-known-v : tie.Need-enum-known-v Inv-loop μ-loop
