@@ -1,0 +1,71 @@
+-- A lifeline (01, "A lifeline reader holds the lent data run with an age, a year and the survivors"): the survivors of one cohort,
+-- year by year. The trade's word for its survivors is cohort survivorship.
+use Prim.Native.Nat.{ℕ, _+_}
+use mathlib.Core.Bool.{cond}
+use mathlib.Core.List.{List}
+use lib.Dec.{eqb, leb}
+use lib.IntN.{ℤ, pos, natAbs}
+use Rattle.arithmetic.specs.Fraction.{U}
+use Rattle.basis.specs.declared.Check.{Check}
+use Rattle.basis.specs.declared.Check.the-variants.{Passed, Refused}
+use Rattle.basis.specs.Basis.{basisOf}
+use Rattle.basis.specs.Outcome.{Outcome, value, refused, refusal, unless, firstOf}
+use Rattle.projection.specs.Enquiry.{inRange, enquiryCheck}
+use Rattle.valuation.specs.Enquiry.{valuationCheck}
+use Rattle.valuation.specs.Valuation.{survivorsAfterYear}
+use Rattle.lifeline.specs.declared.Status.{Status}
+use Rattle.lifeline.specs.declared.Status.the-variants as status
+use Rattle.lifeline.specs.declared.Begun.{Begun}
+use Rattle.lifeline.specs.declared.Moved.{Moved}
+
+-- ---- the start
+abbrev pub begun : ℕ → ℕ → ℕ → Check → Begun
+begun age year survivors check = record { age = age; year = year; survivors = survivors; check = check }
+
+-- it starts with U at an age and year; a refused start holds age, year and survivors 0
+abbrev pub begunAt : ℕ → ℕ → Check → Begun
+begunAt age year Passed = begun age year U Passed
+begunAt age year (Refused r) = begun 0 0 0 (Refused r)
+
+-- checked as an enquiry with deferment 0
+unfoldable pub startAt : List ℕ → ℕ → ℕ → Begun
+startAt run age year = begunAt age year (valuationCheck run age 0 year)
+
+-- ---- what a step checks again, in its own order
+-- 7: before B, or year − age after 2110; a year after 2130 may stand
+unfoldable pub standingYearCheck : ℕ → ℕ → ℕ → Check
+standingYearCheck base age year = unless (inRange base (2110 + age) year) (refusal 7 year 0)
+
+-- the data run and the age (6), then the year
+abbrev pub standingCheck : List ℕ → ℕ → ℕ → Check
+standingCheck run age year = firstOf (enquiryCheck run age) (standingYearCheck (basisOf run .base) age year)
+
+-- 5: survivors above U, places 4554 and 0
+unfoldable pub survivorsCheck : ℕ → Check
+survivorsCheck survivors = unless (leb survivors U) (refusal 5 4554 0)
+
+-- then the survivors
+abbrev pub stepCheck : List ℕ → ℕ → ℕ → ℕ → Check
+stepCheck run age year survivors = firstOf (standingCheck run age year) (survivorsCheck survivors)
+
+-- ---- the step
+abbrev pub moved : ℕ → ℕ → ℕ → Status → Moved
+moved age year survivors status = record { age = age; year = year; survivors = survivors; status = status }
+
+-- a year on with its survivors, which are never below zero; refused, it is left unchanged
+abbrev pub yearLater : ℕ → ℕ → ℕ → Outcome ℤ → Moved
+yearLater age year survivors (value s) = moved (age + 1) (year + 1) (natAbs s) status.Advanced
+yearLater age year survivors (refused r) = moved age year survivors (status.Refused r)
+
+-- at age 150 it says ended, and is left unchanged; else one year of cohort survivorship
+unfoldable pub lived : List ℕ → ℕ → ℕ → ℕ → Moved
+lived run age year survivors =
+    cond (eqb age 150) (moved age year survivors status.Ended) (yearLater age year survivors (survivorsAfterYear (basisOf run) age year (pos survivors)))
+
+-- a refused step leaves it unchanged
+abbrev pub unlessRefused : ℕ → ℕ → ℕ → Check → Moved → Moved
+unlessRefused age year survivors Passed m = m
+unlessRefused age year survivors (Refused r) m = moved age year survivors (status.Refused r)
+
+unfoldable pub stepAt : List ℕ → ℕ → ℕ → ℕ → Moved
+stepAt run age year survivors = unlessRefused age year survivors (stepCheck run age year survivors) (lived run age year survivors)

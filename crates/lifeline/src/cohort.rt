@@ -1,0 +1,142 @@
+// The start and the step of a lifeline by its numbers: any bytes, any age and year, any survivors.
+ghost use mathlib.Core.Path.{_≡_};
+ghost use Prim.Native.Nat.{_+_, _≤_, _<_};
+ghost use lib.IntN.{pos};
+ghost use Rattle.basis.specs.Basis.{basisOf, Accepted};
+ghost use Rattle.projection.specs.Enquiry.{inRange};
+ghost use Rattle.valuation.specs.Valuation.{survivorsAfterYear};
+ghost use Rattle.lifeline.specs.Lifeline.{startAt, standingYearCheck, standingCheck, survivorsCheck, stepCheck, yearLater, stepAt};
+use crate::Begun;
+use crate::Moved;
+use crate::Status;
+use basis::Answer;
+use basis::Check;
+use basis::Refusal;
+
+const UNIT: u64 = 1_000_000_000;
+
+// U at an age and year, checked as an enquiry with deferment 0.
+pub fn start_at(run: &[u8], age: u32, year: u32) -> Begun
+    ensures { λ r. ⌜ r ≡ startAt (now (run .entry)) age year ⌝ }
+{
+    match valuation::enquiry::check_valuation(run, age, 0, year) {
+        Check::Passed => Begun {
+            age: age,
+            year: year,
+            survivors: UNIT,
+            check: Check::Passed,
+        },
+        Check::Refused(r) => Begun {
+            age: 0,
+            year: 0,
+            survivors: 0,
+            check: Check::Refused(r),
+        },
+    }
+}
+
+// From B on, with a birth year up to 2110. The age has been checked, so that the sum is small.
+fn is_standing_year(base: u32, age: u32, year: u32) -> bool
+    requires { ⌜ age ≤ 150 ⌝ }
+    ensures { λ r. ⌜ r ≡ inRange base (2110 + age) year ⌝ }
+{
+    base <= year && year <= 2110 + age
+}
+
+// 7: any other year.
+fn check_standing_year(base: u32, age: u32, year: u32) -> Check
+    requires { ⌜ age ≤ 150 ⌝ }
+    ensures { λ r. ⌜ r ≡ standingYearCheck base age year ⌝ }
+{
+    if is_standing_year(base, age, year) {
+        Check::Passed
+    } else {
+        Check::Refused(Refusal {
+            number: 7,
+            first: year as u64,
+            second: 0,
+        })
+    }
+}
+
+// The data run afresh and the age, then the year.
+fn check_standing(run: &[u8], age: u32, year: u32) -> Check
+    ensures { λ r. ⌜ r ≡ standingCheck (now (run .entry)) age year ⌝ }
+{
+    match projection::enquiry::check_enquiry(run, age) {
+        Check::Passed => check_standing_year(basis::fields::base_year(run), age, year),
+        Check::Refused(r) => Check::Refused(r),
+    }
+}
+
+// 5: survivors above U, with the length of the run for a place.
+fn check_survivors(survivors: u64) -> Check
+    ensures { λ r. ⌜ r ≡ survivorsCheck survivors ⌝ }
+{
+    if survivors <= UNIT {
+        Check::Passed
+    } else {
+        Check::Refused(Refusal {
+            number: 5,
+            first: 4554,
+            second: 0,
+        })
+    }
+}
+
+// All that a step checks before it moves.
+fn check_step(run: &[u8], age: u32, year: u32, survivors: u64) -> Check
+    ensures { λ r. ⌜ r ≡ stepCheck (now (run .entry)) age year survivors ⌝ }
+{
+    match check_standing(run, age, year) {
+        Check::Passed => check_survivors(survivors),
+        Check::Refused(r) => Check::Refused(r),
+    }
+}
+
+// One year of cohort survivorship; where its rate is refused, the lifeline stays.
+fn year_later(run: &[u8], age: u32, year: u32, survivors: u64) -> Moved
+    requires { ⌜ Accepted (now run) × (20 ≤ age) × (age < 150) × (basisOf (now run) .base ≤ year) × (year ≤ 2260) × (survivors ≤ 1_000_000_000) ⌝ }
+    ensures { λ r. ⌜ r ≡ yearLater age year survivors (survivorsAfterYear (basisOf (now (run .entry))) age year (pos survivors)) ⌝ }
+{
+    match valuation::survivorship::survivors_after_year(run, age, year, survivors) {
+        Answer::Value(s) => Moved {
+            age: age + 1,
+            year: year + 1,
+            survivors: s,
+            status: Status::Advanced,
+        },
+        Answer::Refused(r) => Moved {
+            age: age,
+            year: year,
+            survivors: survivors,
+            status: Status::Refused(r),
+        },
+    }
+}
+
+// The checks, then the end at 150, then the year.
+pub fn step_at(run: &[u8], age: u32, year: u32, survivors: u64) -> Moved
+    ensures { λ r. ⌜ r ≡ stepAt (now (run .entry)) age year survivors ⌝ }
+{
+    match check_step(run, age, year, survivors) {
+        Check::Passed => {
+            if age == 150 {
+                Moved {
+                    age: age,
+                    year: year,
+                    survivors: survivors,
+                    status: Status::Ended,
+                }
+            } else {
+                year_later(run, age, year, survivors)
+            }
+        }
+        Check::Refused(r) => Moved {
+            age: age,
+            year: year,
+            survivors: survivors,
+            status: Status::Refused(r),
+        },
+    }
+}
