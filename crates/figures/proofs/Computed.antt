@@ -1,0 +1,12 @@
+-- The figures of the paper hold, by computation of the definitions. Assumes nothing.
+use mathlib.Core.Path.{refl}
+use Rattle.basis.specs.Basis.{accumulationOf}
+use Rattle.basis.specs.Outcome.{steps, sumOf}
+use Rattle.component.specs.Component.{componentOf}
+use Rattle.projection.specs.Projection.{additionOf, improvementOf, improvementNeeded, factorNeeded, factorFrom, heldYear, factorOf, rateOf}
+use Rattle.valuation.specs.Valuation.{survivorsAfterYear, survivorsOf, discountAfter, paymentAfter, annuityOf}
+use Rattle.figures.specs.Figures.{figures, Hold}
+
+pub figures-hold : Hold figures
+unfolding componentOf additionOf improvementOf improvementNeeded factorNeeded factorFrom heldYear factorOf rateOf steps sumOf accumulationOf survivorsAfterYear survivorsOf discountAfter paymentAfter annuityOf
+figures-hold = refl

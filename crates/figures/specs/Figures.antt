@@ -1,0 +1,96 @@
+-- The figures that 01 marks to be proved ("Figures to prove"), as one table: what the definitions that the contracts cite give,
+-- and what 01 states.
+use Prim.Native.Nat.{ℕ}
+use mathlib.Core.Path.{_≡_}
+use mathlib.Core.List.{List, [], _∷_, map}
+use lib.IntN.{ℤ, pos, negsuc}
+use Rattle.basis.specs.Basis.{Basis}
+use Rattle.basis.specs.Outcome.{Outcome, value, refused, refusal}
+use Rattle.basis.specs.declared.Convergence.{Convergence}
+use Rattle.component.specs.Component.{componentOf, terms}
+use Rattle.short_form.specs.ShortForm.{longTermOf}
+use Rattle.projection.specs.Projection.{improvementOf, improvementNeeded, factorOf}
+use Rattle.valuation.specs.Valuation.{annuityOf}
+use Rattle.valuation.specs.declared.Kind.the-variants.{Period, Cohort}
+
+pub record Figure : Type 0 where
+  pub worked : Outcome ℤ
+  pub stated : Outcome ℤ
+
+infix 3 _gives_
+abbrev pub _gives_ : Outcome ℤ → Outcome ℤ → Figure
+w gives s = record { worked = w; stated = s }
+
+-- a component of I, L, T, P after n years; the long-term rate of the short form at an age
+abbrev component : ℤ → ℤ → ℕ → ℕ → ℕ → Outcome ℤ
+component I L T P n = value (componentOf (terms I L T P) n)
+
+abbrev shortForm : ℕ → Outcome ℤ
+shortForm age = value (longTermOf (pos 10_000_000) age)
+
+-- ---- the bases of the figures: F and B 2006, one base rate at every age, the same terms at every age and at every birth year
+abbrev level : ℕ → ℤ → ℤ → Convergence → Convergence → Basis
+level rate discount addition byAge byBirthYear =
+    record {
+      foundation = 2006;
+      base = 2006;
+      addition = addition;
+      discount = discount;
+      baseRate = λ age. rate;
+      byAge = λ age. byAge;
+      byBirthYear = λ year. byBirthYear;
+    }
+
+-- a component that stays the same: I is L
+abbrev steady : ℤ → Convergence
+steady rate = terms rate rate 20 50
+
+-- improvement 10,000,000 every year
+abbrev improving : Basis
+improving = level 0 (pos 0) (pos 0) (steady (pos 10_000_000)) (steady (pos 0))
+
+-- improvement −500,000,000, which the limits leave to age, birth year and addition together
+abbrev worsening : Basis
+worsening = level 0 (pos 0) (negsuc 99_999_999) (steady (negsuc 199_999_999)) (steady (negsuc 199_999_999))
+
+-- age I 200,000,000, L −200,000,000, T 4, P 150, all else 0
+abbrev rising : Basis
+rising = level 0 (pos 0) (pos 0) (terms (pos 200_000_000) (negsuc 199_999_999) 4 150) (steady (pos 0))
+
+-- rate 100,000,000, discount 200,000,000
+abbrev tenth : Basis
+tenth = level 100_000_000 (pos 200_000_000) (pos 0) (steady (pos 0)) (steady (pos 0))
+
+-- ---- the table, in 01's order
+abbrev pub figures : List Figure
+figures =
+    (component (pos 20_000_000) (pos 10_000_000) 40 50 0 gives value (pos 20_000_000))
+    ∷ (component (pos 20_000_000) (pos 10_000_000) 40 50 10 gives value (pos 18_437_500))
+    ∷ (component (pos 20_000_000) (pos 10_000_000) 40 50 20 gives value (pos 15_000_000))
+    ∷ (component (pos 20_000_000) (pos 10_000_000) 40 50 40 gives value (pos 10_000_000))
+    ∷ (component (pos 20_000_000) (pos 10_000_000) 40 50 41 gives value (pos 10_000_000))
+    ∷ (component (pos 20_000_000) (pos 10_000_000) 40 125 10 gives value (pos 26_875_000))
+    ∷ (component (pos 10_000_000) (pos 0) 3 50 1 gives value (pos 7_407_407))
+    ∷ (component (pos 1) (pos 0) 2 50 1 gives value (pos 1))
+    ∷ (component (negsuc 0) (pos 0) 2 50 1 gives value (pos 0))
+    ∷ (shortForm 90 gives value (pos 10_000_000))
+    ∷ (shortForm 91 gives value (pos 9_666_667))
+    ∷ (shortForm 119 gives value (pos 333_333))
+    ∷ (shortForm 120 gives value (pos 0))
+    ∷ (factorOf improving 60 2007 gives value (pos 990_000_000))
+    ∷ (factorOf improving 60 2008 gives value (pos 980_100_000))
+    ∷ (factorOf improving 60 2009 gives value (pos 970_299_000))
+    ∷ (factorOf worsening 60 2007 gives value (pos 1_500_000_000))
+    ∷ (factorOf worsening 60 2008 gives value (pos 2_250_000_000))
+    ∷ (factorOf worsening 60 2009 gives value (pos 3_375_000_000))
+    ∷ (factorOf worsening 60 2010 gives refused (refusal 10 60 2010))
+    ∷ (value (improvementOf rising 60 2007) gives value (pos 587_500_000))
+    ∷ (improvementNeeded 60 2007 (improvementOf rising 60 2007) gives refused (refusal 9 60 2007))
+    ∷ (factorOf rising 60 2007 gives refused (refusal 9 60 2007))
+    ∷ (annuityOf tenth Period 149 2006 0 gives value (pos 1_750_000_000))
+    ∷ (annuityOf tenth Cohort 149 2006 0 gives value (pos 1_750_000_000))
+    ∷ []
+
+-- every row gives what is stated
+abbrev pub Hold : List Figure → Type 0
+Hold table = map (λ f. f .worked) table ≡ map (λ f. f .stated) table
