@@ -2,3 +2,5 @@ mod Shares
 pub mod LongTerm
 mod Placing
 mod Checking
+mod Reading
+pub mod Accepted

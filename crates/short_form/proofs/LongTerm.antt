@@ -24,14 +24,14 @@ none (pos n) = rw mul-zero
 none (negsuc n) = rw mul-zero
 
 module _ (rate : ℤ) (age : ℕ) where
-  pub to-ninety : age ≤ 90 → longTermOf rate age ≡ rate
-  to-ninety h = let e : shareOf age ≡ 30 = omega arith in rw e (whole rate)
+  pub full-rate : age ≤ 90 → longTermOf rate age ≡ rate
+  full-rate h = let e : shareOf age ≡ 30 = omega arith in rw e (whole rate)
 
-  pub from-ninety : 90 ≤ age → longTermOf rate age ≡ roundDiv (rate *ℤ pos (120 - age)) 30
-  from-ninety h = let e : shareOf age ≡ 120 - age = omega arith in rw e
+  pub running-off : 90 ≤ age → longTermOf rate age ≡ roundDiv (rate *ℤ pos (120 - age)) 30
+  running-off h = let e : shareOf age ≡ 120 - age = omega arith in rw e
 
-  pub from-120 : 120 ≤ age → longTermOf rate age ≡ pos 0
-  from-120 h = let e : shareOf age ≡ 0 = omega arith in rw (e, none rate)
+  pub run-off : 120 ≤ age → longTermOf rate age ≡ pos 0
+  run-off h = let e : shareOf age ≡ 0 = omega arith in rw (e, none rate)
 
 -- ---- the size
 pub share-most : (age : ℕ) → shareOf age ≤ 30

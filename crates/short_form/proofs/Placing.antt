@@ -79,7 +79,7 @@ length-rates rate age zero = refl
 length-rates rate age (suc n) = rw (length-append, length-rates rate (age + 1) n) (omega arith)
 
 -- ---- the whole
-repeated : (n x : ℕ) → length (replicate n x) ≡ n
+pub repeated : (n x : ℕ) → length (replicate n x) ≡ n
 repeated n x = length-replicate n x
 
 module _ (run out a b c d : List ℕ) (long : length run ≡ 4554) (room : 4554 ≤ length out) where

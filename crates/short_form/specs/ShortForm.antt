@@ -1,14 +1,17 @@
 -- The short form (01, "Short form"): a data run with one long-term rate S in place of its own long-term rates, periods and
 -- proportions.
-use Prim.Native.Nat.{ℕ, zero, suc, _+_, _*_, _-_, min}
+use Prim.Native.Nat.{ℕ, zero, suc, _+_, _*_, _-_, _≤_, min}
+use mathlib.Core.Path.{_≡_}
 use mathlib.Core.List.{List, [], _++_}
 use lib.ListN.{take, drop, replicate}
 use lib.IntN.{ℤ, pos, negℤ, _*ℤ_}
 use Rattle.arithmetic.specs.Round.{roundDiv}
 use Rattle.basis.specs.declared.Check.{Check}
+use Rattle.basis.specs.declared.Convergence.{Convergence}
 use Rattle.basis.specs.Bytes.{i32Bytes}
 use Rattle.basis.specs.Outcome.{refusal, unless, firstOf}
 use Rattle.basis.specs.Run.{between, runCheck}
+use Rattle.basis.specs.Basis.{Basis}
 
 -- ---- the rates by age
 -- the share of S at an age, in thirtieths: max(0, min(30, 120 − age)), since a difference of natural numbers is 0 at the least
@@ -45,3 +48,17 @@ shortFormOf run rate = agesOf run rate ++ birthYearsOf run
 -- ---- the check: the run's own, then S
 unfoldable pub shortFormCheck : List ℕ → ℤ → Check
 shortFormCheck run rate = firstOf (runCheck run) (unless (between (negℤ (pos 200_000_000)) (pos 200_000_000) rate) (refusal 5 1078 0))
+
+-- ---- what it stands for
+abbrev pub shortTerms : ℤ → ℤ → Convergence
+shortTerms initial long = record { initial = initial; long = long; period = 20; remaining = 50 }
+
+-- a basis that differs from another only in long-term rates, T and P
+pub record ShortFormOf (b : Basis) (rate : ℤ) (short : Basis) : Type 0 where
+  pub foundation : short .foundation ≡ b .foundation
+  pub base : short .base ≡ b .base
+  pub addition : short .addition ≡ b .addition
+  pub discount : short .discount ≡ b .discount
+  pub baseRate : (age : ℕ) → 20 ≤ age → age ≤ 150 → short .baseRate age ≡ b .baseRate age
+  pub byAge : (age : ℕ) → 20 ≤ age → age ≤ 150 → short .byAge age ≡ shortTerms (b .byAge age .initial) (longTermOf rate age)
+  pub byBirthYear : (year : ℕ) → 1842 ≤ year → year ≤ 2110 → short .byBirthYear year ≡ shortTerms (b .byBirthYear year .initial) (pos 0)

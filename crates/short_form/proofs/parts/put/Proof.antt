@@ -1,3 +1,4 @@
+-- What is copied stands in its place.
 use Rattle.short_form.proofs.Placing.{copied}
 use borrow.Author.Needs.{needs}
 use Rattle.short_form.proofs.parts.put.Statement.{statement}

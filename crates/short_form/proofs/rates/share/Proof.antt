@@ -1,3 +1,4 @@
+-- The table of shares has the rule at every age.
 use Rattle.short_form.proofs.Shares.{shares, at-age}
 use borrow.Author.Needs.{needs}
 use Rattle.short_form.proofs.rates.share.Statement.{statement}
