@@ -121,6 +121,23 @@ def limits_basis(seed):
                  draw((0, DISCOUNT_LIMIT)), **tables)
 
 
+def gentle_bases():
+    """Bases without a negative improvement, so that the premise of the distances holds."""
+    gentle = {}
+    for seed in (100, 101):
+        gentle["random small %d" % seed] = random_basis(seed, 0, 5_000_000, 60_000_000, 30, 100)
+    for seed in (104, 105):
+        # Rates of a few units: the steps of rounding count for most there.
+        gentle["random tiny %d" % seed] = random_basis(seed, 0, 8, 3_000, 5, 100)
+    # No addition and hardly any improvement: factors fall by half a unit or a whole one each year.
+    gentle["one unit"] = level(1992, 1992, 0, 0, 499_999_999, (1, 1, 50, 50), (0, 0, 50, 50))
+    gentle["odd units"] = level(1992, 1992, 0, 333_333_333 // 7, 123_456_789,
+                                (3_333_333, 1_111_111, 47, 61), (7_777_777, 0, 43, 87))
+    # Both components are one half in the first year and both round up: two thirds of the bound.
+    gentle["ties"] = level(1992, 1992, 0, 0, 999_999_999, (1, 0, 2, 50), (1, 0, 2, 50))
+    return gentle
+
+
 # ---- all of them by name
 
 def _flat(rate):

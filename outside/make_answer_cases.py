@@ -1,23 +1,24 @@
 """Writes the cases of `check_answers`: enquiries of all nine kinds, with the answers.
 
-Run with `python3 -m outside.make_answer_cases` from the folder that holds `crates/`.
+Run with `python3 -m outside.make_answer_cases [folder]` from the folder that holds `crates/`.
 
 Standard input, all numbers little-endian: the number of bases (2 bytes), as many data runs of 4,554
 bytes, then cases to the end. A case is its kind (1 byte, its place in `enquiries.KINDS`), the place
-of its basis (1), and age, deferment and year (4 each, unsigned). Expected, a line a case: `value`
-and the number, or `refused` and the refusal's number and places.
+of its basis (1), and age, deferment and year (4 each, unsigned). A place beyond the bases stands
+for a data run of no bytes. Expected, a line a case: `value` and the number, or `refused` and the
+refusal's number and places.
 """
 
 import random
-from pathlib import Path
 
-from outside.bases import named_bases, realistic
+from outside.bases import gentle_bases, named_bases, realistic
 from outside.basis import decode, encode
 from outside.damage import with_number
-from outside.enquiries import KINDS, ask
+from outside.enquiries import IMPROVEMENT, KINDS, ask
 from outside.refusals import Refusal, outcome
+from outside.units import LAST_AGE, LAST_YEAR
+from outside.vectors import command, expected_output, write
 
-FOLDER = Path("crates/check_answers")
 GREATEST = 4_294_967_295
 
 CHOSEN = ("sample", "realistic", "improvements high", "all limits low", "P 150", "B 2130", "F 2080",
@@ -25,19 +26,11 @@ CHOSEN = ("sample", "realistic", "improvements high", "all limits low", "P 150",
           "just beyond low", "random gentle", "random mixed", "random wide")
 
 
-def bases():
-    """Accepted data runs by choice, then one refused by 4 and one by 5."""
-    by_name = named_bases()
-    runs = [encode(by_name[name]) for name in CHOSEN]
-    return runs + [with_number(encode(realistic()), 20, 1, 1),
-                   with_number(encode(realistic()), 554 + 4 * 40, 4, 200_000_001)]
-
-
 # ---- the questions
 
 def edges(base_year, foundation_year):
     """Ages, deferments and years at and beyond each end, and numbers that fill four bytes."""
-    last = 2130
+    last = LAST_YEAR
     yield from [(20, 0, base_year), (150, 0, base_year), (150, 0, last), (20, 0, last),
                 (20, 130, base_year), (20, 130, last), (149, 1, last), (149, 0, last),
                 (149, 1, base_year), (100, 50, last), (100, 49, last), (21, 128, base_year)]
@@ -58,36 +51,59 @@ def ordinary(draw, base_year):
     return age, deferment, draw(first, min(2130, first + 40))
 
 
-def along(kind, basis, draw):
+def stopping(kind, basis, draw):
     """Ordinary questions, the first years in order, and the ages and years at which bases stop."""
     for _ in range(14):
         yield ordinary(draw, basis.base_year)
     if kind[1] is None:
-        first = basis.foundation_year if kind[0] == "improvement" else basis.base_year
+        first = basis.foundation_year if kind[0] == IMPROVEMENT else basis.base_year
         for years in range(10):
             yield 80, 0, first + years
     # Just before and at the ages that stop the chosen bases, and past them by deferment.
     for age in (79, 80, 97, 110):
-        yield age, 1, min(2130, basis.base_year + 10)
-        yield age - 3, 6, min(2130, basis.base_year + 1)
+        yield age, 1, min(LAST_YEAR, basis.base_year + 10)
+        yield age - 3, 6, min(LAST_YEAR, basis.base_year + 1)
 
 
-def questions(kind, place, basis, draw):
-    """The edges on every third basis, and few questions on the two refused ones at the end."""
-    if place >= len(CHOSEN):
-        yield from [(60, 0, 2020), (19, 0, 2020), (150, 1, 2020), (60, 0, 2131)]
-        return
-    if place % 3 == 1:
-        yield from edges(basis.base_year, basis.foundation_year)
-    yield from along(kind, basis, draw)
+def stopping_and_edges(kind, basis, draw):
+    yield from edges(basis.base_year, basis.foundation_year)
+    yield from stopping(kind, basis, draw)
 
 
-def cases():
+def answerable(kind, basis, draw):
+    """Any that 6, 8 and 7 do not refuse; every other one not deferred, every third soon after B."""
+    for _ in range(60):
+        age = draw(20, LAST_AGE)
+        deferment = draw(0, 1) and draw(0, LAST_AGE - age)
+        last_year = LAST_YEAR if draw(0, 2) else min(LAST_YEAR, basis.base_year + 3)
+        yield age, deferment, draw(basis.base_year, last_year)
+
+
+def refused(kind, basis, draw):
+    """The data run's refusal comes before what could be said of the question."""
+    yield from [(60, 0, 2020), (19, 0, 2020), (150, 1, 2020), (60, 0, 2131)]
+
+
+# ---- the cases
+
+def bases():
+    """Each data run with its questions: accepted ones by choice, with the edges on every third; one
+    refused by 4 and one by 5; the gentle ones, for the distances.
+    """
+    by_name = named_bases()
+    return ([(encode(by_name[name]), stopping_and_edges if place % 3 == 1 else stopping)
+             for place, name in enumerate(CHOSEN)]
+            + [(with_number(encode(realistic()), 20, 1, 1), refused),
+               (with_number(encode(realistic()), 554 + 4 * 40, 4, 200_000_001), refused)]
+            + [(encode(basis), answerable) for basis in gentle_bases().values()])
+
+
+def cases(runs_and_questions):
     draw = random.Random(20_060_101).randint
-    runs = bases()
     for number, kind in enumerate(KINDS):
-        for place, run in enumerate(runs):
-            for age, deferment, year in questions(kind, place, decode(run), draw):
+        for place, (run, questions) in enumerate(runs_and_questions + [(b"", refused)]):
+            basis = decode(run) if run else None
+            for age, deferment, year in questions(kind, basis, draw):
                 if kind[1] is None:
                     deferment = 0
                 asked = bytes([number, place]) + b"".join(
@@ -98,19 +114,17 @@ def cases():
 
 def input_and_output():
     """The bytes of standard input and of the expected standard output."""
-    runs, asked_and_answered = bases(), list(cases())
-    lines = [line for _, line in asked_and_answered] + ["cases %d" % len(asked_and_answered)]
-    return (len(runs).to_bytes(2, "little") + b"".join(runs)
+    runs_and_questions = bases()
+    asked_and_answered = list(cases(runs_and_questions))
+    return (len(runs_and_questions).to_bytes(2, "little")
+            + b"".join(run for run, _ in runs_and_questions)
             + b"".join(asked for asked, _ in asked_and_answered),
-            ("\n".join(lines) + "\n").encode("ascii"))
+            expected_output([line for _, line in asked_and_answered]))
 
 
 def main():
-    asked, expected = input_and_output()
-    FOLDER.mkdir(parents=True, exist_ok=True)
-    (FOLDER / "stdin").write_bytes(asked)
-    (FOLDER / "stdout").write_bytes(expected)
-    print("%s: %d bytes in, %s" % (FOLDER, len(asked), expected.decode().splitlines()[-1]))
+    options = command("Writes the cases of check_answers.", "crates/check_answers").parse_args()
+    write(options.folder, *input_and_output())
 
 
 if __name__ == "__main__":

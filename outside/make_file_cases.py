@@ -1,6 +1,7 @@
 """Writes the cases of `check_files`: files read, data runs written, short forms, with the answers.
 
-Run with `python3 -m outside.make_file_cases` from the folder that holds `crates/`.
+Run with `python3 -m outside.make_file_cases [--without-short-form] [folder]` from the folder that
+holds `crates/`; the short form's cases are left out until `check_files` works them.
 
 Standard input, all numbers little-endian: the realistic basis as a file of 4,608 bytes, then cases
 to the end. A case is its kind (1 byte: 0 read, 1 write, 2 short form), input length (2), output
@@ -12,7 +13,6 @@ the sum of (place + 1) x byte over the output after the call, modulo 2^32.
 """
 
 import random
-from pathlib import Path
 
 from outside.bases import limits_basis, random_basis, realistic, sample
 from outside.basis import encode, encode_file, read_file, short_form, write_file
@@ -20,8 +20,8 @@ from outside.damage import damaged_runs, of_length, with_flipped, with_number
 from outside.damaged_files import damaged_files
 from outside.layout import FILE_LENGTH, RUN_LENGTH
 from outside.refusals import Refusal, outcome
+from outside.vectors import command, expected_output, write
 
-FOLDER = Path("crates/check_files")
 READ, WRITE, SHORT_FORM = 0, 1, 2
 NEEDED = {READ: RUN_LENGTH, WRITE: FILE_LENGTH, SHORT_FORM: RUN_LENGTH}
 LONGEST_OUTPUT = 5_000
@@ -111,21 +111,21 @@ def short_form_cases():
         yield case(SHORT_FORM, with_number(RUN, offset, width, number), None, -200_000_001)
 
 
-def input_and_output():
+def input_and_output(with_short_form=True):
     """The bytes of standard input and of the expected standard output."""
-    cases = [each for group in (sound_cases, short_output_cases, damage_cases, short_form_cases)
-             for each in group()]
-    lines = [line for _, line in cases] + ["cases %d" % len(cases)]
+    cases = [(asked, line) for group in (sound_cases, short_output_cases, damage_cases,
+                                         short_form_cases)
+             for asked, line in group() if with_short_form or asked[0] != SHORT_FORM]
     return (FILE + b"".join(asked for asked, _ in cases),
-            ("\n".join(lines) + "\n").encode("ascii"))
+            expected_output([line for _, line in cases]))
 
 
 def main():
-    asked, expected = input_and_output()
-    FOLDER.mkdir(parents=True, exist_ok=True)
-    (FOLDER / "stdin").write_bytes(asked)
-    (FOLDER / "stdout").write_bytes(expected)
-    print("%s: %d bytes in, %s" % (FOLDER, len(asked), expected.decode().splitlines()[-1]))
+    parser = command("Writes the cases of check_files.", "crates/check_files")
+    parser.add_argument("--without-short-form", action="store_true",
+                        help="leave the short form's cases out")
+    options = parser.parse_args()
+    write(options.folder, *input_and_output(not options.without_short_form))
 
 
 if __name__ == "__main__":

@@ -50,7 +50,8 @@ def answer_case_lines(text):
         kind, basis, age, deferment, year = struct.unpack_from("<BBIII", text, place)
         place += 14
         try:
-            lines.append("value %d" % ask(runs[basis], KINDS[kind], age, deferment, year))
+            run = runs[basis] if basis < count else b""
+            lines.append("value %d" % ask(run, KINDS[kind], age, deferment, year))
         except Refusal as refusal:
             lines.append("refused %d %d %d" % refusal.numbers())
     return lines
@@ -69,12 +70,18 @@ class WrittenCases(unittest.TestCase):
         self.assertEqual(set(found), {"0", "1", "2", "3", "4", "5", "11"})
         self.assertGreater(min(found.values()), 20)
 
+    def test_file_cases_without_the_short_form(self):
+        whole, _ = make_file_cases.input_and_output()
+        asked, expected = make_file_cases.input_and_output(with_short_form=False)
+        self.assertEqual(with_last_line(file_case_lines(asked)), expected)
+        self.assertLess(len(asked), len(whole))
+
     def test_answer_cases(self):
         asked, expected = make_answer_cases.input_and_output()
         lines = answer_case_lines(asked)
         self.assertEqual(with_last_line(lines), expected)
         found = Counter(" ".join(line.split()[:2]) for line in lines if line[0] == "r")
-        self.assertEqual(set(found), {"refused %d" % n for n in (4, 5, 6, 7, 8, 9, 10)})
+        self.assertEqual(set(found), {"refused %d" % n for n in (1, 4, 5, 6, 7, 8, 9, 10)})
 
 
 if __name__ == "__main__":

@@ -13,8 +13,6 @@ use basis::Refusal;
 use basis::little_endian;
 use basis_file::read;
 use basis_file::write;
-use libc::STDIN_FILENO;
-use libc::STDOUT_FILENO;
 
 // ---- the input and the output of a case
 fn room() -> [u8; 5000]
@@ -55,7 +53,7 @@ fn lay_base(file: &[u8], kind: u8, input: &mut [u8])
 // One patch of standard input.
 fn patch(input: &mut [u8]) {
     let mut read = [0u8; 3];
-    io::read_full(STDIN_FILENO, &mut read);
+    check_support::read_whole(&mut read);
     let at = little_endian::read_u16(&read, 0) as usize;
     if at < input.len() {
         input[at] = read[2];
@@ -91,16 +89,9 @@ fn sum_of(output: &[u8]) -> u32
     sum
 }
 
-fn print_number(n: u64, end: &[u8]) {
-    io::print_decimal(STDOUT_FILENO, n);
-    io::write_all(STDOUT_FILENO, end);
-}
-
 fn print_line(r: Refusal, sum: u32) {
-    print_number(r.number as u64, b" ");
-    print_number(r.first, b" ");
-    print_number(r.second, b" ");
-    print_number(sum as u64, b"\n");
+    check_support::print_refusal(r, b" ");
+    check_support::print_number(sum as u64, b"\n");
 }
 
 fn print_answer(c: Check, sum: u32) {
@@ -149,7 +140,7 @@ fn run_case(file: &[u8], header: &[u8])
 // Reads a case and works it; false at the end of the input.
 fn next_case(file: &[u8]) -> bool {
     let mut header = [0u8; 11];
-    if io::read_full(STDIN_FILENO, &mut header) < 11 {
+    if !check_support::read_whole(&mut header) {
         return false;
     }
     run_case(file, &header);
@@ -167,8 +158,6 @@ fn run_cases(file: &[u8]) -> u64 {
 
 fn main() {
     let mut file = file_room();
-    io::read_full(STDIN_FILENO, &mut file);
-    let cases = run_cases(&file);
-    io::write_all(STDOUT_FILENO, b"cases ");
-    print_number(cases, b"\n");
+    check_support::read_whole(&mut file);
+    check_support::print_cases(run_cases(&file));
 }

@@ -1,0 +1,132 @@
+// Runs the cases of an outside calculation on the enquiries: all nine kinds, with every refusal.
+//
+// Standard input, all numbers little-endian: the number of bases (2 bytes), as many data runs of 4,554 bytes, then cases
+// to the end. A case is its kind (1 byte: 0 improvement, 1 factor, 2 rate, then period and cohort: 3 and 4 survivorship,
+// 5 and 6 expectation, 7 and 8 annuity), the place of its basis (1), and age, deferment and year (4 each). A line a case:
+// `value` and the number, or `refused` and the refusal's number and places.
+ghost use mathlib.Core.Path.{_≡_};
+ghost use lib.ListN.{length};
+use basis::Answer;
+use basis::Refusal;
+use basis::SignedAnswer;
+use basis::little_endian;
+use valuation::Kind;
+
+// ---- the bases
+// Room for 32 data runs.
+fn room() -> [u8; 145728]
+    ensures { λ r. ⌜ 145728 ≡ length r ⌝ }
+{
+    [0; 145728]
+}
+
+// Reads the number of bases and gives the bytes of as many, at most those there is room for.
+fn read_length() -> u32 {
+    let mut bytes = [0u8; 2];
+    check_support::read_whole(&mut bytes);
+    let bases = little_endian::read_u16(&bytes, 0);
+    if bases < 32 { 4554 * bases } else { 145728 }
+}
+
+// The data run at a place; where there is none, no bytes, which every enquiry refuses.
+fn run_at(runs: &[u8], place: u8) -> &[u8] {
+    let start = 4554 * (place as usize);
+    let end = start + 4554;
+    if end <= runs.len() {
+        &runs[start..end]
+    } else {
+        &runs[..0]
+    }
+}
+
+// ---- a case
+fn print_refused(r: Refusal) {
+    check_support::print_text(b"refused ");
+    check_support::print_refusal(r, b"\n");
+}
+
+fn print_answer(a: Answer) {
+    match a {
+        Answer::Value(n) => {
+            check_support::print_text(b"value ");
+            check_support::print_number(n, b"\n");
+        }
+        Answer::Refused(r) => print_refused(r),
+    }
+}
+
+fn print_signed_answer(a: SignedAnswer) {
+    match a {
+        SignedAnswer::Value(n) => {
+            check_support::print_text(b"value ");
+            check_support::print_signed(n, b"\n");
+        }
+        SignedAnswer::Refused(r) => print_refused(r),
+    }
+}
+
+// Of a kind from 3 on: the odd ones are the period kinds.
+fn kind_of(kind: u8) -> Kind {
+    if kind % 2 == 1 {
+        Kind::Period
+    } else {
+        Kind::Cohort
+    }
+}
+
+// A kind that is not there is answered by a refusal that no rule has.
+fn answer(run: &[u8], kind: u8, age: u32, deferment: u32, year: u32) -> Answer {
+    match kind {
+        1 => projection::enquiry::factor(run, age, year),
+        2 => projection::enquiry::rate(run, age, year),
+        3 | 4 => valuation::enquiry::survivorship(run, kind_of(kind), age, deferment, year),
+        5 | 6 => valuation::enquiry::expectation(run, kind_of(kind), age, deferment, year),
+        7 | 8 => valuation::enquiry::annuity(run, kind_of(kind), age, deferment, year),
+        _ => Answer::Refused(Refusal {
+            number: 0,
+            first: 0,
+            second: 0,
+        }),
+    }
+}
+
+fn run_case(run: &[u8], kind: u8, age: u32, deferment: u32, year: u32) {
+    if kind == 0 {
+        print_signed_answer(projection::enquiry::improvement(run, age, year));
+    } else {
+        print_answer(answer(run, kind, age, deferment, year));
+    }
+}
+
+// Reads a case and works it; false at the end of the input.
+fn next_case(runs: &[u8]) -> bool {
+    let mut asked = [0u8; 14];
+    if !check_support::read_whole(&mut asked) {
+        return false;
+    }
+    let age = little_endian::read_u32(&asked, 2);
+    let deferment = little_endian::read_u32(&asked, 6);
+    let year = little_endian::read_u32(&asked, 10);
+    run_case(run_at(runs, asked[1]), asked[0], age, deferment, year);
+    true
+}
+
+// Nothing says that the input ends, so the cases are counted up to a number that no run reaches.
+fn run_cases(runs: &[u8]) -> u64 {
+    let mut cases: u64 = 0;
+    while cases < 1000000000000000 && next_case(runs) {
+        cases += 1;
+    }
+    cases
+}
+
+fn work(runs: &mut [u8]) {
+    check_support::read_whole(runs);
+    check_support::print_cases(run_cases(runs));
+}
+
+fn main() {
+    let mut space = room();
+    let length = io::count(read_length() as isize, &space);
+    work(&mut space[..length]);
+}
