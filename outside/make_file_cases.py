@@ -1,7 +1,6 @@
 """Writes the cases of `check_files`: files read, data runs written, short forms, with the answers.
 
-Run with `python3 -m outside.make_file_cases [--without-short-form] [folder]` from the folder that
-holds `crates/`; the short form's cases are left out until `check_files` works them.
+Run with `python3 -m outside.make_file_cases [folder]` from the folder that holds `crates/`.
 
 Standard input, all numbers little-endian: the realistic basis as a file of 4,608 bytes, then cases
 to the end. A case is its kind (1 byte: 0 read, 1 write, 2 short form), input length (2), output
@@ -111,21 +110,17 @@ def short_form_cases():
         yield case(SHORT_FORM, with_number(RUN, offset, width, number), None, -200_000_001)
 
 
-def input_and_output(with_short_form=True):
+def input_and_output():
     """The bytes of standard input and of the expected standard output."""
-    cases = [(asked, line) for group in (sound_cases, short_output_cases, damage_cases,
-                                         short_form_cases)
-             for asked, line in group() if with_short_form or asked[0] != SHORT_FORM]
+    cases = [made for group in (sound_cases, short_output_cases, damage_cases, short_form_cases)
+             for made in group()]
     return (FILE + b"".join(asked for asked, _ in cases),
             expected_output([line for _, line in cases]))
 
 
 def main():
-    parser = command("Writes the cases of check_files.", "crates/check_files")
-    parser.add_argument("--without-short-form", action="store_true",
-                        help="leave the short form's cases out")
-    options = parser.parse_args()
-    write(options.folder, *input_and_output(not options.without_short_form))
+    options = command("Writes the cases of check_files.", "crates/check_files").parse_args()
+    write(options.folder, *input_and_output())
 
 
 if __name__ == "__main__":

@@ -1,7 +1,8 @@
-// Runs the cases of an outside calculation on the basis file: files read and data runs written, with every refusal.
+// Runs the cases of an outside calculation on the basis: files read, data runs written and short forms made, with every
+// refusal.
 //
 // Standard input, all numbers little-endian: a file of 4,608 bytes, then cases to the end. A case is its kind (1 byte:
-// 0 read, 1 write), input length (2), output length (2), S (4), number of patches (2), and for each patch an offset (2)
+// 0 read, 1 write, 2 short form), input length (2), output length (2), S (4), number of patches (2), and for each patch an offset (2)
 // and a byte (1). The input is the file for kind 0, else its data run, cut or extended with zero bytes to the input
 // length and then patched; the output is filled with place % 251. A line a case: the refusal's number and places, zeros
 // where there is none, and the sum of (place + 1) * byte over the output after the call.
@@ -108,12 +109,14 @@ fn print_answer(c: Check, sum: u32) {
     }
 }
 
-fn answer(kind: u8, input: &[u8], output: &mut [u8]) -> Check {
+fn answer(kind: u8, rate: i32, input: &[u8], output: &mut [u8]) -> Check {
     if kind == 0 {
-        read::read_file(input, output)
-    } else {
-        write::write_file(input, output)
+        return read::read_file(input, output);
     }
+    if kind == 1 {
+        return write::write_file(input, output);
+    }
+    short_form::short_form(input, rate, output)
 }
 
 fn work(file: &[u8], header: &[u8], input: &mut [u8], output: &mut [u8])
@@ -123,7 +126,7 @@ fn work(file: &[u8], header: &[u8], input: &mut [u8], output: &mut [u8])
     lay_base(file, kind, input);
     patch_all(input, little_endian::read_u16(header, 9));
     fill(output);
-    let c = answer(kind, input, output);
+    let c = answer(kind, little_endian::read_i32(header, 5), input, output);
     print_answer(c, sum_of(output));
 }
 

@@ -1,4 +1,3 @@
 pub mod Cases
 pub mod Years
 pub mod Enquiries
-pub mod Figures

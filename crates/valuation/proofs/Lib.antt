@@ -1,5 +1,5 @@
 pub mod Survivors
 pub mod Lives
 pub mod Payments
-pub mod Figures
+pub mod LastAge
 pub mod Enquiries
