@@ -84,7 +84,10 @@ def judged(asked, answered):
 
 
 def main():
-    tallies = judged((FOLDER / "stdin").read_bytes(), (FOLDER / "stdout").read_bytes())
+    try:
+        tallies = judged((FOLDER / "stdin").read_bytes(), (FOLDER / "stdout").read_bytes())
+    except (OSError, ValueError, struct.error) as error:
+        return "distances: %s" % error
     status = 0
     for name, tally in tallies.items():
         print("%-12s checked %d (premise fails %d, refused %d), worst distance / bound %.6f" % (
