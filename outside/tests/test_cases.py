@@ -70,12 +70,6 @@ class WrittenCases(unittest.TestCase):
         self.assertEqual(set(found), {"0", "1", "2", "3", "4", "5", "11"})
         self.assertGreater(min(found.values()), 20)
 
-    def test_file_cases_without_the_short_form(self):
-        whole, _ = make_file_cases.input_and_output()
-        asked, expected = make_file_cases.input_and_output(with_short_form=False)
-        self.assertEqual(with_last_line(file_case_lines(asked)), expected)
-        self.assertLess(len(asked), len(whole))
-
     def test_answer_cases(self):
         asked, expected = make_answer_cases.input_and_output()
         lines = answer_case_lines(asked)
