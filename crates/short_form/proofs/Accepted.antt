@@ -8,7 +8,7 @@ use lib.Seq.{ext-getD, getD-take, length-take-le}
 use lib.IntN.{ℤ, pos, natAbs}
 use Rattle.basis.specs.Bytes.{signed32}
 use Rattle.basis.specs.Basis.{Basis, basisOf, termsAt, ConvergenceLimits, Limited, Accepted}
-use Rattle.short_form.specs.ShortForm.{longTermOf, shortFormOf, shortTerms, ShortFormOf}
+use Rattle.short_form.specs.ShortForm.{longTermOf, shortFormOf, shortTerms, Shortened}
 use Rattle.short_form.proofs.LongTerm.{long-term-size}
 use Rattle.short_form.proofs.Placing.{length-short-form}
 use Rattle.short_form.proofs.Reading.{front-kept, half-kept, word-kept, age-rate, age-period, age-proportion, birth-initial, birth-rate, birth-period, birth-proportion}
@@ -22,7 +22,7 @@ module _ (run : List ℕ) (rate : ℤ) (long : length run ≡ 4554) (h : natAbs 
   birth-year-terms i l =
       rw (birth-initial run rate long i l, birth-rate run rate long i l, birth-period run rate long i l, birth-proportion run rate long i l) refl
 
-  pub stands : ShortFormOf (basisOf run) rate (basisOf (shortFormOf run rate))
+  pub stands : Shortened (basisOf run) rate (basisOf (shortFormOf run rate))
   unfolding basisOf
   stands =
       record {
@@ -36,7 +36,7 @@ module _ (run : List ℕ) (rate : ℤ) (long : length run ≡ 4554) (h : natAbs 
       }
 
 -- a basis that is a short form of one within its limits is within them
-module _ {b short : Basis} {rate : ℤ} (s : ShortFormOf b rate short) (l : Limited b) (h : natAbs rate ≤ 200_000_000) where
+module _ {b short : Basis} {rate : ℤ} (s : Shortened b rate short) (l : Limited b) (h : natAbs rate ≤ 200_000_000) where
   terms-limited : (initial long : ℤ) → natAbs initial ≤ 200_000_000 → natAbs long ≤ 200_000_000 → ConvergenceLimits (shortTerms initial long)
   terms-limited initial long i j = record { initial = i; long = j; period-low = omega arith; period-high = omega arith; remaining = omega arith }
 

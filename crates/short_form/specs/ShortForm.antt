@@ -54,7 +54,7 @@ abbrev pub shortTerms : ℤ → ℤ → Convergence
 shortTerms initial long = record { initial = initial; long = long; period = 20; remaining = 50 }
 
 -- a basis that differs from another only in long-term rates, T and P
-pub record ShortFormOf (b : Basis) (rate : ℤ) (short : Basis) : Type 0 where
+pub record Shortened (b : Basis) (rate : ℤ) (short : Basis) : Type 0 where
   pub foundation : short .foundation ≡ b .foundation
   pub base : short .base ≡ b .base
   pub addition : short .addition ≡ b .addition

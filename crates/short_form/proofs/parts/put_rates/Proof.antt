@@ -62,7 +62,7 @@ loop-again c =
     let room : 1602 ≤ length (l .loop .out) = omega arith in (
       omega arith,
       placed-same (l .loop .out) _ at (i32Bytes (longTermOf rate (20 + l .loop .i))) (omega arith) new ∙ l .loop .inv .1,
-      rates-turn (l .loop .out) _ rate (l .loop .i) (w .before .before .loop-test .taken) room new ∙ l .loop .inv .2,
+      rates-turn (l .loop .out) _ rate (l .loop .i) (omega arith) room new ∙ l .loop .inv .2,
     )
 
 same-length : tie.Need-same-length Inv-loop μ-loop
