@@ -1,6 +1,7 @@
 // Model points: a question about one life and its four results, the small set of six, and a record of the grid.
 pub mod grid_record;
 pub mod results;
+pub mod small_set;
 
 use basis::Refusal;
 

@@ -1,7 +1,7 @@
 -- The record takes the answer to its own question.
 use mathlib.Core.Path.{_∙_, ap}
-use Rattle.model_points.specs.Points.{recordOf, answeredOf}
 use borrow.Author.Needs.{needs}
+use Rattle.model_points.specs.Points.{recordOf, answeredOf}
 use Rattle.model_points.proofs.grid_record.answered.Statement.{statement}
 use Rattle.model_points.proofs.grid_record.answered.Tie as tie
 

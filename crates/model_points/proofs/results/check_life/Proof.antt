@@ -1,8 +1,8 @@
 -- The age decides first, then the deferment, which may ask that the age is in range.
 use mathlib.Core.Path.{_∙_, sym}
+use borrow.Author.Needs.{needs}
 use Rattle.basis.proofs.Outcome.{first-passed, first-refused}
 use Rattle.projection.proofs.Enquiries.{age-passed}
-use borrow.Author.Needs.{needs}
 use Rattle.model_points.proofs.results.check_life.Statement.{statement}
 use Rattle.model_points.proofs.results.check_life.Tie as tie
 

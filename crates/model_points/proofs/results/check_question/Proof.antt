@@ -1,10 +1,10 @@
 -- Age and deferment decide first, then the year, from the B that the run holds.
 use mathlib.Core.Path.{_∙_, sym, ap}
 use Prim.Native.Nat.{ℕ}
+use borrow.Author.Needs.{needs}
 use Rattle.basis.proofs.Outcome.{first-passed, first-refused}
 use Rattle.projection.specs.Enquiry.{yearCheck}
 use Rattle.model_points.specs.Points.{questionCheck}
-use borrow.Author.Needs.{needs}
 use Rattle.model_points.proofs.results.check_question.Statement.{statement}
 use Rattle.model_points.proofs.results.check_question.Tie as tie
 

@@ -1,6 +1,6 @@
 -- Each arm says which of the four were values, and that decides what the definition gives.
-use Rattle.model_points.specs.Points.{fourOf}
 use borrow.Author.Needs.{needs}
+use Rattle.model_points.specs.Points.{fourOf}
 use Rattle.model_points.proofs.results.four.Statement.{statement}
 use Rattle.model_points.proofs.results.four.Tie as tie
 

@@ -1,9 +1,9 @@
 -- The checks decide first; what they let pass is all that the work asks for.
 use mathlib.Core.Path.{_∙_, sym, ap}
+use borrow.Author.Needs.{needs}
 use Rattle.basis.proofs.Outcome.{checked-passed, checked-refused}
 use Rattle.model_points.specs.Points.{pointAnswerOf, pointOf}
 use Rattle.model_points.proofs.Asked.{question-passed}
-use borrow.Author.Needs.{needs}
 use Rattle.model_points.proofs.results.point_at.Statement.{statement}
 use Rattle.model_points.proofs.results.point_at.Tie as tie
 

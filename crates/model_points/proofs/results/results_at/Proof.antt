@@ -1,6 +1,6 @@
 -- The four answers stand for the four results of the definition, in its order.
-use Rattle.model_points.specs.Points.{resultsOf}
 use borrow.Author.Needs.{needs}
+use Rattle.model_points.specs.Points.{resultsOf}
 use Rattle.model_points.proofs.results.results_at.Statement.{statement}
 use Rattle.model_points.proofs.results.results_at.Tie as tie
 
