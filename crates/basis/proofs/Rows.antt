@@ -14,7 +14,7 @@ use Rattle.basis.specs.declared.Number.{Number}
 use Rattle.basis.specs.declared.Field.{Field}
 use Rattle.basis.specs.declared.Check.the-variants.{Passed, Refused}
 use Rattle.basis.specs.Outcome.{refusal}
-use Rattle.basis.proofs.Outcome.{both}
+use Rattle.basis.proofs.Outcome.{both-passed}
 use Rattle.basis.specs.Run.{widthOf, valueAt, limitOf, between, entriesCheck, noField, fieldCheck, fieldsCheck}
 
 -- ---- a number between its limits
@@ -110,8 +110,8 @@ module _ (run : List ℕ) where
   pub all-hold : (fs : List Field) → fieldsCheck run fs ≡ Passed → (k : ℕ) → k < length fs → Holds run (getD fs k noField)
   unfolding fieldsCheck
   all-hold [] h k l = absurd (not-suc-le-zero l)
-  all-hold (f ∷ fs) h zero l = field-holds f (both (fieldCheck run f) (fieldsCheck run fs) h .0)
-  all-hold (f ∷ fs) h (suc k) l = all-hold fs (both (fieldCheck run f) (fieldsCheck run fs) h .1) k (le-of-suc-le-suc l)
+  all-hold (f ∷ fs) h zero l = field-holds f (both-passed (fieldCheck run f) (fieldsCheck run fs) h .0)
+  all-hold (f ∷ fs) h (suc k) l = all-hold fs (both-passed (fieldCheck run f) (fieldsCheck run fs) h .1) k (le-of-suc-le-suc l)
 
   pub all-pass : {fs : List Field} → AllHold fs → fieldsCheck run fs ≡ Passed
   unfolding fieldsCheck

@@ -8,7 +8,7 @@ use lib.Seq.{take-at, drop-at, take-take, take-add, getD-take, getD-drop, getD-a
 use Rattle.basis.specs.declared.Check.the-variants.{Passed}
 use Rattle.basis.specs.Bytes.{u16At, u32At, u16Bytes, u32Bytes}
 use Rattle.basis.specs.Run.{runCheck}
-use Rattle.basis.proofs.Outcome.{both}
+use Rattle.basis.proofs.Outcome.{both-passed}
 use Rattle.basis.proofs.Bytes.{u16-back, u32-back, bytes-of-u16, bytes-of-u32}
 use Rattle.basis_file.specs.Block.{blockCheckOf, blockCheck, blockOf}
 use Rattle.basis_file.specs.File.{blocksCheck, partsOf, runIn, fileCheck, blocksOf, fileOf}
@@ -138,7 +138,7 @@ blocks-back (suc n) place file l b h =
     let block = take 512 file in
     let part = take 506 (drop 2 file) in
     let rest = partsOf n (drop 512 file) in
-    let ok = both (blockCheck place block) (blocksCheck (place + 1) n (drop 512 file)) h in
+    let ok = both-passed (blockCheck place block) (blocksCheck (place + 1) n (drop 512 file)) h in
     let has = passed place block (ok .0) in
     let p : length part ≡ 506 = simp (length-take, length-drop) (omega arith) in
     let m : length block ≡ 512 = simp length-take (omega arith) in
@@ -149,7 +149,7 @@ blocks-back (suc n) place file l b h =
 
 -- what an accepted file says of its blocks and of its run
 opened : (file : List ℕ) → fileCheck file ≡ Passed → (blocksCheck 0 9 file ≡ Passed) × (runCheck (runIn file) ≡ Passed)
-opened file h = both _ _ (sym (whole-file file _ (accepted-length file h) refl) ∙ h)
+opened file h = both-passed _ _ (sym (whole-file file _ (accepted-length file h) refl) ∙ h)
 
 -- the run in an accepted file is accepted
 pub run-accepted : (file : List ℕ) → fileCheck file ≡ Passed → runCheck (runIn file) ≡ Passed

@@ -10,14 +10,14 @@ use Rattle.basis.specs.declared.Check.{Check}
 use Rattle.basis.specs.declared.Check.the-variants.{Passed, Refused}
 use Rattle.basis.specs.Outcome.{refusal, unless}
 use Rattle.basis.specs.Run.{between, runCheck}
-use Rattle.basis.proofs.Outcome.{stop, both}
+use Rattle.basis.proofs.Outcome.{first-stands, both-passed}
 use Rattle.basis.proofs.Rows.{opened, size}
 use Rattle.short_form.specs.ShortForm.{shortFormCheck}
 
 module _ (run : List ℕ) (rate : ℤ) where
   pub run-refused : (c : Check) {r : Refusal} → c ≡ runCheck run → c ≡ Refused r → c ≡ shortFormCheck run rate
   unfolding shortFormCheck
-  run-refused c e f = e ∙ sym (stop (runCheck run) _ (sym e ∙ f))
+  run-refused c e f = e ∙ sym (first-stands (runCheck run) _ (sym e ∙ f))
 
   pub run-passed : (t : Bool) → runCheck run ≡ Passed → t ≡ between (negℤ (pos 200_000_000)) (pos 200_000_000) rate
       → unless t (refusal 5 1078 0) ≡ shortFormCheck run rate
@@ -32,5 +32,5 @@ module _ (run : List ℕ) (rate : ℤ) where
   pub passed : shortFormCheck run rate ≡ Passed → (runCheck run ≡ Passed) × (natAbs rate ≤ 200_000_000)
   unfolding shortFormCheck
   passed h =
-      let e = both (runCheck run) (unless (between (negℤ (pos 200_000_000)) (pos 200_000_000) rate) (refusal 5 1078 0)) h in
+      let e = both-passed (runCheck run) (unless (between (negℤ (pos 200_000_000)) (pos 200_000_000) rate) (refusal 5 1078 0)) h in
       (e .0, size 199_999_999 rate (opened (negℤ (pos 200_000_000)) (pos 200_000_000) rate (held (between (negℤ (pos 200_000_000)) (pos 200_000_000) rate) (refusal 5 1078 0) (e .1))))

@@ -6,7 +6,7 @@ use borrow.Author.Needs.{needs}
 use borrow.Author.Tests.{ne-eqb}
 use lib.ListN.{drop}
 use Rattle.basis.specs.Run.{fieldsCheck, runFields, runCheck}
-use Rattle.basis.proofs.Outcome.{stop, pass}
+use Rattle.basis.proofs.Outcome.{first-stands, first-passed}
 use Rattle.basis.proofs.Turns.{found, fits, whole}
 use Rattle.basis.proofs.checks.check_run.Statement.{statement}
 use Rattle.basis.proofs.checks.check_run.Tie as tie
@@ -42,7 +42,7 @@ returns-2 c =
     let k = c .before .before .check-field in
     let run = l .before .before .before .args .run .now in
     let t = found run (l .loop .i) _ (k .result) (c .before .before .before .before .loop-test .taken) (c .before .before .before .row .ensures) (k .ensures) in
-    sym (whole run (l .before .if1 .left) ∙ sym (l .loop .inv .1) ∙ t ∙ stop (k .result) _ (c .enum-told .given .1))
+    sym (whole run (l .before .if1 .left) ∙ sym (l .loop .inv .1) ∙ t ∙ first-stands (k .result) _ (c .enum-told .given .1))
 
 enum-told-2 : tie.Need-enum-told-2 Inv-loop μ-loop
 enum-told-2 c = search needs
@@ -59,7 +59,7 @@ loop-again c =
     let k = c .before .before .check-field in
     let run = l .before .before .before .args .run .now in
     let t = found run (l .loop .i) _ (k .result) (c .before .before .before .before .loop-test .taken) (c .before .before .before .row .ensures) (k .ensures) in
-    (omega arith, sym (t ∙ pass (k .result) _ (c .enum-told2 .given .1)) ∙ l .loop .inv .1)
+    (omega arith, sym (t ∙ first-passed (k .result) _ (c .enum-told2 .given .1)) ∙ l .loop .inv .1)
 
 returns-3 : tie.Need-returns-3 Inv-loop μ-loop
 unfolding fieldsCheck runFields

@@ -5,7 +5,7 @@ use native.Mathlib.Omega.{arith}
 use borrow.Author.Needs.{needs}
 use lib.ListN.{drop}
 use Rattle.basis_file.proofs.Parts.{part-is, length-part}
-use Rattle.basis.proofs.Outcome.{stop, pass}
+use Rattle.basis.proofs.Outcome.{first-stands, first-passed}
 use Rattle.basis_file.specs.File.{blocksCheck}
 use Rattle.basis_file.proofs.Files.{blocks-step}
 use Rattle.basis_file.proofs.read.check_blocks.Statement.{statement}
@@ -50,7 +50,7 @@ returns c =
     let f = l .before .before .args .file .now in
     let k = c .before .before .check-block in
     let t = blocks-step f (l .loop .b) (c .before .before .before .before .loop-test .taken) (k .result) (rw (part-is f (512 * l .loop .b) 512) at (k .ensures)) in
-    sym (stop (k .result) _ (c .enum-told .given .1)) ∙ sym t ∙ l .loop .inv .1
+    sym (first-stands (k .result) _ (c .enum-told .given .1)) ∙ sym t ∙ l .loop .inv .1
 
 enum-told-2 : tie.Need-enum-told-2 Inv-loop μ-loop
 enum-told-2 c = search needs
@@ -67,7 +67,7 @@ loop-again c =
     let f = l .before .before .args .file .now in
     let k = c .before .before .check-block in
     let t = blocks-step f (l .loop .b) (c .before .before .before .before .loop-test .taken) (k .result) (rw (part-is f (512 * l .loop .b) 512) at (k .ensures)) in
-    (omega arith, sym (pass (k .result) _ (c .enum-told2 .given .1)) ∙ sym t ∙ l .loop .inv .1)
+    (omega arith, sym (first-passed (k .result) _ (c .enum-told2 .given .1)) ∙ sym t ∙ l .loop .inv .1)
 
 returns-2 : tie.Need-returns-2 Inv-loop μ-loop
 unfolding blocksCheck

@@ -2,7 +2,7 @@
 use mathlib.Core.Path.{sym, ap, _∙_}
 use borrow.Author.Needs.{needs}
 use Rattle.basis.specs.Run.{runCheck}
-use Rattle.basis.proofs.Outcome.{stop, pass}
+use Rattle.basis.proofs.Outcome.{first-stands, first-passed}
 use Rattle.basis_file.proofs.Files.{wrong-length, whole-file, all-filled}
 use Rattle.basis_file.proofs.read.check_file.Statement.{statement}
 use Rattle.basis_file.proofs.read.check_file.Tie as tie
@@ -39,13 +39,13 @@ returns-2 c =
     let whole = told .before .before .before in
     let f = whole .before .before .args .file .now in
     c .check-run .ensures ∙ ap runCheck (joined .join-parts .ensures ∙ all-filled f)
-    ∙ sym (whole-file f (k .result) (whole .if1 .left) (k .ensures) ∙ pass (k .result) _ (told .enum-told .given .1))
+    ∙ sym (whole-file f (k .result) (whole .if1 .left) (k .ensures) ∙ first-passed (k .result) _ (told .enum-told .given .1))
 
 returns-3 : tie.Need-returns-3
 returns-3 c =
     let f = c .before .before .before .before .before .args .file .now in
     let k = c .before .before .check-blocks in
-    sym (whole-file f (k .result) (c .before .before .before .if1 .left) (k .ensures) ∙ stop (k .result) _ (c .enum-told2 .given .1))
+    sym (whole-file f (k .result) (c .before .before .before .if1 .left) (k .ensures) ∙ first-stands (k .result) _ (c .enum-told2 .given .1))
 
 pub check-file-spec : {M : Type 1} → statement M
 check-file-spec =
