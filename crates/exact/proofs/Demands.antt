@@ -1,12 +1,11 @@
 -- Demand 3 for every data run: an answered enquiry has passed its checks, so its run is accepted and its age and years are in
 -- range; the distances over the basis do the rest. Assumes nothing.
-use mathlib.Core.Path.{_≡_}
 use mathlib.Core.List.{List}
-use Prim.Native.Nat.{ℕ, _+_, _*_, _-_}
+use Prim.Native.Nat.{ℕ, _+_, _-_}
 use native.Mathlib.Omega.{arith}
 use Rattle.arithmetic.proofs.Distance.{within-more}
 use Rattle.basis.specs.Basis.{basisOf}
-use Rattle.basis.specs.Outcome.{value, firstOf}
+use Rattle.basis.specs.Outcome.{firstOf}
 use Rattle.basis.proofs.Outcome.{checked-value}
 use Rattle.projection.specs.Projection.{factorOf, rateOf}
 use Rattle.projection.specs.Enquiry.{enquiryCheck, yearCheck, factorEnquiry, rateEnquiry}

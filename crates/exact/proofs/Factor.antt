@@ -1,7 +1,7 @@
 -- Factor 2d ≤ 3k and rate 2d ≤ 3k + 1: a year's improvement is within one of the exact one, which adds two halves and one for the
 -- rounding; the rate adds its own. Assumes nothing.
 use mathlib.Core.Path.{_≡_}
-use Prim.Native.Nat.{ℕ, suc, _+_, _*_, _-_, _≤_, _<_}
+use Prim.Native.Nat.{ℕ, suc, _+_, _*_, _-_, _≤_}
 use native.Mathlib.Omega.{arith}
 use lib.IntN.{ℤ, pos, natAbs}
 use Rattle.arithmetic.specs.Fraction.{Within, U}

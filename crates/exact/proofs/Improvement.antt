@@ -2,14 +2,14 @@
 -- exact one is not, being whole and above it less one. Assumes nothing.
 use mathlib.Core.Path.{_≡_, _∙_}
 use mathlib.Core.Bool.{Bool, true, false, cond}
-use Prim.Native.Nat.{ℕ, _+_, _*_, _-_, _≤_, _<_}
+use Prim.Native.Nat.{ℕ, _*_, _-_, _≤_, _<_}
 use native.Mathlib.Omega.{arith}
 use native.Mathlib.Nat.{mul-le-mul-right, mul-pos}
 use lib.Dec.{ltb}
 use lib.IntN.{ℤ, pos, natAbs, _-ℤ_, _*ℤ_}
 use lib.Signed.{_≤ℤ_}
 use Rattle.arithmetic.specs.Fraction.{Fraction, Within, whole, _*ᶠ_, U}
-use Rattle.arithmetic.proofs.Difference.{_⊖_, parts, ring, up, dn, ⊖-eq, ⊖-abs, abs-⊖, ⊖-≤, ≤-⊖}
+use Rattle.arithmetic.proofs.Difference.{_⊖_, parts, ring, up, dn, ⊖-eq, ⊖-abs, abs-⊖, ≤-⊖}
 use Rattle.arithmetic.proofs.Distance.{within-whole, within-round, within-sum}
 use Rattle.arithmetic.proofs.Above.{Above, above-round, above-sum, sum-above, above-natural}
 use Rattle.arithmetic.proofs.UnitRange.{InUnit}

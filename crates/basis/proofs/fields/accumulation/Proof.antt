@@ -1,5 +1,5 @@
 -- The rate of discount is not below zero, so U and the rate together are a natural number, which the cast keeps.
-use mathlib.Core.Path.{_≡_, _∙_, ap, sym}
+use mathlib.Core.Path.{_≡_, ap}
 use native.Mathlib.Omega.{arith}
 use lib.IntN.{pos, natAbs, _+ℤ_}
 use lib.Signed.{_≤ℤ_}

@@ -1,3 +1,4 @@
+-- An accepted run has its length, and the basis that it stands for takes the four terms at these offsets.
 use Rattle.basis.specs.Basis.{basisOf}
 use borrow.Author.Needs.{needs}
 use Rattle.basis.proofs.fields.age_terms.Statement.{statement}

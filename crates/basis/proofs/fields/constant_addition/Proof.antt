@@ -1,3 +1,4 @@
+-- An accepted run has its length, and the basis that it stands for reads the field at this offset.
 use mathlib.Core.Path.{_∙_}
 use mir.Facts.{toZ-ofZ}
 use mir.Syntax.{w32}

@@ -1,3 +1,4 @@
+-- An accepted run has its length, and the basis that it stands for reads the field at this offset.
 use Rattle.basis.specs.Basis.{basisOf}
 use borrow.Author.Needs.{needs}
 use Rattle.basis.proofs.fields.foundation_year.Statement.{statement}

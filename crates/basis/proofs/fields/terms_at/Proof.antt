@@ -1,3 +1,4 @@
+-- Each of the four numbers is what is read at its own offset; the signed ones come back from their bits as they were.
 use Rattle.arithmetic.proofs.Machine.{got}
 use mir.Syntax.{w32}
 use borrow.Author.Needs.{needs}

@@ -1,3 +1,4 @@
+-- The signed number that the unsigned one at the same place stands for.
 use mathlib.Core.Path.{_∙_, ap}
 use mir.Facts.{toZ-ofZ}
 use Rattle.basis.specs.Bytes.{signed32}

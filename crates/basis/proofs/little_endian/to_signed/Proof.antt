@@ -1,3 +1,4 @@
+-- Below 2 ^ 31 the cast keeps the number; from there on it is -1 less what is left to 2 ^ 32 - 1.
 use borrow.Author.Needs.{needs}
 use borrow.Author.Tests.{lt-ltb, le-ltb}
 use native.Mathlib.Omega.{arith}
