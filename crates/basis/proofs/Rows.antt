@@ -26,7 +26,7 @@ is-true : (b : Bool) → T b → b ≡ true
 is-true true t = refl
 is-true false t = absurd t
 
-opened : (low high n : ℤ) → between low high n ≡ true → Between low n high
+pub opened : (low high n : ℤ) → between low high n ≡ true → Between low n high
 opened low high n h = by (leZ low n) refl (leZ n high) refl h
   where
     by : (s : Bool) → leZ low n ≡ s → (t : Bool) → leZ n high ≡ t → (s && t) ≡ true → Between low n high
@@ -34,7 +34,7 @@ opened low high n h = by (leZ low n) refl (leZ n high) refl h
     by true p false q k = let z : _≡_ {A = ℕ} 0 1 = cc in absurd (omega arith)
     by false p t q k = let z : _≡_ {A = ℕ} 0 1 = cc in absurd (omega arith)
 
-closed : (low high n : ℤ) → Between low n high → between low high n ≡ true
+pub closed : (low high n : ℤ) → Between low n high → between low high n ≡ true
 closed low high n b = rw (is-true (leZ low n) (b .least .le), is-true (leZ n high) (b .most .le)) refl
 
 -- limits that are natural numbers, and limits of a size, each way

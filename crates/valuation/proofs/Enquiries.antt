@@ -12,7 +12,7 @@ use Rattle.projection.specs.Enquiry.{yearCheck, enquiryCheck}
 use Rattle.projection.proofs.Enquiries.{enquiry-passed, year-passed}
 use Rattle.valuation.specs.Enquiry.{defermentCheck, defermentEnquiryCheck, valuationCheck}
 
-deferment-passed : (age deferment : ℕ) → defermentCheck age deferment ≡ Passed → age + deferment ≤ 150
+pub deferment-passed : (age deferment : ℕ) → defermentCheck age deferment ≡ Passed → age + deferment ≤ 150
 unfolding defermentCheck
 deferment-passed age deferment h = leb-true (age + deferment) 150 (unless-passed (leb (age + deferment) 150) (refusal 8 age deferment) h)
 

@@ -12,7 +12,7 @@ use basis::Check;
 use basis::Refusal;
 
 // 8: age + deferment above 150. The age has been checked, so that no sum is made of numbers that may be large.
-fn check_deferment(age: u32, deferment: u32) -> Check
+pub fn check_deferment(age: u32, deferment: u32) -> Check
     requires { ⌜ age ≤ 150 ⌝ }
     ensures { λ r. ⌜ r ≡ defermentCheck age deferment ⌝ }
 {

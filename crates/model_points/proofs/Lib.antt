@@ -1,0 +1,2 @@
+pub mod Asked
+mod Sixes

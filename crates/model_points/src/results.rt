@@ -1,0 +1,93 @@
+// One model point on an accepted data run.
+ghost use mathlib.Core.Path.{_≡_};
+ghost use Prim.Native.Nat.{_+_, _≤_};
+ghost use Rattle.basis.specs.Basis.{basisOf, Accepted};
+ghost use Rattle.basis.specs.Outcome.{firstOf, meaning, refused};
+ghost use Rattle.projection.specs.Enquiry.{ageCheck};
+ghost use Rattle.valuation.specs.Enquiry.{defermentCheck};
+ghost use Rattle.model_points.specs.Points.{questionCheck, fourOf, resultsOf, pointAnswerOf, pointOf};
+use crate::PointAnswer;
+use crate::Question;
+use basis::Answer;
+use basis::Check;
+use basis::Refusal;
+use valuation::Kind;
+
+// The age, then the deferment.
+fn check_life(age: u32, deferment: u32) -> Check
+    ensures { λ r. ⌜ r ≡ firstOf (ageCheck age) (defermentCheck age deferment) ⌝ }
+{
+    match projection::enquiry::check_age(age) {
+        Check::Passed => valuation::enquiry::check_deferment(age, deferment),
+        Check::Refused(r) => Check::Refused(r),
+    }
+}
+
+// The same and the year, from B on.
+fn check_question(run: &[u8], q: Question) -> Check
+    requires { ⌜ Accepted (now run) ⌝ }
+    ensures { λ r. ⌜ r ≡ questionCheck (basisOf (now (run .entry))) q ⌝ }
+{
+    match check_life(q.age, q.deferment) {
+        Check::Passed => projection::enquiry::check_year(basis::fields::base_year(run), q.year),
+        Check::Refused(r) => Check::Refused(r),
+    }
+}
+
+fn refused_point(refusal: Refusal) -> PointAnswer
+    ensures { λ r. ⌜ r ≡ pointAnswerOf (refused refusal) ⌝ }
+{
+    PointAnswer {
+        results: [0; 4],
+        refusal,
+    }
+}
+
+// The four results in their order: the first refusal of the four decides.
+fn four(first: Answer, second: Answer, third: Answer, fourth: Answer) -> PointAnswer
+    ensures { λ r. ⌜ r ≡ pointAnswerOf (fourOf (meaning first) (meaning second) (meaning third) (meaning fourth)) ⌝ }
+{
+    match first {
+        Answer::Refused(r) => refused_point(r),
+        Answer::Value(i) => match second {
+            Answer::Refused(r) => refused_point(r),
+            Answer::Value(j) => match third {
+                Answer::Refused(r) => refused_point(r),
+                Answer::Value(k) => match fourth {
+                    Answer::Refused(r) => refused_point(r),
+                    Answer::Value(l) => PointAnswer {
+                        results: [i, j, k, l],
+                        refusal: Refusal {
+                            number: 0,
+                            first: 0,
+                            second: 0,
+                        },
+                    },
+                },
+            },
+        },
+    }
+}
+
+// The results of a question that has been checked.
+fn results_at(run: &[u8], age: u32, deferment: u32, year: u32) -> PointAnswer
+    requires { ⌜ Accepted (now run) × (20 ≤ age) × (age + deferment ≤ 150) × (basisOf (now run) .base ≤ year) × (year ≤ 2130) ⌝ }
+    ensures { λ r. ⌜ r ≡ pointAnswerOf (resultsOf (basisOf (now (run .entry))) age deferment year) ⌝ }
+{
+    four(
+        valuation::expectation::expectation_at(run, Kind::Period, age, year, deferment),
+        valuation::expectation::expectation_at(run, Kind::Cohort, age, year, deferment),
+        valuation::annuity::annuity_at(run, Kind::Period, age, year, deferment),
+        valuation::annuity::annuity_at(run, Kind::Cohort, age, year, deferment),
+    )
+}
+
+pub fn point_at(run: &[u8], q: Question) -> PointAnswer
+    requires { ⌜ Accepted (now run) ⌝ }
+    ensures { λ r. ⌜ r ≡ pointOf (basisOf (now (run .entry))) q ⌝ }
+{
+    match check_question(run, q) {
+        Check::Passed => results_at(run, q.age, q.deferment, q.year),
+        Check::Refused(r) => refused_point(r),
+    }
+}

@@ -1,0 +1,6 @@
+mod Shares
+pub mod LongTerm
+mod Placing
+mod Checking
+mod Reading
+pub mod Accepted

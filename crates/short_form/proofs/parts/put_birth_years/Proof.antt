@@ -1,0 +1,53 @@
+-- Four parts, one after another.
+use Rattle.short_form.proofs.Placing.{birth-years-placed}
+use borrow.Author.Needs.{needs}
+use Rattle.short_form.proofs.parts.put_birth_years.Statement.{statement}
+use Rattle.short_form.proofs.parts.put_birth_years.Tie as tie
+
+sub-put : tie.Need-sub-put
+sub-put c = search needs
+
+part-put-start : tie.Need-part-put-start
+part-put-start c = search needs
+
+part-put-end : tie.Need-part-put-end
+part-put-end c = search needs
+
+put-requires : tie.Need-put-requires
+put-requires c κs = search needs
+
+put-repeated-requires : tie.Need-put-repeated-requires
+put-repeated-requires c κs = search needs
+
+put-repeated-requires-2 : tie.Need-put-repeated-requires-2
+put-repeated-requires-2 c κs = search needs
+
+put-repeated-requires-3 : tie.Need-put-repeated-requires-3
+put-repeated-requires-3 c κs = search needs
+
+same-length : tie.Need-same-length
+same-length c = search needs
+
+returns : tie.Need-returns
+returns c =
+    let d = c .before .before in
+    let t = d .before .before .before .before in
+    let b = t .before .before .before .before in
+    let a = b .before .before .before .before in
+    let s = a .before .before .before .before .before in
+    birth-years-placed (s .args .run .now) (s .args .out .now) _ _ _ _ (s .pre .0) (s .pre .1)
+    (a .put .ensures) (b .put-repeated .ensures) (t .put-repeated2 .ensures) (d .put-repeated3 .ensures)
+
+pub put-birth-years-spec : {M : Type 1} → statement M
+put-birth-years-spec =
+    tie.close
+    (tie.spec
+    sub-put
+    part-put-start
+    part-put-end
+    put-requires
+    put-repeated-requires
+    put-repeated-requires-2
+    put-repeated-requires-3
+    same-length
+    returns)

@@ -1,0 +1,64 @@
+-- The short form (01, "Short form"): a data run with one long-term rate S in place of its own long-term rates, periods and
+-- proportions.
+use Prim.Native.Nat.{ℕ, zero, suc, _+_, _*_, _-_, _≤_, min}
+use mathlib.Core.Path.{_≡_}
+use mathlib.Core.List.{List, [], _++_}
+use lib.ListN.{take, drop, replicate}
+use lib.IntN.{ℤ, pos, negℤ, _*ℤ_}
+use Rattle.arithmetic.specs.Round.{roundDiv}
+use Rattle.basis.specs.declared.Check.{Check}
+use Rattle.basis.specs.declared.Convergence.{Convergence}
+use Rattle.basis.specs.Bytes.{i32Bytes}
+use Rattle.basis.specs.Outcome.{refusal, unless, firstOf}
+use Rattle.basis.specs.Run.{between, runCheck}
+use Rattle.basis.specs.Basis.{Basis}
+
+-- ---- the rates by age
+-- the share of S at an age, in thirtieths: max(0, min(30, 120 − age)), since a difference of natural numbers is 0 at the least
+abbrev pub shareOf : ℕ → ℕ
+shareOf age = min 30 (120 - age)
+
+abbrev pub longTermOf : ℤ → ℕ → ℤ
+longTermOf rate age = roundDiv (rate *ℤ pos (shareOf age)) 30
+
+-- the rates of n ages, one after the other, as they stand in a data run
+unfoldable pub longTermRates : ℤ → ℕ → ℕ → List ℕ
+longTermRates rate age zero = []
+longTermRates rate age (suc n) = i32Bytes (longTermOf rate age) ++ longTermRates rate (age + 1) n
+
+-- ---- the data run
+-- every period T and every proportion P: a house rule
+abbrev pub periods : ℕ → List ℕ
+periods n = replicate n 20
+
+abbrev pub proportions : ℕ → List ℕ
+proportions n = replicate n 50
+
+-- what stands before the age L, then the age L, T and P
+unfoldable pub agesOf : List ℕ → ℤ → List ℕ
+agesOf run rate = take 1078 run ++ longTermRates rate 20 131 ++ periods 131 ++ proportions 131
+
+-- the birth-year I, then L, which are 0, T and P
+unfoldable pub birthYearsOf : List ℕ → List ℕ
+birthYearsOf run = take (269 * 4) (drop 1864 run) ++ replicate (269 * 4) 0 ++ periods 269 ++ proportions 269
+
+unfoldable pub shortFormOf : List ℕ → ℤ → List ℕ
+shortFormOf run rate = agesOf run rate ++ birthYearsOf run
+
+-- ---- the check: the run's own, then S
+unfoldable pub shortFormCheck : List ℕ → ℤ → Check
+shortFormCheck run rate = firstOf (runCheck run) (unless (between (negℤ (pos 200_000_000)) (pos 200_000_000) rate) (refusal 5 1078 0))
+
+-- ---- what it stands for
+abbrev pub shortTerms : ℤ → ℤ → Convergence
+shortTerms initial long = record { initial = initial; long = long; period = 20; remaining = 50 }
+
+-- a basis that differs from another only in long-term rates, T and P
+pub record ShortFormOf (b : Basis) (rate : ℤ) (short : Basis) : Type 0 where
+  pub foundation : short .foundation ≡ b .foundation
+  pub base : short .base ≡ b .base
+  pub addition : short .addition ≡ b .addition
+  pub discount : short .discount ≡ b .discount
+  pub baseRate : (age : ℕ) → 20 ≤ age → age ≤ 150 → short .baseRate age ≡ b .baseRate age
+  pub byAge : (age : ℕ) → 20 ≤ age → age ≤ 150 → short .byAge age ≡ shortTerms (b .byAge age .initial) (longTermOf rate age)
+  pub byBirthYear : (year : ℕ) → 1842 ≤ year → year ≤ 2110 → short .byBirthYear year ≡ shortTerms (b .byBirthYear year .initial) (pos 0)

@@ -1,0 +1,51 @@
+// The short form of a data run: one long-term rate S in place of its long-term rates, with every period 20 and every
+// proportion 50 (01, "Short form").
+mod parts;
+mod rates;
+
+ghost use mathlib.Core.Path.{_≡_};
+ghost use Rattle.basis.specs.Outcome.{firstOf};
+ghost use Rattle.basis.specs.Lent.{roomCheck, written};
+ghost use Rattle.short_form.specs.ShortForm.{shortFormOf, shortFormCheck};
+use basis::Check;
+use basis::Refusal;
+use basis::checks;
+
+// The run's own check, then S.
+fn check_short_form(run: &[u8], rate: i32) -> Check
+    ensures { λ r. ⌜ r ≡ shortFormCheck (now (run .entry)) rate ⌝ }
+{
+    let c = checks::check_run(run);
+    if let Check::Refused(_) = c {
+        return c;
+    }
+    if checks::in_limits(-200_000_000, 200_000_000, rate as i64) {
+        Check::Passed
+    } else {
+        Check::Refused(Refusal {
+            number: 5,
+            first: 1078,
+            second: 0,
+        })
+    }
+}
+
+// Writes the short form into the front of `out`.
+pub fn short_form(run: &[u8], rate: i32, out: &mut [u8]) -> Check
+    ensures { λ r. ⌜ r ≡ firstOf (roomCheck 4554 (now (out .entry))) (shortFormCheck (now (run .entry)) rate) ⌝ }
+    ensures { λ r. ⌜ now (out .exit) ≡ written r (shortFormOf (now (run .entry)) rate) (now (out .entry)) ⌝ }
+{
+    if out.len() < 4554 {
+        return Check::Refused(Refusal {
+            number: 11,
+            first: 4554,
+            second: 0,
+        });
+    }
+    let c = check_short_form(run, rate);
+    if let Check::Passed = c {
+        parts::put_ages(run, rate, out);
+        parts::put_birth_years(run, out);
+    }
+    c
+}
