@@ -44,7 +44,7 @@ round-div-requires : tie.Need-round-div-requires
 round-div-requires c κs =
     let s = c .before in
     rw (rate-is s, share-is _ (s .args .age) (c .share .ensures), toZ-ofZ (product-fits (s .args .rate) (s .args .age) (s .pre .0)))
-    (omega (arith, product-size (s .args .rate) (s .args .age) (s .pre .0)), omega arith, omega arith)
+    (omega arith, omega (arith, product-size (s .args .rate) (s .args .age) (s .pre .0)))
 
 -- what was divided
 gives : (c : lts.After-round-div (share-reads.Asked, share-reads.Learnt, round-div-reads.Asked, round-div-reads.Learnt) reads.Pre reads.Post) → toZ w64 (ofZ w64 (c .round-div .result)) ≡ longTermOf (c .before .before .args .rate) (c .before .before .args .age)
