@@ -14,6 +14,10 @@ use Rattle.basis.specs.declared.SignedAnswer.the-variants as signed
 abbrev pub refusal : ℕ → ℕ → ℕ → Refusal
 refusal number first second = record { number = number; first = first; second = second }
 
+-- number 0 with places 0 stands for none, in records and for C
+abbrev pub noRefusal : Refusal
+noRefusal = refusal 0 0 0
+
 -- ---- checks
 -- what has to hold, and the refusal where it does not
 abbrev pub unless : Bool → Refusal → Check

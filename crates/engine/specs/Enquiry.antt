@@ -6,7 +6,7 @@ use Rattle.basis.specs.declared.Refusal.{Refusal}
 use Rattle.basis.specs.declared.Check.{Check}
 use Rattle.basis.specs.declared.Check.the-variants.{Passed, Refused}
 use Rattle.basis.specs.Lent.{roomCheck}
-use Rattle.basis.specs.Outcome.{Outcome, value, refused, refusal, firstOf}
+use Rattle.basis.specs.Outcome.{Outcome, value, refused, refusal, firstOf, noRefusal}
 use Rattle.basis.specs.Run.{runCheck}
 use Rattle.basis_file.specs.File.{fileCheck}
 use Rattle.short_form.specs.ShortForm.{shortFormCheck}
@@ -14,9 +14,6 @@ use Rattle.engine.specs.declared.CAnswer.{CAnswer}
 use Rattle.engine.specs.declared.CSignedAnswer.{CSignedAnswer}
 
 -- ---- answers
-abbrev pub noRefusal : Refusal
-noRefusal = refusal 0 0 0
-
 -- what a check says
 abbrev pub refusalOf : Check → Refusal
 refusalOf Passed = noRefusal

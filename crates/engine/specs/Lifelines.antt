@@ -1,12 +1,13 @@
 -- What C is handed of a lifeline: where it stands, the refusal, and whether it has ended (1).
 use Prim.Native.Nat.{ℕ}
+use Rattle.basis.specs.Outcome.{noRefusal}
 use Rattle.basis.specs.declared.Refusal.{Refusal}
 use Rattle.lifeline.specs.declared.Status.{Status}
 use Rattle.lifeline.specs.declared.Status.the-variants.{Advanced, Ended, Refused}
 use Rattle.lifeline.specs.declared.Begun.{Begun}
 use Rattle.lifeline.specs.declared.Moved.{Moved}
 use Rattle.engine.specs.declared.CLifeline.{CLifeline}
-use Rattle.engine.specs.Enquiry.{noRefusal, refusalOf}
+use Rattle.engine.specs.Enquiry.{refusalOf}
 
 -- a start has not ended
 abbrev pub lifelineBegun : Begun → CLifeline

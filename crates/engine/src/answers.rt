@@ -1,7 +1,7 @@
 // Checks and answers as C takes them: structs in the place of enums, with refusal number 0 for none.
 ghost use mathlib.Core.Path.{_≡_};
-ghost use Rattle.basis.specs.Outcome.{meaning, signedMeaning};
-ghost use Rattle.engine.specs.Enquiry.{noRefusal, refusalOf, answerOf, signedAnswerOf};
+ghost use Rattle.basis.specs.Outcome.{meaning, signedMeaning, noRefusal};
+ghost use Rattle.engine.specs.Enquiry.{refusalOf, answerOf, signedAnswerOf};
 use crate::CAnswer;
 use crate::CSignedAnswer;
 use basis::Answer;

@@ -3,11 +3,10 @@ use Prim.Native.Nat.{ℕ}
 use mathlib.Core.List.{List, [], _∷_, map}
 use lib.ListN.{replicate}
 use lib.IntN.{ℤ, natAbs}
-use Rattle.basis.specs.declared.Refusal.{Refusal}
 use Rattle.basis.specs.declared.Check.{Check}
 use Rattle.basis.specs.declared.Check.the-variants.{Passed, Refused}
 use Rattle.basis.specs.Basis.{Basis, basisOf}
-use Rattle.basis.specs.Outcome.{Outcome, value, refused, refusal, firstOf, checked, andThen}
+use Rattle.basis.specs.Outcome.{Outcome, value, refused, refusal, firstOf, checked, andThen, noRefusal}
 use Rattle.basis.specs.Run.{runCheck}
 use Rattle.projection.specs.Enquiry.{ageCheck, yearCheck}
 use Rattle.valuation.specs.declared.Kind.the-variants.{Period, Cohort}
@@ -37,9 +36,6 @@ resultsOf b age deferment year =
     (expectationOf b Cohort age year deferment)
     (annuityOf b Period age year deferment)
     (annuityOf b Cohort age year deferment)
-
-abbrev pub noRefusal : Refusal
-noRefusal = refusal 0 0 0
 
 abbrev pub noResults : List ℕ
 noResults = 0 ∷ 0 ∷ 0 ∷ 0 ∷ []

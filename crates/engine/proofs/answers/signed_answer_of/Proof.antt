@@ -7,9 +7,9 @@ use borrow.Author.Needs.{needs}
 use Rattle.basis.specs.declared.Refusal.{Refusal}
 use Rattle.basis.specs.declared.SignedAnswer.{SignedAnswer}
 use Rattle.basis.specs.declared.SignedAnswer.the-variants.{Value}
-use Rattle.basis.specs.Outcome.{signedMeaning}
+use Rattle.basis.specs.Outcome.{signedMeaning, noRefusal}
 use Rattle.engine.specs.declared.CSignedAnswer.{CSignedAnswer}
-use Rattle.engine.specs.Enquiry.{noRefusal, signedAnswerOf}
+use Rattle.engine.specs.Enquiry.{signedAnswerOf}
 use Rattle.engine.proofs.answers.signed_answer_of.Statement.{statement}
 use Rattle.engine.proofs.answers.signed_answer_of.Tie as tie
 
