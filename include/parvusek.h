@@ -1,22 +1,17 @@
-/* The engine's surface for C and C++: every enquiry, the small set, the grid, the lifeline.
+/* The engine's surface for C, base level. Every call is total: any pointer with its true length, any number.
+   No call keeps a pointer, allocates, or writes anything but the lent output it names, and that only where it is
+   not refused. A length of 0 may come with any pointer. An input and an output of one call must not overlap.
+   There is no shared state: any number of threads may call at once, also on the same data run.
+   Units: 1,000,000,000 to one.
 
-   Numbers are whole units, PARVUSEK_UNIT (1,000,000,000) of them to one. Ages are 20 to 150, years the basis's base year
-   B to 2130. A question that is outside these is no fault of the program: it is refused by a number, and every number
-   may be asked.
+   A basis comes as a file; parvusek_read_basis makes of it, once, the data run that every other call is lent. Every
+   call checks its data run afresh (1, 4, 5), so nothing hangs on where the host keeps it.
 
-   Every call is total: it takes any number and any lent stretch of bytes with its true length, and it always returns.
-   It keeps no pointer, allocates nothing and reads or writes no other memory, so there is nothing to open or to free,
-   and any number of threads may call at once. It changes nothing but the output that it is lent, and that only where it
-   is not refused. A length of 0 may come with any pointer. An output must not overlap an input.
-
-   A basis travels as a file of PARVUSEK_FILE_LENGTH bytes and is worked with as its data run of PARVUSEK_RUN_LENGTH bytes;
-   parvusek_read_basis makes the one from the other. Every call checks its run afresh, so that a host can keep it as it
-   likes. "The run's own refusals" below are 1 (length), 4 (mark or zero bytes) and 5 (a field outside its limits).
-
-   A refusal's number and places, who causes it and what to do: docs/REFUSALS.md. Its sentence: parvusek_refusals.h. */
+   A refusal is a number and two places; the first in the order below decides. docs/REFUSALS.md has each number's
+   sentence, its cause and what to do; parvusek_refusals.h has the sentences for a program to print. U is 1,000,000,000,
+   F the foundation year and B the base year of the data run. */
 #ifndef PARVUSEK_H
 #define PARVUSEK_H
-
 #include <stddef.h>
 #include <stdint.h>
 
@@ -24,144 +19,87 @@
 extern "C" {
 #endif
 
-#define PARVUSEK_UNIT 1000000000u      /* units to one */
-#define PARVUSEK_FILE_LENGTH 4608u     /* bytes of a basis file */
-#define PARVUSEK_RUN_LENGTH 4554u      /* bytes of its data run */
-#define PARVUSEK_SMALL_SET_POINTS 6u   /* points of the small set */
-#define PARVUSEK_GRID_RECORDS 119u     /* records of the grid */
+#define PARVUSEK_UNIT 1000000000u    /* U, units to one */
+#define PARVUSEK_FILE_LENGTH 4608u   /* bytes of a basis file */
+#define PARVUSEK_RUN_LENGTH 4554u    /* bytes of a data run */
+#define PARVUSEK_SMALL_SET 6u        /* points of the small set */
+#define PARVUSEK_GRID 119u           /* records of the grid */
 
-/* ---- answers */
+typedef struct { uint32_t number; uint64_t first, second; } parvusek_refusal_t;      /* number 0: none, places 0 */
+typedef struct { parvusek_refusal_t refusal; uint64_t value; } parvusek_answer_t;    /* refused: value 0 */
+typedef struct { parvusek_refusal_t refusal; int64_t value; } parvusek_signed_answer_t;
 
-/* A refusal: its number and two places. Number 0 means that nothing was refused, and its places are 0. */
-typedef struct {
-    uint32_t number;
-    uint64_t first, second;
-} parvusek_refusal_t;
+typedef struct { uint32_t age, deferment, year; } parvusek_question_t;
+typedef struct { parvusek_question_t points[6]; } parvusek_questions_t;
+/* results are period and cohort expectation, period and cohort annuity; refused: all four 0 */
+typedef struct { uint64_t results[4]; parvusek_refusal_t refusal; } parvusek_point_answer_t;
+typedef struct { parvusek_refusal_t refusal; parvusek_point_answer_t points[6]; } parvusek_small_set_t;
+/* a record of the grid, with the same four results; first and second are the refusal's places */
+typedef struct { uint32_t age, deferment, year, refusal; uint64_t results[4]; uint64_t first, second; } parvusek_point_t;
+/* where a lifeline stands after a start or a step, and whether it has ended (1) */
+typedef struct { parvusek_refusal_t refusal; uint64_t survivors; uint32_t age, year, ended; } parvusek_lifeline_t;
 
-/* A value, and refusal number 0; or a refusal, and value 0. */
-typedef struct {
-    parvusek_refusal_t refusal;
-    uint64_t value;
-} parvusek_answer_t;
+/* ---- basis: a file of 4,608 bytes, a data run of 4,554 */
 
-/* The same where the value may be below zero. */
-typedef struct {
-    parvusek_refusal_t refusal;
-    int64_t value;
-} parvusek_signed_answer_t;
-
-/* ---- the basis */
-
-/* Is this data run accepted? Refusals: 1; 4; 5 by offset. */
+/* Whether a data run may be used. Refused: 1 (length), 4 (mark or zero bytes), 5 (a field outside its limits). */
 parvusek_refusal_t parvusek_check_basis(const uint8_t *run, size_t run_len);
 
-/* Reads a basis file: its data run goes to the first 4,554 bytes of `run`, further bytes stay as they are.
-   Refusals: 11 (`run` too short), 1, then block by block 2 (its check) and 3 (its number), 4, 5. */
+/* Writes the data run of a file into the first 4,554 bytes of run; further bytes are kept.
+   Refused: 11 (run too short: 4554), 1 (length), blocks ascending 2 (check) before 3 (number), then 4, 5. */
 parvusek_refusal_t parvusek_read_basis(const uint8_t *file, size_t file_len, uint8_t *run, size_t run_len);
 
-/* Writes the basis file of a data run to the first 4,608 bytes of `file`; reading it gives the same run.
-   Refusals: 11 (`file` too short), then the run's own. */
+/* Writes the file of a data run into the first 4,608 bytes of file; further bytes are kept.
+   Refused: 11 (file too short: 4608), 1, 4, 5. */
 parvusek_refusal_t parvusek_write_basis(const uint8_t *run, size_t run_len, uint8_t *file, size_t file_len);
 
-/* The short form: writes to `out` the data run that differs from `run` only in long-term rates, T and P. By age the
-   long-term rate is `long_term_rate` to age 90, runs off to 0 at 120 and is 0 from there; by birth year it is 0; every
-   T is 20 and every P is 50. Refusals: 11 (`out` shorter than 4,554), the run's own, then 5 with place 1078 where
-   `long_term_rate` is beyond +-200,000,000. */
-parvusek_refusal_t parvusek_short_form(const uint8_t *run, size_t run_len, int32_t long_term_rate, uint8_t *out,
-                                       size_t out_len);
+/* Writes the short form into the first 4,554 bytes of out: the data run with this one long-term rate, in units, run
+   off over the ages 91 to 119, every period 20 and every proportion 50; further bytes are kept.
+   Refused: 11 (out too short: 4554), 1, 4, 5, then 5 at offset 1078 for a rate beyond 200,000,000 either way. */
+parvusek_refusal_t parvusek_short_form(const uint8_t *run, size_t run_len, int32_t long_term_rate, uint8_t *out, size_t out_len);
 
-/* ---- single cells: an age in a year
-   Refusals: the run's own; 6 (age); 7 (year); then 9 (an improvement beyond +-500,000,000) and 10 (a factor above 4 to
-   one) where the work meets them, in the order of the years. */
+/* ---- single cells. Refused: 1, 4, 5 by the data run, 6 (age outside 20 to 150), 7 (year after 2130, or before F for
+   an improvement and before B for the others), 9 (an improvement needed is beyond 500,000,000 either way), and for a
+   factor and a rate 10 (a factor needed is above 4 U). */
 
-/* The mortality improvement, which may be below zero. Its first year is the foundation year F. It is never refused 10. */
+/* The rate of improvement; below zero where mortality worsens. */
 parvusek_signed_answer_t parvusek_improvement(const uint8_t *run, size_t run_len, uint32_t age, uint32_t year);
-
-/* The reduction factor since the base year: one in B, less where mortality has improved. */
+/* The reduction factor, U in year B. */
 parvusek_answer_t parvusek_factor(const uint8_t *run, size_t run_len, uint32_t age, uint32_t year);
-
-/* The mortality rate: base rate times factor, at most one. */
+/* The mortality rate: the base rate times the factor, at most U. */
 parvusek_answer_t parvusek_rate(const uint8_t *run, size_t run_len, uint32_t age, uint32_t year);
 
-/* ---- values of one life
-   The period kind takes the rates of one year for every age; the cohort kind follows the life into later years.
-   Refusals: the run's own; 6 (age); 8 (age + deferment above 150); 7 (year; year + deferment may be after 2130); then 9
-   and 10 where the work meets them. */
+/* ---- values of a life, each period and cohort. Refused: 1, 4, 5, 6, 8 (age + deferment above 150), 7 (year after
+   2130 or before B; year + deferment may be after 2130), then 9 and 10 in the order of the work. */
 
-/* Survivors of one to the age `age` + `deferment`: the deferment is the number of years. */
-parvusek_answer_t parvusek_period_survivorship(const uint8_t *run, size_t run_len, uint32_t age, uint32_t deferment,
-                                               uint32_t year);
-parvusek_answer_t parvusek_cohort_survivorship(const uint8_t *run, size_t run_len, uint32_t age, uint32_t deferment,
-                                               uint32_t year);
+/* Of U lives at this age in this year, those left after so many years; survivorship names its number of years as the
+   deferment. */
+parvusek_answer_t parvusek_period_survivorship(const uint8_t *run, size_t run_len, uint32_t age, uint32_t deferment, uint32_t year);
+parvusek_answer_t parvusek_cohort_survivorship(const uint8_t *run, size_t run_len, uint32_t age, uint32_t deferment, uint32_t year);
+/* The expectation of life at age + deferment in year + deferment, in years. */
+parvusek_answer_t parvusek_period_expectation(const uint8_t *run, size_t run_len, uint32_t age, uint32_t deferment, uint32_t year);
+parvusek_answer_t parvusek_cohort_expectation(const uint8_t *run, size_t run_len, uint32_t age, uint32_t deferment, uint32_t year);
+/* The value at this age in this year of 1 a year in advance for life, from the deferment's end on. */
+parvusek_answer_t parvusek_period_annuity(const uint8_t *run, size_t run_len, uint32_t age, uint32_t deferment, uint32_t year);
+parvusek_answer_t parvusek_cohort_annuity(const uint8_t *run, size_t run_len, uint32_t age, uint32_t deferment, uint32_t year);
 
-/* Expectation of life in years, at the deferred age in the deferred year. */
-parvusek_answer_t parvusek_period_expectation(const uint8_t *run, size_t run_len, uint32_t age, uint32_t deferment,
-                                              uint32_t year);
-parvusek_answer_t parvusek_cohort_expectation(const uint8_t *run, size_t run_len, uint32_t age, uint32_t deferment,
-                                              uint32_t year);
+/* ---- sets of model points */
 
-/* Value today of one a year for life, paid yearly in advance from the deferred age on. */
-parvusek_answer_t parvusek_period_annuity(const uint8_t *run, size_t run_len, uint32_t age, uint32_t deferment,
-                                          uint32_t year);
-parvusek_answer_t parvusek_cohort_annuity(const uint8_t *run, size_t run_len, uint32_t age, uint32_t deferment,
-                                          uint32_t year);
-
-/* ---- model points: a question with four results
-   Results stand in this order: period and cohort expectation, period and cohort annuity. A point that is refused has
-   the first refusal of the four in this order, 6 to 10, and four results of 0; the other points are answered. */
-
-typedef struct {
-    uint32_t age, deferment, year;
-} parvusek_question_t;
-
-typedef struct {
-    parvusek_question_t points[6];
-} parvusek_questions_t;
-
-typedef struct {
-    uint64_t results[4];
-    parvusek_refusal_t refusal;
-} parvusek_point_answer_t;
-
-/* `refusal` is that of the whole set; every result, refusal and place of its points is then 0. */
-typedef struct {
-    parvusek_refusal_t refusal;
-    parvusek_point_answer_t points[6];
-} parvusek_small_set_t;
-
-/* A record of the grid: age, deferment and year are the question and stay as they are; the rest is its answer. */
-typedef struct {
-    uint32_t age, deferment, year, refusal;
-    uint64_t results[4];
-    uint64_t first, second;
-} parvusek_point_t;
-
-/* The small set: six points. The set as a whole is refused by the run's own refusals only. */
+/* Six points by value. The set is refused by the data run alone (1, 4, 5), its points then being 0 throughout; a point
+   is refused by itself (6, 8, 7, then 9 and 10 in the order of its four results). */
 parvusek_small_set_t parvusek_small_set(const uint8_t *run, size_t run_len, parvusek_questions_t questions);
-
-/* The grid: fills the first 119 of `count` records in place; further records stay as they are. The grid as a whole is
-   refused, and no record changed, by 11 with place 119 where `count` is less, then by the run's own refusals.
-   To value fewer, pad the list with records of age 0: they are refused 6 at once. */
+/* The first 119 records, in place: each gets its four results, or its refusal with all four 0, whatever stood there;
+   questions and further records are kept. Refused: 11 (a list of fewer than 119: 119), 1, 4, 5; then no record
+   changes. To value fewer, fill the list up with records of age 0, which are refused at once (6). */
 parvusek_refusal_t parvusek_grid(const uint8_t *run, size_t run_len, parvusek_point_t *points, size_t count);
 
-/* ---- the lifeline: one life, year by year */
+/* ---- one life, year by year; the host keeps age, year and survivors between calls */
 
-/* Where a life stands after a start or a step. The host keeps age, year and survivors between the calls. */
-typedef struct {
-    parvusek_refusal_t refusal;
-    uint64_t survivors;
-    uint32_t age, year, ended; /* ended is 1 at age 150, otherwise 0 */
-} parvusek_lifeline_t;
-
-/* Survivors of one at this age in this year. A refused start holds 0, 0 and 0.
-   Refusals: the run's own; 6 (age); 7 (year). */
+/* U lives at this age in this year. Refused as a value with deferment 0; then age, year and survivors are 0. */
 parvusek_lifeline_t parvusek_lifeline_start(const uint8_t *run, size_t run_len, uint32_t age, uint32_t year);
-
-/* One year of cohort survivorship on: age and year one more, survivors fewer. A step that is refused, or that ends at
-   age 150, hands back what it was given. Refusals: the run's own; 6 (age); 7 (year before B, or year - age after 2110);
-   5 with place 4554 (survivors above one); then 9 and 10. */
-parvusek_lifeline_t parvusek_lifeline_step(const uint8_t *run, size_t run_len, uint32_t age, uint32_t year,
-                                           uint64_t survivors);
+/* One year of cohort survivorship, or ended at age 150. Refused: 1, 4, 5 by the data run, 6, 7 (year before B, or
+   year - age after 2110; a year after 2130 may stand), 5 at 4554 for survivors above U, then 9 and 10. A step that
+   ends or is refused hands back the age, year and survivors that it was given. */
+parvusek_lifeline_t parvusek_lifeline_step(const uint8_t *run, size_t run_len, uint32_t age, uint32_t year, uint64_t survivors);
 
 #ifdef __cplusplus
 }

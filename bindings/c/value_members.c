@@ -96,7 +96,7 @@ static void value(const uint8_t *run, const member_t *members, size_t count) {
 
 /* Values the rows below the header, six at a time. Hands back 0, or 1 where it has said what is wrong. */
 static int value_list(const uint8_t *run, const char *path) {
-    member_t members[PARVUSEK_SMALL_SET_POINTS];
+    member_t members[PARVUSEK_SMALL_SET];
     size_t count = 0;
     unsigned long line = 1;
     char row[256];
@@ -121,7 +121,7 @@ static int value_list(const uint8_t *run, const char *path) {
             fclose(list);
             return 1;
         }
-        if (++count == PARVUSEK_SMALL_SET_POINTS) {
+        if (++count == PARVUSEK_SMALL_SET) {
             value(run, members, count);
             count = 0;
         }

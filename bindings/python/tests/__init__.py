@@ -7,6 +7,6 @@ import sys
 from pathlib import Path
 
 REPOSITORY = Path(__file__).resolve().parents[3]
-SAMPLE = REPOSITORY / "bindings" / "sample"
+SAMPLE = REPOSITORY / "samples"
 
 sys.path.insert(0, str(REPOSITORY))
