@@ -39,3 +39,8 @@ pub enum Kind {
     /// Those of the years that it reaches.
     Cohort,
 }
+
+/// The Rust examples of the page for those who embed the engine are tests as well.
+#[cfg(doctest)]
+#[doc = include_str!("../../../docs/EMBEDDING.md")]
+mod embedding {}
