@@ -19,6 +19,7 @@
 //! repository's `target/staticlib`.
 
 mod basis;
+mod enquiries;
 mod ffi;
 mod lifeline;
 mod points;
