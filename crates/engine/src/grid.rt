@@ -58,3 +58,12 @@ pub extern "C" fn parvusek_grid(run: &[u8], points: &mut [Point]) -> Refusal
     }
     start.refusal
 }
+
+// For programs that hold their records: the array by value, lent to the grid and handed back.
+pub fn grid_array(run: &[u8], points: [Point; 119]) -> [Point; 119]
+    ensures { λ r. ⌜ r ≡ gridOf (now (run .entry)) points ⌝ }
+{
+    let mut records = points;
+    parvusek_grid(run, &mut records);
+    records
+}

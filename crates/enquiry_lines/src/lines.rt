@@ -1,5 +1,5 @@
-// A text that comes in parts, answered line by line on an accepted data run. The caller gives room for 192 bytes of reply
-// to each byte of a part: an empty line is one byte.
+// A text that comes in parts, answered line by line on an accepted data run. The caller gives room for 192 bytes of
+// reply to each byte of a part: an empty line is one byte.
 ghost use mathlib.Core.Path.{_≡_};
 ghost use mathlib.Core.List.{[]};
 ghost use Prim.Native.Nat.{_+_, _*_, _≤_, _<_};

@@ -101,7 +101,7 @@ number-printed (a ∷ w) n h =
     let p : placesFrom 19 n ≡ suc (length w) = places-exact 19 (length w) n (omega arith) lo hi in
     (omega (arith, hi, ten-four (length w) l), sym (ap (λ k. digits k n) p ∙ ap (λ k. digits k n) (sym e) ∙ spell (a ∷ w) 0 0 n (y .1)))
 
--- words with single spaces between
+-- ---- words with single spaces between
 abbrev joined : List (List ℕ) → List ℕ
 joined [] = []
 joined (w ∷ []) = w

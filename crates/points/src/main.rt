@@ -1,7 +1,7 @@
-// The points program: answers the lines of standard input by the basis in basis.bin, on standard output. It moves bytes;
-// what they mean is enquiry_lines' to say.
+// The points program: answers the lines of standard input by the basis in basis.bin, on standard output. It moves
+// bytes; what they mean is enquiry_lines' to say.
 ghost use mathlib.Core.Path.{_≡_};
-ghost use Prim.Native.Nat.{_+_, _*_, _≤_};
+ghost use Prim.Native.Nat.{_+_, _≤_};
 ghost use lib.ListN.{length};
 ghost use Rattle.basis.specs.Basis.{Accepted};
 ghost use Rattle.io.specs.Counts.{Counts};
