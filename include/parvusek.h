@@ -1,10 +1,15 @@
 /* The engine's surface for C, base level. Every call is total: any pointer with its true length, any number.
    No call keeps a pointer, allocates, or writes anything but the lent output it names, and that only where it is
    not refused. A length of 0 may come with any pointer. An input and an output of one call must not overlap.
+   There is no shared state: any number of threads may call at once, also on the same data run.
    Units: 1,000,000,000 to one.
 
-   A refusal is a number and two places; the first in the order below decides, and docs/REFUSALS.md has each number's
-   sentence. U is 1,000,000,000, F the foundation year and B the base year of the data run. */
+   A basis comes as a file; parvusek_read_basis makes of it, once, the data run that every other call is lent. Every
+   call checks its data run afresh (1, 4, 5), so nothing hangs on where the host keeps it.
+
+   A refusal is a number and two places; the first in the order below decides. docs/REFUSALS.md has each number's
+   sentence, its cause and what to do; parvusek_refusals.h has the sentences for a program to print. U is 1,000,000,000,
+   F the foundation year and B the base year of the data run. */
 #ifndef PARVUSEK_H
 #define PARVUSEK_H
 #include <stddef.h>
@@ -13,6 +18,12 @@
 #ifdef __cplusplus
 extern "C" {
 #endif
+
+#define PARVUSEK_UNIT 1000000000u    /* U, units to one */
+#define PARVUSEK_FILE_LENGTH 4608u   /* bytes of a basis file */
+#define PARVUSEK_RUN_LENGTH 4554u    /* bytes of a data run */
+#define PARVUSEK_SMALL_SET 6u        /* points of the small set */
+#define PARVUSEK_GRID 119u           /* records of the grid */
 
 typedef struct { uint32_t number; uint64_t first, second; } parvusek_refusal_t;      /* number 0: none, places 0 */
 typedef struct { parvusek_refusal_t refusal; uint64_t value; } parvusek_answer_t;    /* refused: value 0 */
@@ -78,7 +89,7 @@ parvusek_answer_t parvusek_cohort_annuity(const uint8_t *run, size_t run_len, ui
 parvusek_small_set_t parvusek_small_set(const uint8_t *run, size_t run_len, parvusek_questions_t questions);
 /* The first 119 records, in place: each gets its four results, or its refusal with all four 0, whatever stood there;
    questions and further records are kept. Refused: 11 (a list of fewer than 119: 119), 1, 4, 5; then no record
-   changes. */
+   changes. To value fewer, fill the list up with records of age 0, which are refused at once (6). */
 parvusek_refusal_t parvusek_grid(const uint8_t *run, size_t run_len, parvusek_point_t *points, size_t count);
 
 /* ---- one life, year by year; the host keeps age, year and survivors between calls */

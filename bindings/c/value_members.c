@@ -1,0 +1,149 @@
+/* Values a list of members against a basis file and prints a table; a refusal is explained where it stands.
+
+     value_members BASIS.bin [MEMBERS.csv]
+
+   MEMBERS.csv has the header row member,age,deferment,year; without it the three members below are valued.
+   Exit status: 0 done (refused members are part of the table), 1 the basis is refused or a file cannot be used, 2 usage. */
+#include <errno.h>
+#include <stdio.h>
+#include <string.h>
+
+#include "parvusek.h"
+#include "parvusek_refusals.h"
+
+typedef struct {
+    char name[24];
+    parvusek_question_t question;
+} member_t;
+
+static const member_t own_members[] = {
+    {"in payment", {65, 0, 2010}},
+    {"deferred", {45, 20, 2010}},
+    {"too old", {148, 3, 2010}},
+};
+
+/* ---- the basis: one file, read once; the engine keeps nothing, so the run is ours to keep */
+
+/* The data run of a basis file. Hands back 0, or 1 where it has said what is wrong. */
+static int read_basis(const char *path, uint8_t run[PARVUSEK_RUN_LENGTH]) {
+    /* One byte more than a basis file has: a longer file is then refused, too. */
+    uint8_t file[PARVUSEK_FILE_LENGTH + 1];
+    parvusek_refusal_t refusal;
+    size_t length;
+    char line[128];
+    FILE *opened = fopen(path, "rb");
+    if (opened == NULL) {
+        fprintf(stderr, "value_members: %s: %s\n", path, strerror(errno));
+        return 1;
+    }
+    length = fread(file, 1, sizeof file, opened);
+    fclose(opened);
+    refusal = parvusek_read_basis(file, length, run, PARVUSEK_RUN_LENGTH);
+    if (refusal.number != 0) {
+        parvusek_refusal_line(line, sizeof line, refusal);
+        fprintf(stderr, "value_members: %s: %s\n", path, line);
+        return 1;
+    }
+    return 0;
+}
+
+/* ---- the table */
+
+/* Units with nine decimals, as whole numbers: no floating point comes near a value. */
+static void print_units(uint64_t units) {
+    printf(" %5" PRIu64 ".%09" PRIu64, units / PARVUSEK_UNIT, units % PARVUSEK_UNIT);
+}
+
+static void print_header(void) {
+    printf("%-12s %3s %9s %4s %15s %15s %15s %15s\n", "member", "age", "deferment", "year", "period exp.", "cohort exp.",
+           "period annuity", "cohort annuity");
+}
+
+static void print_member(const member_t *member, const parvusek_point_answer_t *answer) {
+    const parvusek_question_t *asked = &member->question;
+    char line[128];
+    int i;
+    printf("%-12s %3" PRIu32 " %9" PRIu32 " %4" PRIu32, member->name, asked->age, asked->deferment, asked->year);
+    if (answer->refusal.number != 0) {
+        parvusek_refusal_line(line, sizeof line, answer->refusal);
+        printf(" %s\n", line);
+        return;
+    }
+    for (i = 0; i < 4; i++) {
+        print_units(answer->results[i]);
+    }
+    printf("\n");
+}
+
+/* Values up to six members by one small set: the basis is checked once for all of them. */
+static void value(const uint8_t *run, const member_t *members, size_t count) {
+    parvusek_questions_t questions;
+    parvusek_small_set_t set;
+    size_t i;
+    /* Age 0 in the places that are left: these points are refused at once and not printed. */
+    memset(&questions, 0, sizeof questions);
+    for (i = 0; i < count; i++) {
+        questions.points[i] = members[i].question;
+    }
+    /* The set as a whole can only be refused for its basis, which read_basis has accepted. */
+    set = parvusek_small_set(run, PARVUSEK_RUN_LENGTH, questions);
+    for (i = 0; i < count; i++) {
+        print_member(&members[i], &set.points[i]);
+    }
+}
+
+/* ---- the list of members */
+
+/* Values the rows below the header, six at a time. Hands back 0, or 1 where it has said what is wrong. */
+static int value_list(const uint8_t *run, const char *path) {
+    member_t members[PARVUSEK_SMALL_SET];
+    size_t count = 0;
+    unsigned long line = 1;
+    char row[256];
+    FILE *list = fopen(path, "r");
+    if (list == NULL) {
+        fprintf(stderr, "value_members: %s: %s\n", path, strerror(errno));
+        return 1;
+    }
+    if (fgets(row, sizeof row, list) == NULL || strcmp(row, "member,age,deferment,year\n") != 0) {
+        fprintf(stderr, "value_members: %s does not begin with the row member,age,deferment,year\n", path);
+        fclose(list);
+        return 1;
+    }
+    while (fgets(row, sizeof row, list) != NULL) {
+        member_t *member = &members[count];
+        int length = 0;
+        line++;
+        if (sscanf(row, "%23[^,],%4" SCNu32 ",%4" SCNu32 ",%4" SCNu32 "%n", member->name, &member->question.age,
+                   &member->question.deferment, &member->question.year, &length) != 4
+            || (row[length] != '\n' && row[length] != '\0')) {
+            fprintf(stderr, "value_members: %s, line %lu is not a member, an age, a deferment and a year\n", path, line);
+            fclose(list);
+            return 1;
+        }
+        if (++count == PARVUSEK_SMALL_SET) {
+            value(run, members, count);
+            count = 0;
+        }
+    }
+    value(run, members, count);
+    fclose(list);
+    return 0;
+}
+
+int main(int count, char **words) {
+    uint8_t run[PARVUSEK_RUN_LENGTH];
+    if (count != 2 && count != 3) {
+        fprintf(stderr, "usage: value_members BASIS.bin [MEMBERS.csv]\n");
+        return 2;
+    }
+    if (read_basis(words[1], run) != 0) {
+        return 1;
+    }
+    print_header();
+    if (count == 3) {
+        return value_list(run, words[2]);
+    }
+    value(run, own_members, sizeof own_members / sizeof own_members[0]);
+    return 0;
+}

@@ -1,0 +1,257 @@
+"""A basis and the enquiries that it answers."""
+
+import ctypes
+import enum
+import os
+from pathlib import Path
+from typing import Iterable, NamedTuple, Sequence, Union
+
+from ._library import (GRID_RECORDS, SMALL_SET_POINTS, CPoint, CQuestion, CQuestions, CRefusal,
+                       library)
+from .refusals import Refusal
+
+RUN_LENGTH = 4_554
+FILE_LENGTH = 4_608
+
+
+class Kind(enum.Enum):
+    """Whose rates a life meets: those of one year at every age, or those of the years it reaches."""
+
+    PERIOD = "period"
+    COHORT = "cohort"
+
+
+class Question(NamedTuple):
+    """An age, a deferment in years and a calendar year."""
+
+    age: int
+    deferment: int
+    year: int
+
+
+class Results(NamedTuple):
+    """The four results of a model point, in units."""
+
+    period_expectation: int
+    cohort_expectation: int
+    period_annuity: int
+    cohort_annuity: int
+
+
+class Standing(NamedTuple):
+    """Where a life stands: its age, the year, and the survivors of one in units."""
+
+    age: int
+    year: int
+    survivors: int
+
+
+Answer = Union[Results, Refusal]
+
+
+class Basis:
+    """An accepted basis. It owns its data run, which never changes; any thread may use it.
+
+    Values are whole units, 1,000,000,000 to one (see `decimal`). An enquiry that is refused raises
+    `Refusal`; a number that does not fit the engine's 32 bits raises ValueError.
+    """
+
+    __slots__ = ("_run",)
+
+    def __init__(self, run: bytes) -> None:
+        """The basis of a data run of 4,554 bytes, refused by 1, 4 or 5."""
+        self._run = bytes(run)
+        _accepted(library().parvusek_check_basis(self._run, len(self._run)))
+
+    @classmethod
+    def from_file(cls, file: bytes) -> "Basis":
+        """The basis of the 4,608 bytes of a basis file, refused by 1 to 5."""
+        run = ctypes.create_string_buffer(RUN_LENGTH)
+        _accepted(library().parvusek_read_basis(bytes(file), len(file), run, RUN_LENGTH))
+        return cls(run.raw)
+
+    @classmethod
+    def read(cls, path: Union[str, "os.PathLike[str]"]) -> "Basis":
+        """The basis of the basis file at a path; OSError where it cannot be read."""
+        with open(path, "rb") as file:
+            # One byte more than a basis file has: enough to be refused, however long the file is.
+            return cls.from_file(file.read(FILE_LENGTH + 1))
+
+    @property
+    def run(self) -> bytes:
+        """The data run of 4,554 bytes."""
+        return self._run
+
+    def to_file(self) -> bytes:
+        """The 4,608 bytes of the basis file; reading them gives this basis again."""
+        file = ctypes.create_string_buffer(FILE_LENGTH)
+        _accepted(library().parvusek_write_basis(self._run, RUN_LENGTH, file, FILE_LENGTH))
+        return file.raw
+
+    def write(self, path: Union[str, "os.PathLike[str]"]) -> None:
+        """Writes the basis file to a path."""
+        Path(path).write_bytes(self.to_file())
+
+    def short_form(self, long_term_rate: int) -> "Basis":
+        """The basis that has one long-term rate, running off from age 90 to 120, every T 20 and P 50."""
+        run = ctypes.create_string_buffer(RUN_LENGTH)
+        rate = _fits("long_term_rate", long_term_rate, -2**31, 2**31 - 1)
+        _accepted(library().parvusek_short_form(self._run, RUN_LENGTH, rate, run, RUN_LENGTH))
+        return Basis(run.raw)
+
+    def __eq__(self, other: object) -> bool:
+        return isinstance(other, Basis) and self._run == other._run
+
+    def __hash__(self) -> int:
+        return hash(self._run)
+
+    def __repr__(self) -> str:
+        return f"<Basis F {self.foundation_year}, B {self.base_year}>"
+
+    # ---- its settings
+
+    @property
+    def foundation_year(self) -> int:
+        """F, the year from which improvements are projected."""
+        return int.from_bytes(self._run[4:6], "little")
+
+    @property
+    def base_year(self) -> int:
+        """B, the year of the base rates, the first year of an enquiry."""
+        return int.from_bytes(self._run[6:8], "little")
+
+    @property
+    def constant_addition(self) -> int:
+        """What is added to each improvement after F, in units."""
+        return int.from_bytes(self._run[8:12], "little", signed=True)
+
+    @property
+    def discount_rate(self) -> int:
+        """The yearly rate of discount, in units."""
+        return int.from_bytes(self._run[12:16], "little", signed=True)
+
+    # ---- single cells
+
+    def improvement(self, age: int, year: int) -> int:
+        """The mortality improvement at an age in a year from F on; it may be below zero."""
+        return self._answer("improvement", age=age, year=year)
+
+    def factor(self, age: int, year: int) -> int:
+        """The reduction factor since the base year."""
+        return self._answer("factor", age=age, year=year)
+
+    def rate(self, age: int, year: int) -> int:
+        """The mortality rate: base rate times factor, at most one."""
+        return self._answer("rate", age=age, year=year)
+
+    # ---- values of one life
+
+    def survivorship(self, kind: Kind, age: int, years: int, year: int) -> int:
+        """Survivors of one after a number of years, which a refusal names as the deferment."""
+        return self._answer(f"{kind.value}_survivorship", age=age, deferment=years, year=year)
+
+    def expectation(self, kind: Kind, age: int, deferment: int, year: int) -> int:
+        """Expectation of life at the deferred age in the deferred year."""
+        return self._answer(f"{kind.value}_expectation", age=age, deferment=deferment, year=year)
+
+    def annuity(self, kind: Kind, age: int, deferment: int, year: int) -> int:
+        """Value today of one a year for life, yearly in advance from the deferred age on."""
+        return self._answer(f"{kind.value}_annuity", age=age, deferment=deferment, year=year)
+
+    def _answer(self, enquiry: str, **numbers: int) -> int:
+        function = getattr(library(), f"parvusek_{enquiry}")
+        asked = [_fits(name, number) for name, number in numbers.items()]
+        answer = function(self._run, RUN_LENGTH, *asked)
+        _accepted(answer.refusal)
+        return int(answer.value)
+
+    # ---- model points
+
+    def small_set(self, questions: Sequence[Question]) -> list[Answer]:
+        """The answers to exactly six questions: for each its four results, or its refusal."""
+        if len(questions) != SMALL_SET_POINTS:
+            raise ValueError(f"the small set has six questions, not {len(questions)}")
+        asked = CQuestions((CQuestion * SMALL_SET_POINTS)(*map(_asked, questions)))
+        answers = library().parvusek_small_set(self._run, RUN_LENGTH, asked)
+        _accepted(answers.refusal)
+        return [_refused(point.refusal) or Results(*point.results) for point in answers.points]
+
+    def grid(self, questions: Sequence[Question]) -> list[Answer]:
+        """The answers to the first 119 questions; fewer are refused by 11."""
+        records = (CPoint * len(questions))(*map(_asked, questions))
+        _accepted(library().parvusek_grid(self._run, RUN_LENGTH, records, len(questions)))
+        return [Refusal(record.refusal, record.first, record.second) if record.refusal
+                else Results(*record.results) for record in records[:GRID_RECORDS]]
+
+    def value(self, questions: Iterable[Question]) -> list[Answer]:
+        """The answers to any number of questions, in their order, by as many grids as they fill."""
+        asked = list(questions)
+        answers: list[Answer] = []
+        for start in range(0, len(asked), GRID_RECORDS):
+            part = asked[start:start + GRID_RECORDS]
+            # Records of age 0 fill the grid up: they are refused at once and cost nothing.
+            answers += self.grid(part + [Question(0, 0, 0)] * (GRID_RECORDS - len(part)))[:len(part)]
+        return answers
+
+    def lifeline(self, age: int, year: int) -> "Lifeline":
+        """A life from this age and year on, to be followed year by year."""
+        return Lifeline(self, age, year)
+
+
+class Lifeline:
+    """One life followed along its cohort: iterating steps year by year, up to age 150.
+
+    It holds the age, the year and the survivors of one; a step that ends or is refused leaves them.
+    """
+
+    __slots__ = ("_basis", "_standing")
+
+    def __init__(self, basis: Basis, age: int, year: int) -> None:
+        self._basis = basis
+        start = library().parvusek_lifeline_start(basis.run, RUN_LENGTH, _fits("age", age),
+                                                  _fits("year", year))
+        _accepted(start.refusal)
+        self._standing = Standing(start.age, start.year, start.survivors)
+
+    @property
+    def standing(self) -> Standing:
+        """Where the life stands."""
+        return self._standing
+
+    def step(self) -> bool:
+        """One year on. False, with nothing changed, where the life has ended at age 150."""
+        step = library().parvusek_lifeline_step(self._basis.run, RUN_LENGTH, *self._standing)
+        _accepted(step.refusal)
+        self._standing = Standing(step.age, step.year, step.survivors)
+        return not step.ended
+
+    def __iter__(self) -> "Lifeline":
+        return self
+
+    def __next__(self) -> Standing:
+        if not self.step():
+            raise StopIteration
+        return self._standing
+
+
+def _refused(refusal: CRefusal) -> Union[Refusal, None]:
+    return Refusal(refusal.number, refusal.first, refusal.second) if refusal.number else None
+
+
+def _accepted(refusal: CRefusal) -> None:
+    refused = _refused(refusal)
+    if refused is not None:
+        raise refused
+
+
+def _fits(name: str, number: int, least: int = 0, greatest: int = 2**32 - 1) -> int:
+    """The number itself. ctypes would cut a longer one short and ask about another age."""
+    if not isinstance(number, int) or isinstance(number, bool):
+        raise TypeError(f"{name} is a whole number, not {number!r}")
+    if not least <= number <= greatest:
+        raise ValueError(f"{name} {number} is not within {least} to {greatest}")
+    return number
+
+
+def _asked(question: Question) -> tuple[int, ...]:
+    return tuple(map(_fits, Question._fields, question))

@@ -1,0 +1,197 @@
+"""The command line: members valued as the outside calculation values them, bases made and shown, clear errors."""
+
+import contextlib
+import csv
+import io
+import os
+import subprocess
+import sys
+import tempfile
+import unittest
+from pathlib import Path
+from unittest import mock
+
+from outside import bases, points
+from outside.basis import encode
+from outside.refusals import Refusal as OutsideRefusal
+from parvusek.__main__ import main
+from parvusek.members import Counts, Progress
+
+from . import REPOSITORY, SAMPLE
+
+
+class Command(unittest.TestCase):
+    def setUp(self) -> None:
+        folder = tempfile.TemporaryDirectory()
+        self.addCleanup(folder.cleanup)
+        self.folder = Path(folder.name)
+
+    def run_command(self, *arguments: object) -> tuple[int, str, str]:
+        said, wrong = io.StringIO(), io.StringIO()
+        with contextlib.redirect_stdout(said), contextlib.redirect_stderr(wrong):
+            status = main([str(argument) for argument in arguments])
+        return status, said.getvalue(), wrong.getvalue()
+
+    def value(self, members: str) -> tuple[int, str, str]:
+        (self.folder / "members.csv").write_text(members, encoding="utf-8")
+        return self.run_command("value", self.folder / "members.csv", SAMPLE / "basis.bin",
+                                self.folder / "values.csv")
+
+    def values(self) -> list[dict[str, str]]:
+        with open(self.folder / "values.csv", encoding="utf-8", newline="") as file:
+            return list(csv.DictReader(file))
+
+
+class Value(Command):
+    def test_sample(self) -> None:
+        status, said, wrong = self.value((SAMPLE / "members.csv").read_text(encoding="utf-8"))
+        self.assertEqual((status, wrong), (0, ""))
+        self.assertTrue(said.endswith("values.csv: 9 rows, 6 valued, 3 refused\n"), said)
+        self.assertEqual((self.folder / "values.csv").read_bytes(), (SAMPLE / "values.csv").read_bytes())
+        self.assertEqual(sorted(os.listdir(self.folder)), ["members.csv", "values.csv"])
+
+    def test_sample_is_what_the_outside_calculation_gives(self) -> None:
+        run = bytes(encode(bases.realistic()))
+        with open(SAMPLE / "values.csv", encoding="utf-8", newline="") as file:
+            for row in csv.DictReader(file):
+                asked = (int(row["age"]), int(row["deferment"]), int(row["year"]))
+                try:
+                    wanted = ["%d.%09d" % divmod(result, 10**9) for result in points.point(run, *asked)] + [""] * 3
+                except OutsideRefusal as refusal:
+                    wanted = [""] * 4 + [str(number) for number in refusal.numbers()]
+                found = [row[column] for column in (
+                    "period_expectation", "cohort_expectation", "period_annuity", "cohort_annuity",
+                    "refusal", "first", "second")]
+                self.assertEqual(found, wanted, asked)
+
+    def test_rows_that_are_not_of_the_form(self) -> None:
+        status, said, wrong = self.value(
+            "year,name,age,deferment\n2010,\"Smith, A\",65,0\n2010,B,065,0\n\n2010,C,65\n2010,D,-5,0\n"
+            "2010,E,65,99999\n2010,F, 65 ,0\n2010,G,65,0,1\n")
+        self.assertEqual((status, wrong), (0, ""))
+        rows = self.values()
+        self.assertEqual([row["refusal"] for row in rows], ["", "12", "12", "12", "12", "12", "", "12"])
+        self.assertEqual([row["first"] for row in rows], ["", "3", "4", "5", "6", "7", "", "9"])
+        self.assertEqual(rows[0]["name"], "Smith, A")
+        self.assertEqual(rows[0]["cohort_annuity"], rows[6]["cohort_annuity"])
+        self.assertEqual(rows[1]["message"], "a line is not of the form asked (line 3): age is '065', not a "
+                                             "number of 1 to 4 digits without a needless leading zero")
+        self.assertEqual(rows[3]["message"],
+                         "a line is not of the form asked (line 5): 3 cells where the header has 4")
+        self.assertIn("8 rows, 2 valued, 6 refused", said)
+
+    def test_many_rows_in_order(self) -> None:
+        ages = [20 + place * 37 % 140 for place in range(4_500)]
+        status, said, _ = self.value("age,deferment,year\n" + "".join(f"{age},0,2010\n" for age in ages))
+        self.assertEqual(status, 0)
+        self.assertIn("4,500 rows", said)
+        self.assertEqual([int(row["age"]) for row in self.values()], ages)
+        for row in self.values():
+            self.assertEqual(row["refusal"], "6" if int(row["age"]) > 150 else "")
+
+    def test_header(self) -> None:
+        for header, wanted in (("age,year", "no column 'deferment'"), ("", "no column 'age'"),
+                               ("age;deferment;year", "separated by commas"),
+                               ("age,age,deferment,year", "more than one column 'age'"),
+                               ("age,deferment,year,refusal", "a column 'refusal' already")):
+            status, _, wrong = self.value(header + "\n65,0,2010\n" if header else "")
+            self.assertEqual(status, 1)
+            self.assertIn(wanted, wrong)
+            self.assertEqual(os.listdir(self.folder), ["members.csv"])
+
+    def test_files_that_cannot_be_used(self) -> None:
+        members = SAMPLE / "members.csv"
+        out = self.folder / "values.csv"
+        status, _, wrong = self.run_command("value", self.folder / "none.csv", SAMPLE / "basis.bin", out)
+        self.assertEqual((status, wrong), (1, f"parvusek: {self.folder}/none.csv: No such file or directory\n"))
+        status, _, wrong = self.run_command("value", members, members, out)
+        self.assertEqual(status, 1)
+        self.assertIn("members.csv is refused: refused 1: file not 4,608 bytes", wrong)
+        status, _, wrong = self.run_command("value", members, SAMPLE / "basis.bin", self.folder / "no" / "values.csv")
+        self.assertEqual(status, 1)
+        self.assertIn("No such file or directory", wrong)
+        (self.folder / "own.csv").write_bytes(members.read_bytes())
+        status, _, wrong = self.run_command("value", self.folder / "own.csv", SAMPLE / "basis.bin",
+                                            self.folder / "own.csv")
+        self.assertEqual(status, 1)
+        self.assertIn("is the file of members itself", wrong)
+        self.assertEqual((self.folder / "own.csv").read_bytes(), members.read_bytes())
+        (self.folder / "latin.csv").write_bytes(b"age,deferment,year,name\n65,0,2010,\xe9\n")
+        status, _, wrong = self.run_command("value", self.folder / "latin.csv", SAMPLE / "basis.bin", out)
+        self.assertEqual(status, 1)
+        self.assertIn("not UTF-8", wrong)
+        self.assertFalse(out.exists())
+
+    def test_standard_input_and_output(self) -> None:
+        environment = dict(os.environ, PYTHONPATH=str(REPOSITORY / "bindings" / "python"))
+        done = subprocess.run([sys.executable, "-m", "parvusek", "value", "-", SAMPLE / "basis.bin", "-"],
+                              input=(SAMPLE / "members.csv").read_bytes(), env=environment,
+                              capture_output=True, check=True)
+        self.assertEqual(done.stdout, (SAMPLE / "values.csv").read_bytes())
+        self.assertEqual(done.stderr, b"")
+
+    def test_progress_on_a_terminal_only(self) -> None:
+        class Terminal(io.StringIO):
+            def isatty(self) -> bool:
+                return True
+
+        terminal, file = Terminal(), io.StringIO()
+        for stream in (terminal, file):
+            progress = Progress(io.BytesIO(b"x"), 1, stream)
+            progress(Counts(1_000, 2))
+            progress.end()
+        self.assertIn("1,002 rows, 2 refused, 0 %", terminal.getvalue())
+        self.assertTrue(terminal.getvalue().endswith("\r\x1b[K"))
+        self.assertEqual(file.getvalue(), "")
+
+
+class Bases(Command):
+    def test_make_and_show(self) -> None:
+        status, said, _ = self.run_command("basis", "make", SAMPLE / "tables", self.folder / "basis.bin")
+        self.assertEqual(status, 0)
+        self.assertTrue(said.endswith("basis.bin: accepted; F 2006, B 2008, addition 0.001000000, "
+                                      "discount 0.030000000\n"), said)
+        self.assertEqual(self.run_command("basis", "check", self.folder / "basis.bin")[:2], (0, said))
+        status, _, _ = self.run_command("basis", "show", self.folder / "basis.bin", self.folder / "tables")
+        self.assertEqual(status, 0)
+        self.run_command("basis", "make", self.folder / "tables", self.folder / "again.bin")
+        self.assertEqual((self.folder / "again.bin").read_bytes(), (SAMPLE / "basis.bin").read_bytes())
+        status, _, wrong = self.run_command("basis", "show", self.folder / "basis.bin", self.folder / "tables")
+        self.assertEqual(status, 1)
+        self.assertIn("--force writes over", wrong)
+
+    def test_a_refused_file_is_explained(self) -> None:
+        file = bytearray((SAMPLE / "basis.bin").read_bytes())
+        file[2 + 12] = 255  # the discount rate's lowest and highest bytes: below zero
+        file[2 + 15] = 255
+        words = [int.from_bytes(file[4 * place:4 * place + 4], "little") for place in range(127)]
+        check = sum(word * place for place, word in enumerate(words, 1)) % 2**32
+        file[508:512] = check.to_bytes(4, "little")
+        (self.folder / "basis.bin").write_bytes(file)
+        status, _, wrong = self.run_command("basis", "check", self.folder / "basis.bin")
+        self.assertEqual(status, 1)
+        self.assertIn("is refused: settings.csv, discount_rate: -", wrong)
+        self.assertIn("is outside its limits, 0.000000000 to 0.200000000 (refused 5", wrong)
+
+    def test_a_failed_make_leaves_the_old_file(self) -> None:
+        (self.folder / "basis.bin").write_bytes(b"old")
+        status, _, wrong = self.run_command("basis", "make", self.folder, self.folder / "basis.bin")
+        self.assertEqual(status, 1)
+        self.assertIn("has no settings.csv and no base_rates.csv", wrong)
+        self.assertEqual(os.listdir(self.folder), ["basis.bin"])
+        self.assertEqual((self.folder / "basis.bin").read_bytes(), b"old")
+
+
+class Library(Command):
+    def test_a_library_that_is_not_there(self) -> None:
+        import parvusek._library as place
+        place.library.cache_clear()
+        try:
+            for named in (self.folder, self.folder / "none.so", __file__):
+                with mock.patch.dict(os.environ, PARVUSEK_LIB=str(named)):
+                    status, _, wrong = self.run_command("basis", "check", SAMPLE / "basis.bin")
+                self.assertEqual(status, 1)
+                self.assertTrue(wrong.startswith("parvusek: "), wrong)
+                self.assertIn(str(named), wrong)
+        finally:
+            place.library.cache_clear()

@@ -1,0 +1,33 @@
+"""The sentences of the refusals are those of docs/REFUSALS.md."""
+
+import pickle
+import re
+import unittest
+
+from parvusek import Refusal
+from parvusek.refusals import PLACES, SENTENCES
+
+from . import REPOSITORY
+
+
+class Refusals(unittest.TestCase):
+    def test_sentences(self) -> None:
+        text = (REPOSITORY / "docs" / "REFUSALS.md").read_text(encoding="utf-8")
+        rows = re.findall(r"^\| (\d+) \| (.*?) \| (.*?) \|", text, re.MULTILINE)
+        in_short = {int(number): sentence for number, sentence, _ in rows[:12]}
+        self.assertEqual(SENTENCES, in_short)
+        for number, _, places in rows[:12]:
+            named = [place for place in places.split(", ") if place != "0"]
+            self.assertEqual(len(PLACES[int(number)]), len(named), f"the places of {number}")
+
+    def test_message(self) -> None:
+        self.assertEqual(str(Refusal(1)), "refused 1: file not 4,608 bytes, or data run not 4,554")
+        self.assertEqual(str(Refusal(6, 19)), "refused 6: age outside 20 to 150 (age 19)")
+        self.assertEqual(Refusal(9, 70, 2031).message,
+                         "an improvement needed is beyond ±500,000,000 (age 70, year 2031)")
+
+    def test_is_an_exception_with_its_numbers(self) -> None:
+        refusal = Refusal(8, 148, 3)
+        self.assertEqual((refusal.number, refusal.first, refusal.second), (8, 148, 3))
+        self.assertEqual(pickle.loads(pickle.dumps(refusal)), refusal)
+        self.assertNotEqual(refusal, Refusal(8, 148, 4))

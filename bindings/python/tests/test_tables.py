@@ -1,0 +1,139 @@
+"""Tables to basis and back: the same bytes, and a message that names the place of what is wrong."""
+
+import shutil
+import tempfile
+import unittest
+from pathlib import Path
+
+from outside import bases
+from outside.basis import encode
+from outside.layout import limits
+from parvusek import Basis, Refusal
+from parvusek.layout import COLUMNS, FILES, SETTINGS, field_at
+from parvusek.tables import TableError, basis_of, explained, show
+
+from . import SAMPLE
+
+
+class RoundTrip(unittest.TestCase):
+    def test_basis_to_tables_and_back(self) -> None:
+        drawn = [bases.random_basis(seed, -200_000_000, 200_000_000) for seed in range(5)]
+        for outside_basis in [bases.sample(), bases.realistic(), bases.limits_basis(1), *drawn]:
+            basis = Basis(bytes(encode(outside_basis)))
+            with tempfile.TemporaryDirectory() as folder:
+                show(basis, Path(folder))
+                self.assertEqual(basis_of(Path(folder)).run, basis.run)
+
+    def test_sample(self) -> None:
+        basis = basis_of(SAMPLE / "tables")
+        self.assertEqual(basis.to_file(), (SAMPLE / "basis.bin").read_bytes())
+        with tempfile.TemporaryDirectory() as folder:
+            show(basis, Path(folder))
+            for file in FILES:
+                self.assertEqual((Path(folder) / file).read_bytes(), (SAMPLE / "tables" / file).read_bytes())
+
+    def test_shown_over_other_tables_only_if_told(self) -> None:
+        basis = basis_of(SAMPLE / "tables")
+        with tempfile.TemporaryDirectory() as folder:
+            show(basis, Path(folder))
+            with self.assertRaisesRegex(TableError, "settings.csv .* already"):
+                show(basis, Path(folder))
+            show(basis, Path(folder), overwrite=True)
+
+
+class Layout(unittest.TestCase):
+    def test_fields_are_those_of_the_outside_calculation(self) -> None:
+        run = bytes(encode(bases.realistic()))
+        wanted = [(offset, number, low, high) for offset, number, low, high in limits(run) if offset != 6]
+        found = [(column.offset + column.width * entry, number, column.low, column.high)
+                 for column in SETTINGS + COLUMNS for entry, number in enumerate(column.numbers(run))
+                 if column.offset != 6]
+        self.assertEqual(found, wanted)
+
+    def test_field_at(self) -> None:
+        for column in SETTINGS + COLUMNS:
+            self.assertEqual(field_at(column.offset), (column, 0))
+            last = column.offset + column.width * (column.entries - 1)
+            self.assertEqual(field_at(last), (column, column.entries - 1))
+        for offset in (0, 5, 16, 29, 31, 4554):
+            self.assertIsNone(field_at(offset))
+
+
+class Messages(unittest.TestCase):
+    def setUp(self) -> None:
+        self.folder = Path(tempfile.mkdtemp())
+        self.addCleanup(shutil.rmtree, self.folder)
+        shutil.copytree(SAMPLE / "tables", self.folder, dirs_exist_ok=True)
+
+    def refused(self, file: str, old: str, new: str) -> str:
+        path = self.folder / file
+        text = path.read_text(encoding="utf-8")
+        self.assertIn(old, text)
+        path.write_text(text.replace(old, new, 1), encoding="utf-8")
+        with self.assertRaises(TableError) as caught:
+            basis_of(self.folder)
+        return str(caught.exception)
+
+    def test_a_field_outside_its_limits(self) -> None:
+        self.assertEqual(
+            self.refused("age_component.csv", "\n23,0.012000000,0.010000000", "\n23,0.012000000,0.200000001"),
+            "age_component.csv, age 23, long_term_rate: 0.200000001 is outside its limits, -0.200000000 to "
+            "0.200000000 (refused 5: a field outside its limits (offset 1090))")
+
+    def test_a_birth_year(self) -> None:
+        message = self.refused("cohort_component.csv", "\n1931,0.025000000,0.000000000,26,50",
+                               "\n1931,0.025000000,0.000000000,0,50")
+        self.assertTrue(message.startswith("cohort_component.csv, birth year 1931, convergence_period: 0 is "
+                                           "outside its limits, 1 to 50 (refused 5"), message)
+
+    def test_settings(self) -> None:
+        message = self.refused("settings.csv", "base_year,2008", "base_year,2005")
+        self.assertTrue(message.startswith("settings.csv, base_year: 2005 is outside its limits, "
+                                           "the foundation year 2006 to 2130 (refused 5"), message)
+
+    def test_a_number_that_its_bytes_cannot_hold(self) -> None:
+        self.assertEqual(self.refused("age_component.csv", "\n20,0.012000000,0.010000000,10,50",
+                                      "\n20,0.012000000,0.010000000,10,256"),
+                         "age_component.csv, age 20, proportion_remaining: 256 is outside its limits, 0 to 150")
+
+    def test_not_a_number(self) -> None:
+        self.assertEqual(self.refused("base_rates.csv", "20,0.000300000", "20,3e-4"),
+                         "base_rates.csv, age 20, base_rate: '3e-4' is not a decimal number with at most nine "
+                         "decimals, such as 0.0125")
+        self.assertIn("age 21, base_rate: '0.0003270001' is not a decimal number with at most nine",
+                      self.refused("base_rates.csv", "20,3e-4\n21,0.000327000", "20,0.0003\n21,0.0003270001"))
+
+    def test_rows(self) -> None:
+        self.assertEqual(self.refused("base_rates.csv", "\n22,", "\n23,"),
+                         "base_rates.csv, line 4: age 23 stands where age 22 is wanted")
+        self.assertEqual(self.refused("base_rates.csv", "\n23,0.000356430\n", "\n22,0.00035,6430\n"),
+                         "base_rates.csv, line 4: 3 cells stand where 2 are wanted (age,base_rate)")
+
+    def test_missing_and_further_rows(self) -> None:
+        self.assertEqual(self.refused("base_rates.csv", "\n150,1.000000000", ""),
+                         "base_rates.csv: age 150 is missing; the table goes to 150")
+        self.assertEqual(self.refused("base_rates.csv", "\n149,1.000000000", "\n149,1\n150,1\n151,1"),
+                         "base_rates.csv, line 133: age 151 stands where the end of the table is wanted")
+
+    def test_header_and_files(self) -> None:
+        self.assertEqual(self.refused("base_rates.csv", "age,base_rate", "age,rate"),
+                         "base_rates.csv begins with the row age,base_rate; here it does not")
+        (self.folder / "base_rates.csv").unlink()
+        with self.assertRaisesRegex(TableError, "has no base_rates.csv; a basis is made of settings.csv"):
+            basis_of(self.folder)
+
+    def test_settings_rows(self) -> None:
+        self.assertEqual(self.refused("settings.csv", "base_year,2008\n", ""),
+                         "settings.csv: base_year is missing")
+        self.assertIn("line 4: 'foundation_year' is there twice",
+                      self.refused("settings.csv", "discount_rate,0.030000000", "foundation_year,2006"))
+
+    def test_spaces_marks_and_fewer_decimals_do_not_matter(self) -> None:
+        path = self.folder / "base_rates.csv"
+        text = path.read_text(encoding="utf-8").replace("20,0.000300000", " 20 , 0.0003 ")
+        path.write_bytes(b"\xef\xbb\xbf" + text.replace("\n", "\r\n").encode())
+        self.assertEqual(basis_of(self.folder).to_file(), (SAMPLE / "basis.bin").read_bytes())
+
+    def test_other_refusals_are_told_by_their_sentence(self) -> None:
+        self.assertEqual(explained(Refusal(4, 16), bytes(4554)),
+                         "refused 4: mark or zero bytes wrong (offset 16)")

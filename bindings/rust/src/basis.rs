@@ -1,0 +1,202 @@
+//! The basis: a data run that the engine has accepted.
+
+use std::error::Error;
+use std::fmt;
+use std::fs::File;
+use std::io::{self, Read};
+use std::path::Path;
+
+use crate::ffi;
+use crate::Refusal;
+
+/// Bytes of a data run.
+pub const RUN_LENGTH: usize = 4_554;
+
+/// Bytes of a basis file.
+pub const FILE_LENGTH: usize = 4_608;
+
+/// An accepted basis. It owns its data run, which never changes, so that any thread may use it.
+///
+/// ```
+/// use parvusek::{decimal, Basis, Kind};
+///
+/// let basis = Basis::open("../../samples/basis.bin")?;
+/// let annuity = basis.annuity(Kind::Cohort, 65, 0, 2010)?;
+/// assert_eq!(decimal(annuity).to_string(), "15.698927802");
+///
+/// let refusal = basis.annuity(Kind::Cohort, 19, 0, 2010).unwrap_err();
+/// assert_eq!(refusal.to_string(), "refused 6: age outside 20 to 150 (age 19)");
+/// # Ok::<(), Box<dyn std::error::Error>>(())
+/// ```
+#[derive(Clone, PartialEq, Eq, Hash)]
+pub struct Basis {
+    run: Box<[u8; RUN_LENGTH]>,
+}
+
+// ---- reading and writing
+
+impl Basis {
+    /// The basis of a data run, refused by 1, 4 or 5. The engine checks it here, and again in each call.
+    ///
+    /// ```
+    /// let refusal = parvusek::Basis::from_run(b"MPB1").unwrap_err();
+    /// assert_eq!((refusal.number, refusal.first, refusal.second), (1, 0, 0));
+    /// ```
+    pub fn from_run(run: &[u8]) -> Result<Basis, Refusal> {
+        // SAFETY: the pointer and the length are those of a slice.
+        unsafe { ffi::parvusek_check_basis(run.as_ptr(), run.len()) }.unless_none()?;
+        let run = Box::new(run.try_into().expect("an accepted data run has 4,554 bytes"));
+        Ok(Basis { run })
+    }
+
+    /// The basis of the bytes of a basis file, refused by 1 to 5.
+    ///
+    /// ```
+    /// let mut file = std::fs::read("../../samples/basis.bin")?;
+    /// file[700] ^= 1;
+    /// let refusal = parvusek::Basis::from_file(&file).unwrap_err();
+    /// assert_eq!(refusal.to_string(), "refused 2: a block's check is wrong (block 1)");
+    /// # Ok::<(), std::io::Error>(())
+    /// ```
+    pub fn from_file(file: &[u8]) -> Result<Basis, Refusal> {
+        let mut run = Box::new([0; RUN_LENGTH]);
+        // SAFETY: the pointers and lengths are those of two slices, which do not overlap.
+        unsafe { ffi::parvusek_read_basis(file.as_ptr(), file.len(), run.as_mut_ptr(), run.len()) }.unless_none()?;
+        Ok(Basis { run })
+    }
+
+    /// The basis of the basis file at a path.
+    ///
+    /// ```
+    /// use parvusek::{Basis, OpenError};
+    ///
+    /// assert_eq!(Basis::open("../../samples/basis.bin")?.base_year(), 2008);
+    /// assert!(matches!(Basis::open("no such file"), Err(OpenError::Io(_))));
+    /// assert!(matches!(Basis::open("Cargo.toml"), Err(OpenError::Refused(refusal)) if refusal.number == 1));
+    /// # Ok::<(), OpenError>(())
+    /// ```
+    pub fn open(path: impl AsRef<Path>) -> Result<Basis, OpenError> {
+        let mut file = Vec::with_capacity(FILE_LENGTH + 1);
+        // One byte more than a basis file has: enough to be refused, however long the file is.
+        File::open(path)?.take(FILE_LENGTH as u64 + 1).read_to_end(&mut file)?;
+        Ok(Basis::from_file(&file)?)
+    }
+
+    /// The data run.
+    pub fn run(&self) -> &[u8; RUN_LENGTH] {
+        &self.run
+    }
+
+    /// The bytes of the basis file; reading them gives this basis again.
+    ///
+    /// ```
+    /// # use parvusek::Basis;
+    /// let file = std::fs::read("../../samples/basis.bin")?;
+    /// let basis = Basis::from_file(&file)?;
+    /// assert_eq!(basis.to_file()[..], file[..]);
+    /// # Ok::<(), Box<dyn std::error::Error>>(())
+    /// ```
+    pub fn to_file(&self) -> [u8; FILE_LENGTH] {
+        let mut file = [0; FILE_LENGTH];
+        // SAFETY: the pointers and lengths are those of two arrays, which do not overlap.
+        let refusal =
+            unsafe { ffi::parvusek_write_basis(self.run.as_ptr(), self.run.len(), file.as_mut_ptr(), file.len()) };
+        refusal.unless_none().expect("an accepted data run is written");
+        file
+    }
+
+    /// The short form: the basis that differs only in its long-term rates (this one to age 90, running off to 0 at
+    /// 120; none by birth year), every T 20 and every P 50. A rate beyond ±200,000,000 units is refused by 5.
+    ///
+    /// ```
+    /// # use parvusek::Basis;
+    /// # let basis = Basis::open("../../samples/basis.bin")?;
+    /// let short = basis.short_form(10_000_000)?;
+    /// assert_eq!(short.base_year(), basis.base_year());
+    /// let refusal = basis.short_form(200_000_001).unwrap_err();
+    /// assert_eq!((refusal.number, refusal.first), (5, 1078));
+    /// # Ok::<(), Box<dyn std::error::Error>>(())
+    /// ```
+    pub fn short_form(&self, long_term_rate: i32) -> Result<Basis, Refusal> {
+        let mut out = Box::new([0; RUN_LENGTH]);
+        let (run, len) = self.lent();
+        // SAFETY: the pointers and lengths are those of two arrays, which do not overlap.
+        unsafe { ffi::parvusek_short_form(run, len, long_term_rate, out.as_mut_ptr(), out.len()) }.unless_none()?;
+        Ok(Basis { run: out })
+    }
+
+    pub(crate) fn lent(&self) -> (*const u8, usize) {
+        (self.run.as_ptr(), self.run.len())
+    }
+}
+
+// ---- settings
+
+impl Basis {
+    /// F, the year from which improvements are projected.
+    pub fn foundation_year(&self) -> u32 {
+        u16::from_le_bytes(self.bytes(4)).into()
+    }
+
+    /// B, the year of the base rates, and the first year of an enquiry.
+    pub fn base_year(&self) -> u32 {
+        u16::from_le_bytes(self.bytes(6)).into()
+    }
+
+    /// What is added to each improvement after F, in units.
+    pub fn constant_addition(&self) -> i32 {
+        i32::from_le_bytes(self.bytes(8))
+    }
+
+    /// The yearly rate of discount, in units.
+    pub fn discount_rate(&self) -> i32 {
+        i32::from_le_bytes(self.bytes(12))
+    }
+
+    fn bytes<const N: usize>(&self, offset: usize) -> [u8; N] {
+        self.run[offset..offset + N].try_into().expect("the stretch has this length")
+    }
+}
+
+impl fmt::Debug for Basis {
+    fn fmt(&self, f: &mut fmt::Formatter<'_>) -> fmt::Result {
+        f.debug_struct("Basis")
+            .field("foundation_year", &self.foundation_year())
+            .field("base_year", &self.base_year())
+            .finish_non_exhaustive()
+    }
+}
+
+// ---- a file that cannot be opened
+
+/// Why [`Basis::open`] has no basis.
+#[derive(Debug)]
+pub enum OpenError {
+    /// The file cannot be read.
+    Io(io::Error),
+    /// The engine refuses what is in it.
+    Refused(Refusal),
+}
+
+impl fmt::Display for OpenError {
+    fn fmt(&self, f: &mut fmt::Formatter<'_>) -> fmt::Result {
+        match self {
+            OpenError::Io(error) => error.fmt(f),
+            OpenError::Refused(refusal) => refusal.fmt(f),
+        }
+    }
+}
+
+impl Error for OpenError {}
+
+impl From<io::Error> for OpenError {
+    fn from(error: io::Error) -> OpenError {
+        OpenError::Io(error)
+    }
+}
+
+impl From<Refusal> for OpenError {
+    fn from(refusal: Refusal) -> OpenError {
+        OpenError::Refused(refusal)
+    }
+}

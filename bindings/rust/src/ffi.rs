@@ -1,0 +1,71 @@
+//! The functions of `include/parvusek.h`, as C declares them.
+//!
+//! Each takes any stretch of bytes with its true length and any number, keeps no pointer, and writes only to the output
+//! that it is lent, which must not overlap its input. Rust's borrows see to both.
+
+use crate::{Question, Record, Refusal};
+
+#[repr(C)]
+pub struct Answer {
+    pub refusal: Refusal,
+    pub value: u64,
+}
+
+#[repr(C)]
+pub struct SignedAnswer {
+    pub refusal: Refusal,
+    pub value: i64,
+}
+
+#[repr(C)]
+pub struct Questions {
+    pub points: [Question; 6],
+}
+
+#[repr(C)]
+pub struct PointAnswer {
+    pub results: [u64; 4],
+    pub refusal: Refusal,
+}
+
+#[repr(C)]
+pub struct SmallSet {
+    pub refusal: Refusal,
+    pub points: [PointAnswer; 6],
+}
+
+#[repr(C)]
+pub struct Lifeline {
+    pub refusal: Refusal,
+    pub survivors: u64,
+    pub age: u32,
+    pub year: u32,
+    pub ended: u32,
+}
+
+pub type Cell = unsafe extern "C" fn(*const u8, usize, u32, u32) -> Answer;
+pub type Value = unsafe extern "C" fn(*const u8, usize, u32, u32, u32) -> Answer;
+
+extern "C" {
+    pub fn parvusek_check_basis(run: *const u8, run_len: usize) -> Refusal;
+    pub fn parvusek_read_basis(file: *const u8, file_len: usize, run: *mut u8, run_len: usize) -> Refusal;
+    pub fn parvusek_write_basis(run: *const u8, run_len: usize, file: *mut u8, file_len: usize) -> Refusal;
+    pub fn parvusek_short_form(run: *const u8, run_len: usize, rate: i32, out: *mut u8, out_len: usize) -> Refusal;
+
+    pub fn parvusek_improvement(run: *const u8, run_len: usize, age: u32, year: u32) -> SignedAnswer;
+    pub fn parvusek_factor(run: *const u8, run_len: usize, age: u32, year: u32) -> Answer;
+    pub fn parvusek_rate(run: *const u8, run_len: usize, age: u32, year: u32) -> Answer;
+
+    pub fn parvusek_period_survivorship(run: *const u8, run_len: usize, age: u32, deferment: u32, year: u32) -> Answer;
+    pub fn parvusek_cohort_survivorship(run: *const u8, run_len: usize, age: u32, deferment: u32, year: u32) -> Answer;
+    pub fn parvusek_period_expectation(run: *const u8, run_len: usize, age: u32, deferment: u32, year: u32) -> Answer;
+    pub fn parvusek_cohort_expectation(run: *const u8, run_len: usize, age: u32, deferment: u32, year: u32) -> Answer;
+    pub fn parvusek_period_annuity(run: *const u8, run_len: usize, age: u32, deferment: u32, year: u32) -> Answer;
+    pub fn parvusek_cohort_annuity(run: *const u8, run_len: usize, age: u32, deferment: u32, year: u32) -> Answer;
+
+    pub fn parvusek_small_set(run: *const u8, run_len: usize, questions: Questions) -> SmallSet;
+    pub fn parvusek_grid(run: *const u8, run_len: usize, points: *mut Record, count: usize) -> Refusal;
+
+    pub fn parvusek_lifeline_start(run: *const u8, run_len: usize, age: u32, year: u32) -> Lifeline;
+    pub fn parvusek_lifeline_step(run: *const u8, run_len: usize, age: u32, year: u32, survivors: u64) -> Lifeline;
+}

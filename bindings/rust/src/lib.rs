@@ -1,0 +1,47 @@
+//! Parvusek: mortality improvements, reduction factors, rates, survivorship, expectations of life and annuities, from an
+//! engine whose functions are proved. This crate is a safe surface over its C interface and adds no arithmetic.
+//!
+//! ```
+//! use parvusek::{decimal, Basis, Kind};
+//!
+//! let basis = Basis::open("../../samples/basis.bin")?;
+//! match basis.annuity(Kind::Cohort, 65, 0, 2010) {
+//!     Ok(annuity) => println!("one a year for life from 65: {}", decimal(annuity)),
+//!     Err(refusal) => println!("{refusal}"),
+//! }
+//! # Ok::<(), parvusek::OpenError>(())
+//! ```
+//!
+//! Values are whole units, [`UNIT`] of them to one. What is refused is a [`Refusal`]: a number and two places. The
+//! engine has no state and allocates nothing: a [`Basis`] may be shared by any number of threads.
+//!
+//! The archive is linked from the folder that `PARVUSEK_LIB_DIR` names when this crate is built, or else from the
+//! repository's `target/staticlib`.
+
+mod basis;
+mod enquiries;
+mod ffi;
+mod lifeline;
+mod points;
+mod refusal;
+mod units;
+
+pub use basis::{Basis, OpenError, FILE_LENGTH, RUN_LENGTH};
+pub use lifeline::{Lifeline, Standing};
+pub use points::{Question, Record, Results, GRID, SMALL_SET};
+pub use refusal::Refusal;
+pub use units::{decimal, Decimal, UNIT};
+
+/// Whose rates a life meets.
+#[derive(Clone, Copy, Debug, PartialEq, Eq, Hash)]
+pub enum Kind {
+    /// Those of one year, at every age.
+    Period,
+    /// Those of the years that it reaches.
+    Cohort,
+}
+
+/// The Rust examples of the page for those who embed the engine are tests as well.
+#[cfg(doctest)]
+#[doc = include_str!("../../../docs/EMBEDDING.md")]
+mod embedding {}

@@ -1,0 +1,79 @@
+//! Refusals: a number and two places, with the sentences of docs/REFUSALS.md.
+
+use std::error::Error;
+use std::fmt;
+
+/// Why the engine gives no value: a number and two places.
+///
+/// ```
+/// let refusal = parvusek::Refusal { number: 8, first: 148, second: 3 };
+/// assert_eq!(refusal.sentence(), "age + deferment above 150");
+/// assert_eq!(refusal.to_string(), "refused 8: age + deferment above 150 (age 148, deferment 3)");
+/// ```
+#[repr(C)]
+#[derive(Clone, Copy, Debug, PartialEq, Eq, Hash)]
+pub struct Refusal {
+    /// 1 to 12; what each says is in docs/REFUSALS.md.
+    pub number: u32,
+    /// The first place: a block, an offset, an age, a year, as the number has it.
+    pub first: u64,
+    /// The second place; 0 where the number has none.
+    pub second: u64,
+}
+
+impl Refusal {
+    /// What the refusal says.
+    pub fn sentence(&self) -> &'static str {
+        match self.number {
+            1 => "file not 4,608 bytes, or data run not 4,554",
+            2 => "a block's check is wrong",
+            3 => "a block's number is not its place",
+            4 => "mark or zero bytes wrong",
+            5 => "a field outside its limits",
+            6 => "age outside 20 to 150",
+            7 => "year after 2130, or before B (before F for an improvement)",
+            8 => "age + deferment above 150",
+            9 => "an improvement needed is beyond ±500,000,000",
+            10 => "a factor needed is above 4 × U",
+            11 => "lent output too short",
+            12 => "a line is not of the form asked",
+            _ => "no such refusal",
+        }
+    }
+
+    /// What its two places are; those that are always 0 have no name.
+    fn places(&self) -> (Option<&'static str>, Option<&'static str>) {
+        match self.number {
+            2 | 3 => (Some("block"), None),
+            4 | 5 => (Some("offset"), None),
+            6 => (Some("age"), None),
+            7 => (Some("year"), None),
+            8 => (Some("age"), Some("deferment")),
+            9 | 10 => (Some("age"), Some("year")),
+            11 => (Some("needed"), None),
+            12 => (Some("line"), None),
+            _ => (None, None),
+        }
+    }
+
+    /// Number 0, which only the C interface has, says that nothing was refused.
+    pub(crate) fn unless_none(self) -> Result<(), Refusal> {
+        match self.number {
+            0 => Ok(()),
+            _ => Err(self),
+        }
+    }
+}
+
+impl fmt::Display for Refusal {
+    fn fmt(&self, f: &mut fmt::Formatter<'_>) -> fmt::Result {
+        write!(f, "refused {}: {}", self.number, self.sentence())?;
+        match self.places() {
+            (Some(first), Some(second)) => write!(f, " ({first} {}, {second} {})", self.first, self.second),
+            (Some(first), None) => write!(f, " ({first} {})", self.first),
+            _ => Ok(()),
+        }
+    }
+}
+
+impl Error for Refusal {}

@@ -1,0 +1,70 @@
+/* The sentence of each refusal of parvusek.h, as docs/REFUSALS.md has it, and a line that explains one with its places.
+   All is in this header: nothing more is linked. Text is UTF-8. */
+#ifndef PARVUSEK_REFUSALS_H
+#define PARVUSEK_REFUSALS_H
+
+#include <inttypes.h>
+#include <stdio.h>
+
+#include "parvusek.h"
+
+/* What a refusal says. A number that no refusal has (0, or above 12) gives "not refused" or "no such refusal". */
+static inline const char *parvusek_refusal_sentence(uint32_t number) {
+    switch (number) {
+    case 0: return "not refused";
+    case 1: return "file not 4,608 bytes, or data run not 4,554";
+    case 2: return "a block's check is wrong";
+    case 3: return "a block's number is not its place";
+    case 4: return "mark or zero bytes wrong";
+    case 5: return "a field outside its limits";
+    case 6: return "age outside 20 to 150";
+    case 7: return "year after 2130, or before B (before F for an improvement)";
+    case 8: return "age + deferment above 150";
+    case 9: return "an improvement needed is beyond \302\261500,000,000";
+    case 10: return "a factor needed is above 4 \303\227 U";
+    case 11: return "lent output too short";
+    case 12: return "a line is not of the form asked";
+    default: return "no such refusal";
+    }
+}
+
+/* What the first place of a refusal is; NULL where it has none. */
+static inline const char *parvusek_refusal_first(uint32_t number) {
+    switch (number) {
+    case 2: case 3: return "block";
+    case 4: case 5: return "offset";
+    case 6: case 8: case 9: case 10: return "age";
+    case 7: return "year";
+    case 11: return "needed";
+    case 12: return "line";
+    default: return NULL;
+    }
+}
+
+/* What the second place of a refusal is; NULL where it has none. */
+static inline const char *parvusek_refusal_second(uint32_t number) {
+    switch (number) {
+    case 8: return "deferment";
+    case 9: case 10: return "year";
+    default: return NULL;
+    }
+}
+
+/* Writes a line such as "refused 8: age + deferment above 150 (age 148, deferment 3)" as snprintf does: at most `size`
+   bytes with the ending 0, and hands back the length that the whole line has. 128 bytes are enough for every refusal. */
+static inline int parvusek_refusal_line(char *line, size_t size, parvusek_refusal_t refusal) {
+    const char *sentence = parvusek_refusal_sentence(refusal.number);
+    const char *first = parvusek_refusal_first(refusal.number);
+    const char *second = parvusek_refusal_second(refusal.number);
+    if (first == NULL) {
+        return snprintf(line, size, "refused %" PRIu32 ": %s", refusal.number, sentence);
+    }
+    if (second == NULL) {
+        return snprintf(line, size, "refused %" PRIu32 ": %s (%s %" PRIu64 ")", refusal.number, sentence, first,
+                        refusal.first);
+    }
+    return snprintf(line, size, "refused %" PRIu32 ": %s (%s %" PRIu64 ", %s %" PRIu64 ")", refusal.number, sentence,
+                    first, refusal.first, second, refusal.second);
+}
+
+#endif
