@@ -1,47 +1,36 @@
 /* Checks the boundary that nothing proves: C sees the engine's structs where the engine puts them, and each function
-   answers and refuses as the definitions say on a few cases worked by hand. Prints one line, and each check that failed. */
+   answers and refuses as the definitions say on a few cases worked by hand. Prints one line, and each check that failed.
+   The sets and the lifeline are in check_sets.c. */
 #include <stddef.h>
 #include <stdio.h>
 #include <string.h>
-#include "parvusek.h"
-
-enum { RUN = 4554, FILE_SIZE = 4608, FURTHER = 16, KEPT = 0xA5 };
+#include "check_boundary.h"
 
 static int checks, failures;
 
-#define HOLDS(fact) holds((fact), #fact, __LINE__)
-
-static void holds(int fact, const char *text, int line) {
+void holds(int fact, const char *text, const char *file, int line) {
     checks++;
     if (!fact) {
         failures++;
-        printf("check_boundary.c:%d: not so: %s\n", line, text);
+        printf("%s:%d: not so: %s\n", file, line, text);
     }
 }
 
 /* ---- what an answer says */
 
-static int refused(parvusek_refusal_t r, uint32_t number, uint64_t first, uint64_t second) {
+int refused(parvusek_refusal_t r, uint32_t number, uint64_t first, uint64_t second) {
     return r.number == number && r.first == first && r.second == second;
 }
 
-static int passed(parvusek_refusal_t r) { return refused(r, 0, 0, 0); }
+int passed(parvusek_refusal_t r) { return refused(r, 0, 0, 0); }
 
-static int is(parvusek_answer_t a, uint64_t value) { return passed(a.refusal) && a.value == value; }
+int is(parvusek_answer_t a, uint64_t value) { return passed(a.refusal) && a.value == value; }
 
 static int declined(parvusek_answer_t a, uint32_t number, uint64_t first, uint64_t second) {
     return refused(a.refusal, number, first, second) && a.value == 0;
 }
 
 static int is_signed(parvusek_signed_answer_t a, int64_t value) { return passed(a.refusal) && a.value == value; }
-
-static int point_is(parvusek_point_answer_t p, uint64_t a, uint64_t b, uint64_t c, uint64_t d) {
-    return passed(p.refusal) && p.results[0] == a && p.results[1] == b && p.results[2] == c && p.results[3] == d;
-}
-
-static int point_refused(parvusek_point_answer_t p, uint32_t number, uint64_t first, uint64_t second) {
-    return refused(p.refusal, number, first, second) && !p.results[0] && !p.results[1] && !p.results[2] && !p.results[3];
-}
 
 static int all(const uint8_t *at, size_t n, uint8_t byte) {
     for (size_t i = 0; i < n; i++)
@@ -56,7 +45,7 @@ static void put2(uint8_t *at, uint32_t n) {
     at[1] = (uint8_t)(n >> 8);
 }
 
-static void put4(uint8_t *at, int32_t n) {
+void put4(uint8_t *at, int32_t n) {
     put2(at, (uint32_t)n);
     put2(at + 2, (uint32_t)n >> 16);
 }
@@ -69,8 +58,7 @@ static void fill4(uint8_t *at, size_t count, int32_t n) {
     for (size_t i = 0; i < count; i++) put4(at + 4 * i, n);
 }
 
-/* F and B 2006, every base rate 100,000,000, other rates 0, T 20, P 50 */
-static void sample(uint8_t *run) {
+void sample(uint8_t *run) {
     memset(run, 0, RUN);
     memcpy(run, "MPB1", 4);
     put2(run + 4, 2006);
@@ -82,21 +70,18 @@ static void sample(uint8_t *run) {
     memset(run + 4285, 50, 269);
 }
 
-/* the same with every improvement after F the constant addition */
-static void sample_with_addition(uint8_t *run, int32_t addition) {
+void sample_with_addition(uint8_t *run, int32_t addition) {
     sample(run);
     put4(run + 8, addition);
 }
 
-/* the same with every improvement -400,000,000 in F and -500,000,000 after it */
-static void sample_worsening(uint8_t *run) {
+void sample_worsening(uint8_t *run) {
     sample_with_addition(run, -100000000);
     fill4(run + 554, 262, -200000000);
     fill4(run + 1864, 538, -200000000);
 }
 
-/* the same with an improvement of 587,500,000 a year after F */
-static void sample_beyond(uint8_t *run) {
+void sample_beyond(uint8_t *run) {
     sample(run);
     fill4(run + 554, 131, 200000000);
     fill4(run + 1078, 131, -200000000);
@@ -305,32 +290,6 @@ static void check_values(void) {
     HOLDS(declined(parvusek_cohort_expectation(run, RUN, 100, 0, 2006), 9, 101, 2007));
 }
 
-/* ---- sets */
-
-static void check_small_sets(void) {
-    uint8_t run[RUN];
-    const parvusek_questions_t asked = {{{148, 0, 2010}, {150, 0, 2010}, {148, 3, 2010}, {19, 0, 2010}, {148, 0, 2131}, {149, 1, 2010}}};
-    sample(run);
-    parvusek_small_set_t set = parvusek_small_set(run, RUN, asked);
-    HOLDS(passed(set.refusal));
-    HOLDS(point_is(set.points[0], 2210000000, 2210000000, 2710000000, 2710000000));
-    HOLDS(point_is(set.points[1], 500000000, 500000000, 1000000000, 1000000000));
-    HOLDS(point_refused(set.points[2], 8, 148, 3));
-    HOLDS(point_refused(set.points[3], 6, 19, 0));
-    HOLDS(point_refused(set.points[4], 7, 2131, 0));
-    HOLDS(point_is(set.points[5], 500000000, 500000000, 900000000, 900000000));
-
-    sample_with_addition(run, 10000000);
-    const parvusek_questions_t moving = {{{148, 0, 2006}, {148, 0, 2006}, {148, 0, 2006}, {148, 0, 2006}, {148, 0, 2006}, {148, 0, 2006}}};
-    set = parvusek_small_set(run, RUN, moving);
-    HOLDS(point_is(set.points[5], 2210000000, 2210900000, 2710000000, 2710900000));
-
-    run[3] = '2';
-    set = parvusek_small_set(run, RUN, asked);
-    HOLDS(refused(set.refusal, 4, 3, 0));
-    for (int i = 0; i < 6; i++) HOLDS(point_is(set.points[i], 0, 0, 0, 0));
-}
-
 int main(void) {
     check_layouts();
     check_runs();
@@ -339,6 +298,8 @@ int main(void) {
     check_cells();
     check_values();
     check_small_sets();
+    check_grids();
+    check_lifelines();
     printf("boundary, C: %d checks, %d failed\n", checks, failures);
     return failures != 0;
 }

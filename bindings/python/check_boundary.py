@@ -9,7 +9,8 @@ import struct
 import sys
 from ctypes import POINTER, Structure, c_int32, c_int64, c_size_t, c_uint8, c_uint32, c_uint64, sizeof
 
-RUN, FILE, FURTHER, KEPT = 4554, 4608, 16, 0xA5
+RUN, FILE, GRID, FURTHER, KEPT = 4554, 4608, 119, 16, 0xA5
+UNIT = 1_000_000_000
 
 
 class Refusal(Structure):
@@ -78,6 +79,9 @@ FUNCTIONS = {
     "period_annuity": (Answer, [c_uint32] * 3),
     "cohort_annuity": (Answer, [c_uint32] * 3),
     "small_set": (SmallSet, [Questions]),
+    "grid": (Refusal, [POINTER(Point), c_size_t]),
+    "lifeline_start": (Lifeline, [c_uint32] * 2),
+    "lifeline_step": (Lifeline, [c_uint32, c_uint32, c_uint64]),
 }
 
 checks = 0
@@ -120,6 +124,16 @@ def sample(addition=0, discount=0, initial=0, long_term=0, birth_year=0, period=
     return (b"MPB1" + struct.pack("<HHii", 2006, 2006, addition, discount) + bytes(14) + words(131, 100_000_000)
             + words(131, initial) + words(131, long_term) + bytes([period]) * 131 + bytes([remaining]) * 131
             + words(269, birth_year) + words(269, birth_year) + bytes([20]) * 269 + bytes([50]) * 269)
+
+
+def worsening():
+    """Every improvement -400,000,000 in F and -500,000,000 after it."""
+    return sample(addition=-100_000_000, initial=-200_000_000, long_term=-200_000_000, birth_year=-200_000_000)
+
+
+def beyond():
+    """An improvement of 587,500,000 in the year after F."""
+    return sample(initial=200_000_000, long_term=-200_000_000, period=4, remaining=150)
 
 
 def file_of(run):
@@ -199,12 +213,10 @@ def check_enquiries(e):
     case("factor", improving, (60, 2009), 970_299_000)
     case("cohort_survivorship", improving, (148, 2, 2006), 810_900_000)
     case("cohort_annuity", improving, (148, 0, 2006), 2_710_900_000)
-    worsening = sample(addition=-100_000_000, initial=-200_000_000, long_term=-200_000_000, birth_year=-200_000_000)
-    case("improvement", worsening, (60, 2007), -500_000_000)
-    case("factor", worsening, (60, 2009), 3_375_000_000)
-    case("rate", worsening, (60, 2010), 0, (10, 60, 2010))
-    beyond = sample(initial=200_000_000, long_term=-200_000_000, period=4, remaining=150)
-    case("improvement", beyond, (60, 2007), 0, (9, 60, 2007))
+    case("improvement", worsening(), (60, 2007), -500_000_000)
+    case("factor", worsening(), (60, 2009), 3_375_000_000)
+    case("rate", worsening(), (60, 2010), 0, (10, 60, 2010))
+    case("improvement", beyond(), (60, 2007), 0, (9, 60, 2007))
     case("period_annuity", sample(discount=200_000_000), (149, 0, 2010), 1_750_000_000)
 
 
@@ -233,12 +245,151 @@ def check_small_sets(e):
     same("a refused set", (places(refused.refusal), points(refused)), ((5, 12, 0), [(nothing, (0, 0, 0))] * 6))
 
 
+def asked_of_grid(questions):
+    """119 records and two further ones that hold these questions in turn, and no byte of an answer yet."""
+    records = (Point * (GRID + 2))()
+    ctypes.memset(records, KEPT, sizeof(records))
+    for i, p in enumerate(records):
+        p.age, p.deferment, p.year = questions[i % len(questions)]
+    return records
+
+
+def answers_of_grid(records, count):
+    return [(list(p.results), (p.refusal, p.first, p.second)) for p in records[:count]]
+
+
+HALF, NOTHING = UNIT // 2, [0, 0, 0, 0]
+AT_LAST_AGE = ([HALF, HALF, UNIT, UNIT], (0, 0, 0))
+
+# Questions of a grid on the sample, each with its answer.
+GRID_CASES = [
+    ((148, 0, 2010), ([2_210_000_000, 2_210_000_000, 2_710_000_000, 2_710_000_000], (0, 0, 0))),
+    ((150, 0, 2010), AT_LAST_AGE),
+    ((148, 3, 2131), (NOTHING, (8, 148, 3))),
+    ((19, 200, 2010), (NOTHING, (6, 19, 0))),
+    ((148, 0, 2131), (NOTHING, (7, 2131, 0))),
+    ((149, 1, 2010), ([HALF, HALF, 900_000_000, 900_000_000], (0, 0, 0))),
+    ((148, 2, 2005), (NOTHING, (7, 2005, 0))),
+]
+
+
+def check_records(e):
+    questions = [q for q, _ in GRID_CASES]
+    further = GRID * sizeof(Point)
+    for count in (GRID, GRID + 2):
+        records = asked_of_grid(questions)
+        before = bytes(records)
+        same(f"a grid of {count}", places(e.grid(sample(), records, count)), (0, 0, 0))
+        same("its answers", answers_of_grid(records, GRID), [a for _, a in GRID_CASES] * 17)
+        same("its questions", [(p.age, p.deferment, p.year) for p in records[:GRID]], questions * 17)
+        same("its further records", bytes(records)[further:], before[further:])
+
+
+def check_records_again(e):
+    """One list on one basis after another: what stood in a record does not matter."""
+    records = asked_of_grid([(148, 0, 2006), (149, 1, 2010), (150, 0, 2010)])
+    same("a worsening grid", places(e.grid(worsening(), records, GRID)), (0, 0, 0))
+    same("its answers", answers_of_grid(records, 3),
+         [([2_210_000_000, 2_165_000_000, 2_710_000_000, 2_665_000_000], (0, 0, 0)), (NOTHING, (10, 149, 2010)), AT_LAST_AGE])
+    same("a grid beyond", places(e.grid(beyond(), records, GRID)), (0, 0, 0))
+    same("its answers", answers_of_grid(records, 3), [(NOTHING, (9, 149, 2007)), (NOTHING, (9, 149, 2007)), AT_LAST_AGE])
+    same("the sample's grid", places(e.grid(sample(), records, GRID)), (0, 0, 0))
+    same("its answers", answers_of_grid(records, 3), [GRID_CASES[0][1], GRID_CASES[5][1], AT_LAST_AGE])
+
+
+def check_refused_grids(e):
+    records = asked_of_grid([(148, 0, 2010)])
+    before = bytes(records)
+    same("a list of 118", places(e.grid(sample(), records, GRID - 1)), (11, GRID, 0))
+    same("11 before a short run", places(e.grid(b"", records, GRID - 1)), (11, GRID, 0))
+    same("11 before a field", places(e.grid(sample(discount=-1), records, GRID - 1)), (11, GRID, 0))
+    same("no list", places(e.grid(b"", None, 0)), (11, GRID, 0))
+    same("a short run", places(e.grid(sample()[1:], records, GRID)), (1, 0, 0))
+    same("a field", places(e.grid(sample(discount=-1), records, GRID + 2)), (5, 12, 0))
+    same("unchanged by refusals", bytes(records), before)
+
+
+def check_grids(e):
+    check_records(e)
+    check_records_again(e)
+    check_refused_grids(e)
+
+
+def stand(line):
+    return (line.age, line.year, line.survivors, line.ended)
+
+
+def check_starts(e):
+    def start(run, question, where, refusal=(0, 0, 0)):
+        line = e.lifeline_start(run, *question)
+        same(f"lifeline_start {question}", (stand(line), places(line.refusal)), (where, refusal))
+
+    run, nowhere = sample(), (0, 0, 0, 0)
+    start(run, (148, 2010), (148, 2010, UNIT, 0))
+    start(run, (20, 2130), (20, 2130, UNIT, 0))
+    start(run, (19, 2131), nowhere, (6, 19, 0))
+    start(run, (148, 2131), nowhere, (7, 2131, 0))
+    start(run, (148, 2005), nowhere, (7, 2005, 0))
+    start(b"", (19, 2005), nowhere, (1, 0, 0))
+    start(sample(discount=-1), (148, 2010), nowhere, (5, 12, 0))
+
+
+def check_steps(e):
+    def step(run, given, where, refusal=(0, 0, 0)):
+        line = e.lifeline_step(run, *given)
+        same(f"lifeline_step {given}", (stand(line), places(line.refusal)), (where, refusal))
+
+    def stays(run, given, refusal):
+        step(run, given, given + (0,), refusal)
+
+    run, most = sample(), 2**32 - 1
+    step(run, (148, 2010, UNIT), (149, 2011, 900_000_000, 0))
+    step(run, (149, 2011, 900_000_000), (150, 2012, 810_000_000, 0))
+    step(run, (150, 2012, 810_000_000), (150, 2012, 810_000_000, 1))
+    step(run, (149, 2259, UNIT), (150, 2260, 900_000_000, 0))
+    step(run, (150, 2260, UNIT), (150, 2260, UNIT, 1))
+    step(run, (60, 2010, 5), (61, 2011, 5, 0))
+    step(sample(addition=10_000_000), (149, 2007, 900_000_000), (150, 2008, 810_900_000, 0))
+    step(worsening(), (100, 2009, UNIT), (101, 2010, 662_500_000, 0))
+
+    stays(b"", (19, 2005, 2**64 - 1), (1, 0, 0))
+    stays(sample(discount=-1), (19, 2005, UNIT), (5, 12, 0))
+    stays(run, (0, 0, 0), (6, 0, 0))
+    stays(run, (151, 2261, UNIT + 1), (6, 151, 0))
+    stays(run, (148, 2005, UNIT + 1), (7, 2005, 0))
+    stays(run, (150, 2261, UNIT), (7, 2261, 0))
+    stays(run, (150, most, UNIT), (7, most, 0))
+    stays(run, (148, 2010, UNIT + 1), (5, RUN, 0))
+    stays(run, (150, 2260, 2**64 - 1), (5, RUN, 0))
+    stays(beyond(), (101, 2007, 0), (9, 101, 2007))
+    stays(worsening(), (101, 2010, 662_500_000), (10, 101, 2010))
+
+
+def check_whole_lives(e):
+    """So many steps are so many years of cohort survivorship, on base rates that differ by age."""
+    run = sample(addition=10_000_000)
+    run = run[:30] + struct.pack("<131i", *[1_000_000 * (i + 1) for i in range(131)]) + run[554:]
+    line = e.lifeline_start(run, 20, 2130)
+    for n in range(131):
+        same(f"a life after {n} years", stand(line), (20 + n, 2130 + n, e.cohort_survivorship(run, 20, n, 2130).value, 0))
+        line = e.lifeline_step(run, line.age, line.year, line.survivors)
+    same("a life's end", (line.age, line.year, line.ended), (150, 2260, 1))
+
+
+def check_lifelines(e):
+    check_starts(e)
+    check_steps(e)
+    check_whole_lives(e)
+
+
 def main():
     engine = Engine(sys.argv[1])
     check_layouts()
     check_bases(engine)
     check_enquiries(engine)
     check_small_sets(engine)
+    check_grids(engine)
+    check_lifelines(engine)
     print(f"boundary, Python: {checks} checks, {failures} failed")
     return failures != 0
 

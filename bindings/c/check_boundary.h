@@ -1,0 +1,32 @@
+/* What the checks of the boundary share: one check, what a refusal says, and the bases that the cases are worked on. */
+#ifndef CHECK_BOUNDARY_H
+#define CHECK_BOUNDARY_H
+#include "parvusek.h"
+
+enum { RUN = 4554, FILE_SIZE = 4608, FURTHER = 16, KEPT = 0xA5 };
+
+#define HOLDS(fact) holds((fact), #fact, __FILE__, __LINE__)
+
+void holds(int fact, const char *text, const char *file, int line);
+
+int refused(parvusek_refusal_t r, uint32_t number, uint64_t first, uint64_t second);
+int passed(parvusek_refusal_t r);
+int is(parvusek_answer_t a, uint64_t value);
+
+void put4(uint8_t *at, int32_t n);
+
+/* F and B 2006, every base rate 100,000,000, other rates 0, T 20, P 50 */
+void sample(uint8_t *run);
+/* the same with every improvement after F the constant addition */
+void sample_with_addition(uint8_t *run, int32_t addition);
+/* the same with every improvement -400,000,000 in F and -500,000,000 after it */
+void sample_worsening(uint8_t *run);
+/* the same with an improvement of 587,500,000 in the year after F */
+void sample_beyond(uint8_t *run);
+
+/* the checks of check_sets.c */
+void check_small_sets(void);
+void check_grids(void);
+void check_lifelines(void);
+
+#endif

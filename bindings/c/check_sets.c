@@ -1,0 +1,257 @@
+/* Checks the sets and the lifeline at the boundary: six points by value, the records of a grid in place, and a life kept
+   by its host from year to year. */
+#include <string.h>
+#include "check_boundary.h"
+
+/* ---- the small set */
+
+static int point_is(parvusek_point_answer_t p, uint64_t a, uint64_t b, uint64_t c, uint64_t d) {
+    return passed(p.refusal) && p.results[0] == a && p.results[1] == b && p.results[2] == c && p.results[3] == d;
+}
+
+static int point_refused(parvusek_point_answer_t p, uint32_t number, uint64_t first, uint64_t second) {
+    return refused(p.refusal, number, first, second) && !p.results[0] && !p.results[1] && !p.results[2] && !p.results[3];
+}
+
+void check_small_sets(void) {
+    uint8_t run[RUN];
+    const parvusek_questions_t asked = {{{148, 0, 2010}, {150, 0, 2010}, {148, 3, 2010}, {19, 0, 2010}, {148, 0, 2131}, {149, 1, 2010}}};
+    sample(run);
+    parvusek_small_set_t set = parvusek_small_set(run, RUN, asked);
+    HOLDS(passed(set.refusal));
+    HOLDS(point_is(set.points[0], 2210000000, 2210000000, 2710000000, 2710000000));
+    HOLDS(point_is(set.points[1], 500000000, 500000000, 1000000000, 1000000000));
+    HOLDS(point_refused(set.points[2], 8, 148, 3));
+    HOLDS(point_refused(set.points[3], 6, 19, 0));
+    HOLDS(point_refused(set.points[4], 7, 2131, 0));
+    HOLDS(point_is(set.points[5], 500000000, 500000000, 900000000, 900000000));
+
+    sample_with_addition(run, 10000000);
+    const parvusek_questions_t moving = {{{148, 0, 2006}, {148, 0, 2006}, {148, 0, 2006}, {148, 0, 2006}, {148, 0, 2006}, {148, 0, 2006}}};
+    set = parvusek_small_set(run, RUN, moving);
+    HOLDS(point_is(set.points[5], 2210000000, 2210900000, 2710000000, 2710900000));
+
+    run[3] = '2';
+    set = parvusek_small_set(run, RUN, asked);
+    HOLDS(refused(set.refusal, 4, 3, 0));
+    for (int i = 0; i < 6; i++) HOLDS(point_is(set.points[i], 0, 0, 0, 0));
+}
+
+/* ---- the grid */
+
+enum { GRID = 119, LENT = GRID + 2 };
+
+/* a list whose records hold these questions in turn, and no byte of an answer yet */
+static void ask(parvusek_point_t *list, const parvusek_question_t *questions, size_t count) {
+    memset(list, KEPT, LENT * sizeof *list);
+    for (size_t i = 0; i < LENT; i++) {
+        list[i].age = questions[i % count].age;
+        list[i].deferment = questions[i % count].deferment;
+        list[i].year = questions[i % count].year;
+    }
+}
+
+static int asks(parvusek_point_t p, parvusek_question_t q) {
+    return p.age == q.age && p.deferment == q.deferment && p.year == q.year;
+}
+
+static int record_is(parvusek_point_t p, uint64_t a, uint64_t b, uint64_t c, uint64_t d) {
+    return !p.refusal && !p.first && !p.second && p.results[0] == a && p.results[1] == b && p.results[2] == c && p.results[3] == d;
+}
+
+static int record_refused(parvusek_point_t p, uint32_t number, uint64_t first, uint64_t second) {
+    return p.refusal == number && p.first == first && p.second == second && !p.results[0] && !p.results[1] && !p.results[2]
+        && !p.results[3];
+}
+
+static void check_records(void) {
+    static parvusek_point_t list[LENT], before[LENT];
+    uint8_t run[RUN];
+    const parvusek_question_t asked[7] = {{148, 0, 2010}, {150, 0, 2010}, {148, 3, 2131}, {19, 200, 2010},
+                                          {148, 0, 2131}, {149, 1, 2010}, {148, 2, 2005}};
+    sample(run);
+    for (size_t count = GRID; count <= LENT; count += 2) {
+        ask(list, asked, 7);
+        memcpy(before, list, sizeof list);
+        HOLDS(passed(parvusek_grid(run, RUN, list, count)));
+        for (size_t i = 0; i < GRID; i += 7) {
+            HOLDS(record_is(list[i], 2210000000, 2210000000, 2710000000, 2710000000));
+            HOLDS(record_is(list[i + 1], 500000000, 500000000, 1000000000, 1000000000));
+            HOLDS(record_refused(list[i + 2], 8, 148, 3));
+            HOLDS(record_refused(list[i + 3], 6, 19, 0));
+            HOLDS(record_refused(list[i + 4], 7, 2131, 0));
+            HOLDS(record_is(list[i + 5], 500000000, 500000000, 900000000, 900000000));
+            HOLDS(record_refused(list[i + 6], 7, 2005, 0));
+        }
+        for (size_t i = 0; i < GRID; i++) HOLDS(asks(list[i], asked[i % 7]));
+        HOLDS(memcmp(list + GRID, before + GRID, 2 * sizeof *list) == 0);
+    }
+}
+
+/* one list on one basis after another: what stood in a record does not matter */
+static void check_records_again(void) {
+    static parvusek_point_t list[LENT];
+    uint8_t run[RUN];
+    const parvusek_question_t asked[4] = {{148, 0, 2006}, {148, 0, 2009}, {149, 1, 2010}, {150, 0, 2010}};
+    ask(list, asked, 4);
+    sample_worsening(run);
+    HOLDS(passed(parvusek_grid(run, RUN, list, LENT)));
+    HOLDS(record_is(list[0], 2210000000, 2165000000, 2710000000, 2665000000));
+    HOLDS(record_refused(list[1], 10, 149, 2010));
+    HOLDS(record_refused(list[2], 10, 149, 2010));
+    HOLDS(record_is(list[3], 500000000, 500000000, 1000000000, 1000000000));
+
+    sample_beyond(run);
+    HOLDS(passed(parvusek_grid(run, RUN, list, LENT)));
+    HOLDS(record_refused(list[0], 9, 149, 2007));
+    HOLDS(record_refused(list[1], 9, 148, 2007));
+    HOLDS(record_refused(list[2], 9, 149, 2007));
+    HOLDS(record_is(list[3], 500000000, 500000000, 1000000000, 1000000000));
+
+    sample_with_addition(run, 10000000);
+    HOLDS(passed(parvusek_grid(run, RUN, list, LENT)));
+    HOLDS(record_is(list[0], 2210000000, 2210900000, 2710000000, 2710900000));
+    HOLDS(record_is(list[116], 2210000000, 2210900000, 2710000000, 2710900000));
+    HOLDS(list[1].refusal == 0 && list[1].first == 0 && list[1].second == 0);
+}
+
+static void check_refused_grids(void) {
+    static parvusek_point_t list[LENT], before[LENT];
+    uint8_t run[RUN];
+    const parvusek_question_t asked[1] = {{148, 0, 2010}};
+    sample(run);
+    ask(list, asked, 1);
+    memcpy(before, list, sizeof list);
+    HOLDS(refused(parvusek_grid(run, RUN, list, GRID - 1), 11, GRID, 0));
+    HOLDS(refused(parvusek_grid(run, RUN - 1, list, GRID - 1), 11, GRID, 0));
+    HOLDS(refused(parvusek_grid(NULL, 0, NULL, 0), 11, GRID, 0));
+    HOLDS(refused(parvusek_grid(run, RUN - 1, list, LENT), 1, 0, 0));
+    put4(run + 12, -1);
+    HOLDS(refused(parvusek_grid(run, RUN, list, GRID), 5, 12, 0));
+    run[29] = 1;
+    HOLDS(refused(parvusek_grid(run, RUN, list, GRID), 4, 29, 0));
+    HOLDS(refused(parvusek_grid(run, RUN, list, GRID - 1), 11, GRID, 0));
+    HOLDS(memcmp(list, before, sizeof list) == 0);
+}
+
+void check_grids(void) {
+    check_records();
+    check_records_again();
+    check_refused_grids();
+}
+
+/* ---- the lifeline */
+
+enum { UNIT = 1000000000 };
+
+static int stands(parvusek_lifeline_t l, uint32_t age, uint32_t year, uint64_t survivors, uint32_t ended) {
+    return passed(l.refusal) && l.age == age && l.year == year && l.survivors == survivors && l.ended == ended;
+}
+
+static int not_started(parvusek_lifeline_t l, uint32_t number, uint64_t first) {
+    return refused(l.refusal, number, first, 0) && !l.age && !l.year && !l.survivors && !l.ended;
+}
+
+static parvusek_lifeline_t step(const uint8_t *run, parvusek_lifeline_t l) {
+    return parvusek_lifeline_step(run, RUN, l.age, l.year, l.survivors);
+}
+
+/* a step from here is so refused, and hands back what it was given */
+static int stays(const uint8_t *run, size_t run_len, uint32_t age, uint32_t year, uint64_t survivors,
+                 uint32_t number, uint64_t first, uint64_t second) {
+    parvusek_lifeline_t l = parvusek_lifeline_step(run, run_len, age, year, survivors);
+    return refused(l.refusal, number, first, second) && l.age == age && l.year == year && l.survivors == survivors && !l.ended;
+}
+
+static void check_starts(void) {
+    uint8_t run[RUN];
+    sample(run);
+    HOLDS(stands(parvusek_lifeline_start(run, RUN, 20, 2130), 20, 2130, UNIT, 0));
+    HOLDS(stands(parvusek_lifeline_start(run, RUN, 150, 2006), 150, 2006, UNIT, 0));
+    HOLDS(not_started(parvusek_lifeline_start(run, RUN, 19, 2131), 6, 19));
+    HOLDS(not_started(parvusek_lifeline_start(run, RUN, UINT32_MAX, 2010), 6, UINT32_MAX));
+    HOLDS(not_started(parvusek_lifeline_start(run, RUN, 148, 2131), 7, 2131));
+    HOLDS(not_started(parvusek_lifeline_start(run, RUN, 148, 2005), 7, 2005));
+    HOLDS(not_started(parvusek_lifeline_start(run, RUN - 1, 19, 2005), 1, 0));
+    put4(run + 12, -1);
+    HOLDS(not_started(parvusek_lifeline_start(run, RUN, 148, 2010), 5, 12));
+}
+
+static void check_steps(void) {
+    uint8_t run[RUN];
+    sample(run);
+    parvusek_lifeline_t l = parvusek_lifeline_start(run, RUN, 148, 2010);
+    HOLDS(stands(l, 148, 2010, UNIT, 0));
+    l = step(run, l);
+    HOLDS(stands(l, 149, 2011, 900000000, 0));
+    l = step(run, l);
+    HOLDS(stands(l, 150, 2012, 810000000, 0));
+    l = step(run, l);
+    HOLDS(stands(l, 150, 2012, 810000000, 1));
+    l = step(run, l);
+    HOLDS(stands(l, 150, 2012, 810000000, 1));
+
+    HOLDS(stands(parvusek_lifeline_step(run, RUN, 149, 2259, UNIT), 150, 2260, 900000000, 0));
+    HOLDS(stands(parvusek_lifeline_step(run, RUN, 150, 2260, UNIT), 150, 2260, UNIT, 1));
+    HOLDS(stands(parvusek_lifeline_step(run, RUN, 20, 2130, UNIT), 21, 2131, 900000000, 0));
+    HOLDS(stands(parvusek_lifeline_step(run, RUN, 60, 2010, 5), 61, 2011, 5, 0));
+    HOLDS(stands(parvusek_lifeline_step(run, RUN, 60, 2010, 0), 61, 2011, 0, 0));
+
+    /* the next year's rate is 99,000,000 */
+    sample_with_addition(run, 10000000);
+    l = step(run, parvusek_lifeline_start(run, RUN, 148, 2006));
+    HOLDS(stands(l, 149, 2007, 900000000, 0));
+    HOLDS(stands(step(run, l), 150, 2008, 810900000, 0));
+}
+
+static void check_refused_steps(void) {
+    uint8_t run[RUN];
+    sample(run);
+    HOLDS(stays(run, RUN - 1, 19, 2005, UINT64_MAX, 1, 0, 0));
+    HOLDS(stays(NULL, 0, 150, 2012, UNIT, 1, 0, 0));
+    HOLDS(stays(run, RUN, 0, 0, 0, 6, 0, 0));
+    HOLDS(stays(run, RUN, 19, 2005, UINT64_MAX, 6, 19, 0));
+    HOLDS(stays(run, RUN, 151, 2261, UNIT, 6, 151, 0));
+    HOLDS(stays(run, RUN, UINT32_MAX, UINT32_MAX, UNIT, 6, UINT32_MAX, 0));
+    HOLDS(stays(run, RUN, 148, 2005, UNIT + 1, 7, 2005, 0));
+    HOLDS(stays(run, RUN, 150, 2261, UNIT, 7, 2261, 0));
+    HOLDS(stays(run, RUN, 20, 2131, UNIT, 7, 2131, 0));
+    HOLDS(stays(run, RUN, 150, UINT32_MAX, UNIT, 7, UINT32_MAX, 0));
+    HOLDS(stays(run, RUN, 148, 2010, UNIT + 1, 5, RUN, 0));
+    HOLDS(stays(run, RUN, 150, 2260, UINT64_MAX, 5, RUN, 0));
+    put4(run + 12, -1);
+    HOLDS(stays(run, RUN, 148, 2010, UNIT + 1, 5, 12, 0));
+
+    sample_beyond(run);
+    parvusek_lifeline_t l = step(run, parvusek_lifeline_start(run, RUN, 100, 2006));
+    HOLDS(stands(l, 101, 2007, 900000000, 0));
+    HOLDS(stays(run, RUN, 101, 2007, 900000000, 9, 101, 2007));
+    HOLDS(stays(run, RUN, 101, 2211, 0, 9, 101, 2007));
+    HOLDS(stands(parvusek_lifeline_step(run, RUN, 150, 2010, 7), 150, 2010, 7, 1));
+    sample_worsening(run);
+    HOLDS(stands(parvusek_lifeline_step(run, RUN, 100, 2009, UNIT), 101, 2010, 662500000, 0));
+    HOLDS(stays(run, RUN, 101, 2010, 662500000, 10, 101, 2010));
+}
+
+/* so many steps are so many years of cohort survivorship, on base rates that differ by age */
+static void check_whole_lives(void) {
+    uint8_t run[RUN];
+    sample_with_addition(run, 10000000);
+    for (int32_t i = 0; i < 131; i++) put4(run + 30 + 4 * i, 1000000 * (i + 1));
+    for (uint32_t year = 2006; year <= 2130; year += 124) {
+        parvusek_lifeline_t l = parvusek_lifeline_start(run, RUN, 20, year);
+        for (uint32_t n = 0; n <= 130; n++) {
+            HOLDS(stands(l, 20 + n, year + n, l.survivors, 0));
+            HOLDS(is(parvusek_cohort_survivorship(run, RUN, 20, n, year), l.survivors));
+            l = step(run, l);
+        }
+        HOLDS(stands(l, 150, year + 130, l.survivors, 1));
+    }
+}
+
+void check_lifelines(void) {
+    check_starts();
+    check_steps();
+    check_refused_steps();
+    check_whole_lives();
+}
