@@ -1,21 +1,20 @@
--- A turn of the walk over the numbers of a field, and of the walk over the table of fields. Assumes nothing.
+-- A turn of the walk over the numbers of a field, and of the table of fields row by row. Assumes nothing.
 use mathlib.Core.Path.{_≡_, refl, sym, ap, _∙_}
 use mathlib.Core.Bool.{Bool, true, false, _&&_}
-use mathlib.Core.List.{List, [], _∷_}
+use mathlib.Core.List.{List, [], _∷_, _++_}
 use Prim.Native.Nat.{ℕ, zero, suc, _+_, _*_, _-_, _<_, _≤_}
 use native.Mathlib.Nat.{not-suc-le-zero, suc-mul, le-of-suc-le-suc}
 use native.Mathlib.Numerals.{sub-one, add-one}
-use lib.ListN.{length, getD, drop}
-use lib.Seq.{drop-cons}
+use lib.ListN.{length, take, drop}
 use lib.Dec.{T, leb, leb→le}
 use lib.IntN.{ℤ}
 use borrow.Author.Tests.{eq-eqb}
 use Rattle.basis.specs.declared.Number.{Number}
 use Rattle.basis.specs.declared.Field.{Field}
 use Rattle.basis.specs.declared.Check.{Check}
-use Rattle.basis.specs.declared.Check.the-variants.{Refused}
+use Rattle.basis.specs.declared.Check.the-variants.{Passed, Refused}
 use Rattle.basis.specs.Outcome.{refusal, firstOf}
-use Rattle.basis.specs.Run.{widthOf, valueAt, between, entriesCheck, fieldCheck, fieldsCheck, noField, runFields, runCheck}
+use Rattle.basis.specs.Run.{widthOf, valueAt, between, entriesCheck, fieldCheck, fieldsCheck, runFields, runCheck}
 
 -- ---- the numbers of a field
 pub room : (n w : ℕ) → 0 < n → n * w ≡ (n - 1) * w + w
@@ -35,45 +34,36 @@ module _ (run : List ℕ) (number : ℕ) (kind : Number) (low high : ℤ) (at : 
   outside (suc n) h e = rw e
 
 -- ---- the rows of the table
--- a row more of the table
-more : (run : List ℕ) (i : ℕ) → i < 18
-    → fieldsCheck run (drop i runFields) ≡ firstOf (fieldCheck run (getD runFields i noField)) (fieldsCheck run (drop (i + 1) runFields))
-unfolding fieldsCheck runFields
-more run i h = ap (λ (l : List Field). fieldsCheck run l) (drop-cons runFields i noField (long h)) ∙ step
+-- a row before others: the first refusal of both is that of the longer table
+pub row-first : (run : List ℕ) (f : Field) (fs : List Field) {c rest r : Check} → c ≡ fieldCheck run f → rest ≡ fieldsCheck run fs → r ≡ firstOf c rest → r ≡ fieldsCheck run (f ∷ fs)
+unfolding fieldsCheck
+row-first run f fs e g h = h ∙ rw (e, g) refl
+
+pub no-rows : (run : List ℕ) → Passed ≡ fieldsCheck run []
+unfolding fieldsCheck
+no-rows run = refl
+
+-- two tables, one after the other
+rows-join : (run : List ℕ) (fs gs : List Field) → fieldsCheck run (fs ++ gs) ≡ firstOf (fieldsCheck run fs) (fieldsCheck run gs)
+unfolding fieldsCheck
+rows-join run [] gs = refl
+rows-join run (f ∷ fs) gs = ap (λ (c : Check). firstOf (fieldCheck run f) c) (rows-join run fs gs) ∙ sym (turned (fieldCheck run f))
   where
-    long : i < 18 → i < length runFields
-    long h = h
+    turned : (c : Check) → firstOf (firstOf c (fieldsCheck run fs)) (fieldsCheck run gs) ≡ firstOf c (firstOf (fieldsCheck run fs) (fieldsCheck run gs))
+    turned Passed = refl
+    turned (Refused r) = refl
 
-    step : fieldsCheck run (getD runFields i noField ∷ drop (suc i) runFields) ≡ firstOf (fieldCheck run (getD runFields i noField)) (fieldsCheck run (drop (i + 1) runFields))
-    step = rw (add-one i) refl
-
--- what a turn finds: the check of its row, and then of the rows after it
-pub found : (run : List ℕ) (i : ℕ) (f : Field) (c : Check) → i < 18 → f ≡ getD runFields i noField → c ≡ fieldCheck run f
-    → fieldsCheck run (drop i runFields) ≡ firstOf c (fieldsCheck run (drop (i + 1) runFields))
-found run i f c h e g = more run i h ∙ ap (λ (x : Check). firstOf x (fieldsCheck run (drop (i + 1) runFields))) (sym (g ∙ ap (λ (x : Field). fieldCheck run x) e))
+-- the four parts of the table are the table
+parts : (run : List ℕ) → fieldsCheck run runFields ≡ firstOf (fieldsCheck run (take 5 runFields)) (firstOf (fieldsCheck run (take 4 (drop 5 runFields))) (firstOf (fieldsCheck run (take 5 (drop 9 runFields))) (fieldsCheck run (take 4 (drop 14 runFields)))))
+unfolding runFields
+parts run =
+    let a = take 5 runFields in let b = take 4 (drop 5 runFields) in let c = take 5 (drop 9 runFields) in let d = take 4 (drop 14 runFields) in
+    rows-join run a (b ++ (c ++ d)) ∙ ap (λ (x : Check). firstOf (fieldsCheck run a) x) (rows-join run b (c ++ d) ∙ ap (λ (x : Check). firstOf (fieldsCheck run b) x) (rows-join run c d))
 
 pub whole : (run : List ℕ) → length run ≡ 4554 → runCheck run ≡ fieldsCheck run runFields
 unfolding runCheck
 whole run h = simp (eq-eqb (length run) 4554 h)
 
--- ---- each row lies within a run, by one computed test
-abbrev fitsAll : List Field → Bool
-fitsAll [] = true
-fitsAll (f ∷ fs) = leb (f .4 + f .5 * widthOf (f .1)) 4554 && fitsAll fs
-
-left-of : (a b : Bool) → T (a && b) → T a
-left-of true b t = tt
-left-of false b t = t
-
-right-of : (a b : Bool) → T (a && b) → T b
-right-of true b t = t
-right-of false b t = absurd t
-
-fit-at : (fs : List Field) → T (fitsAll fs) → (i : ℕ) → i < length fs → getD fs i noField .4 + getD fs i noField .5 * widthOf (getD fs i noField .1) ≤ 4554
-fit-at [] t i h = absurd (not-suc-le-zero h)
-fit-at (f ∷ fs) t zero h = leb→le (f .4 + f .5 * widthOf (f .1)) 4554 (left-of (leb (f .4 + f .5 * widthOf (f .1)) 4554) (fitsAll fs) t)
-fit-at (f ∷ fs) t (suc i) h = fit-at fs (right-of (leb (f .4 + f .5 * widthOf (f .1)) 4554) (fitsAll fs) t) i (le-of-suc-le-suc h)
-
-pub fits : (i : ℕ) → i < 18 → getD runFields i noField .4 + getD runFields i noField .5 * widthOf (getD runFields i noField .1) ≤ 4554
-unfolding runFields
-fits i h = fit-at runFields tt i h
+pub joined : (run : List ℕ) {m s a b r r₁ r₂ : Check} → length run ≡ 4554 → m ≡ fieldsCheck run (take 5 runFields) → s ≡ fieldsCheck run (take 4 (drop 5 runFields)) →
+    a ≡ fieldsCheck run (take 5 (drop 9 runFields)) → b ≡ fieldsCheck run (take 4 (drop 14 runFields)) → r₁ ≡ firstOf a b → r₂ ≡ firstOf s r₁ → r ≡ firstOf m r₂ → r ≡ runCheck run
+joined run l em es ea eb e₁ e₂ e = e ∙ rw (em, e₂, es, e₁, ea, eb) (sym (whole run l ∙ parts run))

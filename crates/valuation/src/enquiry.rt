@@ -12,6 +12,7 @@ use crate::survivorship;
 use basis::Answer;
 use basis::Check;
 use basis::Refusal;
+use basis::checks;
 
 // 8: age + deferment above 150. The age has been checked, so that no sum is made of numbers that may be large.
 pub fn check_deferment(age: u32, deferment: u32) -> Check
@@ -29,15 +30,6 @@ pub fn check_deferment(age: u32, deferment: u32) -> Check
     }
 }
 
-fn first_of(first: Check, next: Check) -> Check
-    ensures { λ r. ⌜ r ≡ firstOf first next ⌝ }
-{
-    match first {
-        Check::Passed => next,
-        Check::Refused(r) => Check::Refused(r),
-    }
-}
-
 // The deferment, then the year, from B on.
 fn check_deferment_and_year(run: &[u8], age: u32, deferment: u32, year: u32) -> Check
     requires { ⌜ Accepted (now run) × (age ≤ 150) ⌝ }
@@ -45,7 +37,7 @@ fn check_deferment_and_year(run: &[u8], age: u32, deferment: u32, year: u32) -> 
 {
     let of_deferment = check_deferment(age, deferment);
     let of_year = projection::enquiry::check_year(basis::fields::base_year(run), year);
-    first_of(of_deferment, of_year)
+    checks::first_of(of_deferment, of_year)
 }
 
 // The data run afresh and the age, then these.

@@ -1,9 +1,9 @@
--- The two cases of the first check are the definition's.
+-- By the two cases of the first.
 use mathlib.Core.Path.{sym}
+use Rattle.basis.proofs.Outcome.{first-refused}
 use borrow.Author.Needs.{needs}
-use Rattle.basis.proofs.Outcome.{first-refused}
-use Rattle.valuation.proofs.enquiry.first_of.Statement.{statement}
-use Rattle.valuation.proofs.enquiry.first_of.Tie as tie
+use Rattle.basis.proofs.checks.first_of.Statement.{statement}
+use Rattle.basis.proofs.checks.first_of.Tie as tie
 
 enum-told : tie.Need-enum-told
 enum-told c = search needs
