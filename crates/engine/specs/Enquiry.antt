@@ -1,0 +1,43 @@
+-- What C is handed (01, "Who can cause a refusal"): a refusal of number 0 with places 0 where nothing is refused, and value 0 beside a refusal.
+use Prim.Native.Nat.{ℕ}
+use mathlib.Core.List.{List}
+use lib.IntN.{ℤ, pos, natAbs}
+use Rattle.basis.specs.declared.Refusal.{Refusal}
+use Rattle.basis.specs.declared.Check.{Check}
+use Rattle.basis.specs.declared.Check.the-variants.{Passed, Refused}
+use Rattle.basis.specs.Lent.{roomCheck}
+use Rattle.basis.specs.Outcome.{Outcome, value, refused, refusal, firstOf}
+use Rattle.basis.specs.Run.{runCheck}
+use Rattle.basis_file.specs.File.{fileCheck}
+use Rattle.short_form.specs.ShortForm.{shortFormCheck}
+use Rattle.engine.specs.declared.CAnswer.{CAnswer}
+use Rattle.engine.specs.declared.CSignedAnswer.{CSignedAnswer}
+
+-- ---- answers
+abbrev pub noRefusal : Refusal
+noRefusal = refusal 0 0 0
+
+-- what a check says
+abbrev pub refusalOf : Check → Refusal
+refusalOf Passed = noRefusal
+refusalOf (Refused r) = r
+
+-- the answer of an enquiry whose values are never below zero, so that a value's size is the value itself
+abbrev pub answerOf : Outcome ℤ → CAnswer
+answerOf (value n) = record { refusal = noRefusal; value = natAbs n }
+answerOf (refused r) = record { refusal = r; value = 0 }
+
+-- the same where the value may be below zero
+abbrev pub signedAnswerOf : Outcome ℤ → CSignedAnswer
+signedAnswerOf (value n) = record { refusal = noRefusal; value = n }
+signedAnswerOf (refused r) = record { refusal = r; value = pos 0 }
+
+-- ---- reading, writing and the short form: the lent output's room (11), then the input's own checks
+abbrev pub readCheck : List ℕ → List ℕ → Check
+readCheck file run = firstOf (roomCheck 4554 run) (fileCheck file)
+
+abbrev pub writeCheck : List ℕ → List ℕ → Check
+writeCheck run file = firstOf (roomCheck 4608 file) (runCheck run)
+
+abbrev pub shortCheck : List ℕ → ℤ → List ℕ → Check
+shortCheck run rate out = firstOf (roomCheck 4554 out) (shortFormCheck run rate)

@@ -1,0 +1,53 @@
+// Checks and answers as C takes them: structs in the place of enums, with refusal number 0 for none.
+ghost use mathlib.Core.Path.{_≡_};
+ghost use Rattle.basis.specs.Outcome.{meaning, signedMeaning};
+ghost use Rattle.engine.specs.Enquiry.{noRefusal, refusalOf, answerOf, signedAnswerOf};
+use crate::CAnswer;
+use crate::CSignedAnswer;
+use basis::Answer;
+use basis::Check;
+use basis::Refusal;
+use basis::SignedAnswer;
+
+fn no_refusal() -> Refusal
+    ensures { λ r. ⌜ r ≡ noRefusal ⌝ }
+{
+    Refusal {
+        number: 0,
+        first: 0,
+        second: 0,
+    }
+}
+
+pub fn refusal_of(check: Check) -> Refusal
+    ensures { λ r. ⌜ r ≡ refusalOf check ⌝ }
+{
+    match check {
+        Check::Passed => no_refusal(),
+        Check::Refused(r) => r,
+    }
+}
+
+pub fn answer_of(answer: Answer) -> CAnswer
+    ensures { λ r. ⌜ r ≡ answerOf (meaning answer) ⌝ }
+{
+    match answer {
+        Answer::Value(value) => CAnswer {
+            refusal: no_refusal(),
+            value,
+        },
+        Answer::Refused(refusal) => CAnswer { refusal, value: 0 },
+    }
+}
+
+pub fn signed_answer_of(answer: SignedAnswer) -> CSignedAnswer
+    ensures { λ r. ⌜ r ≡ signedAnswerOf (signedMeaning answer) ⌝ }
+{
+    match answer {
+        SignedAnswer::Value(value) => CSignedAnswer {
+            refusal: no_refusal(),
+            value,
+        },
+        SignedAnswer::Refused(refusal) => CSignedAnswer { refusal, value: 0 },
+    }
+}

@@ -1,0 +1,23 @@
+// The engine's surface: what a host calls, from C or any language that can call C, as include/parvusek.h declares it.
+// Every function is total: any slice, any number.
+pub mod answers;
+pub mod cells;
+pub mod files;
+pub mod points;
+pub mod values;
+
+use basis::Refusal;
+
+// The answer of an enquiry: a value and a refusal of number 0, or a refusal and value 0.
+#[repr(C)]
+pub struct CAnswer {
+    pub refusal: Refusal,
+    pub value: u64,
+}
+
+// The same where the value may be below zero.
+#[repr(C)]
+pub struct CSignedAnswer {
+    pub refusal: Refusal,
+    pub value: i64,
+}

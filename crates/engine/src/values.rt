@@ -1,0 +1,82 @@
+// Enquiries for values: survivorship, expectation of life and annuity-due, each period and cohort.
+ghost use mathlib.Core.Path.{_≡_};
+ghost use Rattle.valuation.specs.declared.Kind.the-variants.{Period, Cohort};
+ghost use Rattle.valuation.specs.Enquiry.{survivorshipEnquiry, expectationEnquiry, annuityEnquiry};
+ghost use Rattle.engine.specs.Enquiry.{answerOf};
+use crate::CAnswer;
+use crate::answers;
+use valuation::Kind;
+use valuation::enquiry;
+
+// The deferment is the number of years.
+#[no_mangle]
+pub extern "C" fn parvusek_period_survivorship(
+    run: &[u8],
+    age: u32,
+    deferment: u32,
+    year: u32,
+) -> CAnswer
+    ensures { λ r. ⌜ r ≡ answerOf (survivorshipEnquiry (now (run .entry)) Period age deferment year) ⌝ }
+{
+    answers::answer_of(enquiry::survivorship(run, Kind::Period, age, deferment, year))
+}
+
+#[no_mangle]
+pub extern "C" fn parvusek_cohort_survivorship(
+    run: &[u8],
+    age: u32,
+    deferment: u32,
+    year: u32,
+) -> CAnswer
+    ensures { λ r. ⌜ r ≡ answerOf (survivorshipEnquiry (now (run .entry)) Cohort age deferment year) ⌝ }
+{
+    answers::answer_of(enquiry::survivorship(run, Kind::Cohort, age, deferment, year))
+}
+
+#[no_mangle]
+pub extern "C" fn parvusek_period_expectation(
+    run: &[u8],
+    age: u32,
+    deferment: u32,
+    year: u32,
+) -> CAnswer
+    ensures { λ r. ⌜ r ≡ answerOf (expectationEnquiry (now (run .entry)) Period age deferment year) ⌝ }
+{
+    answers::answer_of(enquiry::expectation(run, Kind::Period, age, deferment, year))
+}
+
+#[no_mangle]
+pub extern "C" fn parvusek_cohort_expectation(
+    run: &[u8],
+    age: u32,
+    deferment: u32,
+    year: u32,
+) -> CAnswer
+    ensures { λ r. ⌜ r ≡ answerOf (expectationEnquiry (now (run .entry)) Cohort age deferment year) ⌝ }
+{
+    answers::answer_of(enquiry::expectation(run, Kind::Cohort, age, deferment, year))
+}
+
+#[no_mangle]
+pub extern "C" fn parvusek_period_annuity(
+    run: &[u8],
+    age: u32,
+    deferment: u32,
+    year: u32,
+) -> CAnswer
+    ensures { λ r. ⌜ r ≡ answerOf (annuityEnquiry (now (run .entry)) Period age deferment year) ⌝ }
+{
+    answers::answer_of(enquiry::annuity(run, Kind::Period, age, deferment, year))
+}
+
+#[no_mangle]
+pub extern "C" fn parvusek_cohort_annuity(
+    run: &[u8],
+    age: u32,
+    deferment: u32,
+    year: u32,
+) -> CAnswer
+    ensures { λ r. ⌜ r ≡ answerOf (annuityEnquiry (now (run .entry)) Cohort age deferment year) ⌝ }
+{
+    answers::answer_of(enquiry::annuity(run, Kind::Cohort, age, deferment, year))
+}

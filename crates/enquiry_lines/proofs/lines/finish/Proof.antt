@@ -1,0 +1,52 @@
+-- Nothing kept is no line; anything kept is the last line.
+use mathlib.Core.Path.{sym, _∙_}
+use native.Mathlib.Omega.{arith}
+use lib.Seq.{length-take-le}
+use Rattle.basis.specs.Basis.{basisOf}
+use Rattle.enquiry_text.proofs.Puts.{nothing}
+use Rattle.enquiry_lines.specs.Parts.{tailOf}
+use Rattle.enquiry_lines.proofs.Parting.{ending-none, ending-line}
+use borrow.Author.Needs.{needs}
+use Rattle.enquiry_lines.proofs.lines.finish.Statement.{statement}
+use Rattle.enquiry_lines.proofs.lines.finish.Tie as tie
+
+returns : tie.Need-returns
+returns c = let s = c .before .before .before in
+    let h = s .pre .1 .1 .0 in
+    let e = length-take-le (s .args .s .len) (s .args .s .bytes) (omega (arith, h .short, h .room)) in
+    rw (ending-none (basisOf (s .args .run .now)) (tailOf (s .args .s)) (e ∙ c .if1 .taken)) (nothing (s .args .out .now) 0 (omega arith))
+
+add-put-line : tie.Need-add-put-line
+add-put-line c = search needs
+
+array-share-prefix-bytes : tie.Need-array-share-prefix-bytes
+array-share-prefix-bytes c = search needs
+
+slice-aggregate-put-line : tie.Need-slice-aggregate-put-line
+slice-aggregate-put-line c = let s = c .before .before .before .before .before .before .before in
+    let h = s .pre .1 .1 .0 in
+    sym (length-take-le (s .args .s .len) (s .args .s .bytes) (omega (arith, h .short, h .room)))
+
+put-line-requires : tie.Need-put-line-requires
+put-line-requires c κs = search needs
+
+same-length : tie.Need-same-length
+same-length c = search needs
+
+returns-2 : tie.Need-returns-2
+returns-2 c = let s = c .before .before .before .before .before .before .before .before .before .before in
+    let h = s .pre .1 .1 .0 in
+    let e = length-take-le (s .args .s .len) (s .args .s .bytes) (omega (arith, h .short, h .room)) in
+    rw (ending-line (basisOf (s .args .run .now)) (tailOf (s .args .s)) (λ z. c .before .before .before .before .before .before .before .if1 .left (sym e ∙ z))) (c .before .before .put-line .ensures .0)
+
+pub finish-spec : {M : Type 1} → statement M
+finish-spec =
+    tie.close
+    (tie.spec
+    returns
+    add-put-line
+    array-share-prefix-bytes
+    slice-aggregate-put-line
+    put-line-requires
+    same-length
+    returns-2)

@@ -1,0 +1,58 @@
+-- A line that is an enquiry is answered by its point, and any other by refusal 12.
+use mathlib.Core.Path.{ap, sym, _∙_}
+use Rattle.basis.specs.Basis.{basisOf}
+use Rattle.enquiry_lines.specs.Lines.{replyTo, replyAt}
+use borrow.Author.Needs.{needs}
+use Rattle.enquiry_lines.proofs.lines.put_line.Statement.{statement}
+use Rattle.enquiry_lines.proofs.lines.put_line.Tie as tie
+
+parse-line-requires : tie.Need-parse-line-requires
+parse-line-requires c κs = search needs
+
+enum-known-q : tie.Need-enum-known-q
+enum-known-q c = search needs
+
+point-at-requires : tie.Need-point-at-requires
+point-at-requires c κs = search needs
+
+put-reply-requires : tie.Need-put-reply-requires
+put-reply-requires c κs = search needs
+
+enum-told : tie.Need-enum-told
+enum-told c = search needs
+
+put-refusal-requires : tie.Need-put-refusal-requires
+put-refusal-requires c κs = search needs
+
+same-length : tie.Need-same-length
+same-length c = search needs
+
+returns : tie.Need-returns
+unfolding replyAt
+returns c = let s = c .before .before .before .before .before .before .before .before .before .before .before .before .args in
+    let e = ap (replyTo (basisOf (s .run .now)) (s .number)) (sym (c .before .before .before .before .before .before .before .before .parse-line .ensures) ∙ c .before .before .before .before .before .before .q .given .1) in
+    rw (e, ← c .before .before .before .before .point-at .ensures) (c .before .before .put-reply .ensures)
+
+same-length-2 : tie.Need-same-length-2
+same-length-2 c = search needs
+
+returns-2 : tie.Need-returns-2
+unfolding replyAt
+returns-2 c = let s = c .before .before .before .before .before .before .before .before .before .before .args in
+    let e = ap (replyTo (basisOf (s .run .now)) (s .number)) (sym (c .before .before .before .before .before .before .parse-line .ensures) ∙ c .before .before .before .before .enum-told .given .1) in
+    rw e (c .before .before .put-refusal .ensures)
+
+pub put-line-spec : {M : Type 1} → statement M
+put-line-spec =
+    tie.close
+    (tie.spec
+    parse-line-requires
+    enum-known-q
+    point-at-requires
+    put-reply-requires
+    enum-told
+    put-refusal-requires
+    same-length
+    returns
+    same-length-2
+    returns-2)

@@ -1,0 +1,131 @@
+// A text that comes in parts, answered line by line on an accepted data run. The caller gives room for 192 bytes of reply
+// to each byte of a part: an empty line is one byte.
+ghost use mathlib.Core.Path.{_≡_};
+ghost use mathlib.Core.List.{[]};
+ghost use Prim.Native.Nat.{_+_, _*_, _≤_, _<_};
+ghost use lib.ListN.{length};
+ghost use Rattle.basis.specs.Basis.{basisOf, Accepted};
+ghost use Rattle.enquiry_text.specs.Put.{Put};
+ghost use Rattle.enquiry_lines.specs.Lines.{replyAt};
+ghost use Rattle.enquiry_lines.specs.Parts.{start, tailOf, step, says, after, sent, ending, Sound, Bounds};
+use crate::Fed;
+use crate::Pending;
+use basis::Refusal;
+use enquiry_text::Line;
+use enquiry_text::parse;
+use enquiry_text::reply;
+use model_points::results;
+
+// The reply to a line by its number from 1.
+fn put_line(run: &[u8], out: &mut [u8], at: usize, number: u64, text: &[u8]) -> usize
+    requires { ⌜ Accepted (now run) ⌝ }
+    requires { ⌜ at + 192 ≤ length (now out) ⌝ }
+    ensures { λ r. ⌜ Put (now (out .entry)) at (replyAt (basisOf (now (run .entry))) number (now (text .entry))) (now (out .exit)) r ⌝ }
+    ensures { λ r. ⌜ r ≤ at + 192 ⌝ }
+{
+    match parse::parse_line(text) {
+        Line::Enquiry(q) => {
+            let a = results::point_at(run, q);
+            reply::put_reply(out, at, q, a)
+        }
+        Line::Malformed => {
+            let x = Refusal {
+                number: 12,
+                first: number,
+                second: 0,
+            };
+            reply::put_refusal(out, at, x)
+        }
+    }
+}
+
+// Takes one byte.
+fn feed_byte(run: &[u8], s: Pending, b: u8, out: &mut [u8], at: usize) -> Fed
+    requires { ⌜ Accepted (now run) ⌝ }
+    requires { ⌜ at + 192 ≤ length (now out) ⌝ }
+    requires { ⌜ Sound s ⌝ }
+    requires { ⌜ s .complete + 1 < 18446744073709551616 ⌝ }
+    ensures { λ r. ⌜ tailOf (r .pending) ≡ step (tailOf s) b ⌝ }
+    ensures { λ r. ⌜ Put (now (out .entry)) at (says (basisOf (now (run .entry))) (tailOf s) b) (now (out .exit)) (r .at) ⌝ }
+    ensures { λ r. ⌜ (r .at ≤ at + 192) × (Sound (r .pending)) × (r .pending .complete ≤ s .complete + 1) ⌝ }
+{
+    let len = s.len;
+    let mut bytes = s.bytes;
+    if b == b'\n' {
+        let next = put_line(run, out, at, s.complete + 1, &bytes[..len]);
+        return Fed {
+            pending: Pending {
+                bytes: bytes,
+                len: 0,
+                complete: s.complete + 1,
+            },
+            at: next,
+        };
+    }
+    if len < 16 {
+        bytes[len] = b;
+        return Fed {
+            pending: Pending {
+                bytes: bytes,
+                len: len + 1,
+                complete: s.complete,
+            },
+            at: at,
+        };
+    }
+    Fed { pending: s, at: at }
+}
+
+// Nothing read yet.
+pub fn begin() -> Pending
+    ensures { λ r. ⌜ tailOf r ≡ start ⌝ }
+    ensures { λ r. ⌜ Sound r ⌝ }
+{
+    Pending {
+        bytes: [0; 16],
+        len: 0,
+        complete: 0,
+    }
+}
+
+// Takes a part of the input, and puts the replies to the lines that end in it at the start of `out`.
+pub fn feed(run: &[u8], s: Pending, part: &[u8], out: &mut [u8]) -> Fed
+    requires { ⌜ Accepted (now run) ⌝ }
+    requires { ⌜ 192 * length (now part) ≤ length (now out) ⌝ }
+    requires { ⌜ Sound s ⌝ }
+    requires { ⌜ s .complete + length (now part) < 18446744073709551616 ⌝ }
+    ensures { λ r. ⌜ tailOf (r .pending) ≡ after (tailOf s) (now (part .entry)) ⌝ }
+    ensures { λ r. ⌜ Put (now (out .entry)) 0 (sent (basisOf (now (run .entry))) (tailOf s) (now (part .entry))) (now (out .exit)) (r .at) ⌝ }
+    ensures { λ r. ⌜ Bounds (s .complete) (length (now (part .entry))) r ⌝ }
+{
+    let mut pending = s;
+    let mut at: usize = 0;
+    let mut i: usize = 0;
+    while i < part.len() {
+        let f = feed_byte(run, pending, part[i], out, at);
+        let next = f.pending;
+        pending = next;
+        at = f.at;
+        i += 1;
+    }
+    Fed {
+        pending: pending,
+        at: at,
+    }
+}
+
+// The end of the input: an unfinished line is a line.
+pub fn finish(run: &[u8], s: Pending, out: &mut [u8]) -> usize
+    requires { ⌜ Accepted (now run) ⌝ }
+    requires { ⌜ 192 ≤ length (now out) ⌝ }
+    requires { ⌜ Sound s ⌝ }
+    requires { ⌜ s .complete + 1 < 18446744073709551616 ⌝ }
+    ensures { λ r. ⌜ Put (now (out .entry)) 0 (ending (basisOf (now (run .entry))) (tailOf s)) (now (out .exit)) r ⌝ }
+{
+    let len = s.len;
+    if len == 0 {
+        return 0;
+    }
+    let bytes = s.bytes;
+    put_line(run, out, 0, s.complete + 1, &bytes[..len])
+}

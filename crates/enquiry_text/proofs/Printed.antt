@@ -1,0 +1,196 @@
+-- Nothing but a printed question is accepted: a line that reads as an enquiry is that enquiry's question, printed. Assumes nothing.
+use Prim.Native.Nat.{ℕ, zero, suc, _+_, _*_, _-_, _/_, _%_, _≤_, _<_}
+use mathlib.Core.Path.{_≡_, refl, ap, sym, _∙_}
+use mathlib.Core.Bool.{Bool, true, false, cond}
+use mathlib.Core.List.{List, [], _∷_, _++_, append-assoc, append-nil}
+use native.Mathlib.Omega.{arith}
+use lib.Dec.{ltb, eqb}
+use lib.ListN.{length, length-append}
+use borrow.Author.Tests.{eq-eqb, le-ltb, ltb-false, eqb-true}
+use Rattle.model_points.specs.declared.Question.{Question}
+use Rattle.enquiry_text.specs.Line.{glue, words, digitsFrom, isPadded, numberOf, enquiryOf, three, lineOf}
+use Rattle.enquiry_text.specs.Decimal.{digits, placesFrom, digitsOf}
+use Rattle.enquiry_text.specs.Reply.{questionText, FourDigits}
+use Rattle.enquiry_text.specs.declared.Word.{Word}
+use Rattle.enquiry_text.specs.declared.Word.the-variants.{Number, Other}
+use Rattle.enquiry_text.specs.declared.Line.{Line}
+use Rattle.enquiry_text.specs.declared.Line.the-variants.{Enquiry, Malformed}
+use Rattle.enquiry_text.proofs.Numerals.{ten, places-exact}
+
+-- ---- a word that is a number
+never : (n : ℕ) → Other ≡ Number n → ⊥
+never n p = let z : _≡_ {A = ℕ} 0 1 = cc in omega arith
+
+unless : (t : Bool) (x : Word) (n : ℕ) → cond t Other x ≡ Number n → (t ≡ false) × (x ≡ Number n)
+unless true x n h = absurd (never n h)
+unless false x n h = (refl, h)
+
+record Digit (v d : ℕ) (w : List ℕ) (n : ℕ) : Type 0 where
+  low : 48 ≤ d
+  high : d ≤ 57
+  more : digitsFrom (10 * v + (d - 48)) w ≡ Number n
+
+digit-is : (v d : ℕ) (w : List ℕ) (n : ℕ) → digitsFrom v (d ∷ w) ≡ Number n → Digit v d w n
+unfolding digitsFrom
+digit-is v d w n h =
+    let a = unless (ltb d 48) (cond (ltb 57 d) Other (digitsFrom (10 * v + (d - 48)) w)) n h in
+    let b = unless (ltb 57 d) (digitsFrom (10 * v + (d - 48)) w) n (a .1) in
+    record { low = ltb-false d 48 (a .0); high = ltb-false 57 d (b .0); more = b .1 }
+
+value-is : (v n : ℕ) → digitsFrom v [] ≡ Number n → v ≡ n
+unfolding digitsFrom
+value-is v n h = cc
+
+put-last : (k v d : ℕ) → 48 ≤ d → d ≤ 57 → digits (suc k) (10 * v + (d - 48)) ≡ digits k v ++ d ∷ []
+unfolding digits
+put-last k v d l h =
+    let e : (10 * v + (d - 48)) / 10 ≡ v = omega arith in
+    let f : 48 + (10 * v + (d - 48)) % 10 ≡ d = omega arith in
+    rw (e, f) refl
+
+spell : (w : List ℕ) (v k n : ℕ) → digitsFrom v w ≡ Number n → digits (length w + k) n ≡ digits k v ++ w
+spell [] v k n h =
+    let e : 0 + k ≡ k = omega arith in
+    rw (e, append-nil (digits k v)) (ap (digits k) (sym (value-is v n h)))
+spell (d ∷ w) v k n h =
+    let g = digit-is v d w n h in
+    let e : suc (length w) + k ≡ length w + suc k = omega arith in
+    rw e (spell w (10 * v + (d - 48)) (suc k) n (g .more) ∙ ap (λ l. l ++ w) (put-last k v d (g .low) (g .high)) ∙ append-assoc (digits k v) (d ∷ []) w)
+
+most : (w : List ℕ) (v k n : ℕ) → digitsFrom v w ≡ Number n → v < ten k → n < ten (length w + k)
+most [] v k n h l = let e : 0 + k ≡ k = omega arith in rw e (omega (arith, value-is v n h))
+most (d ∷ w) v k n h l =
+    let g = digit-is v d w n h in
+    let e : suc (length w) + k ≡ length w + suc k = omega arith in
+    rw e (most w (10 * v + (d - 48)) (suc k) n (g .more) (omega (arith, g .high)))
+
+least : (w : List ℕ) (v k n : ℕ) → digitsFrom v w ≡ Number n → ten k ≤ v → ten (length w + k) ≤ n
+least [] v k n h l = let e : 0 + k ≡ k = omega arith in rw e (omega (arith, value-is v n h))
+least (d ∷ w) v k n h l =
+    let g = digit-is v d w n h in
+    let e : suc (length w) + k ≡ length w + suc k = omega arith in
+    rw e (least w (10 * v + (d - 48)) (suc k) n (g .more) (omega arith))
+
+ten-four : (k : ℕ) → k < 4 → ten (suc k) ≤ 10000
+ten-four zero h = omega arith
+ten-four (suc zero) h = omega arith
+ten-four (suc (suc zero)) h = omega arith
+ten-four (suc (suc (suc zero))) h = omega arith
+ten-four (suc (suc (suc (suc k)))) h = absurd (omega arith)
+
+-- a first digit is no needless zero
+first : (a : ℕ) (w : List ℕ) → isPadded (a ∷ w) ≡ false → 0 < length w → a ≡ 48 → ⊥
+first a w h l e = let z : true ≡ false = sym (simp (le-ltb (suc (length w)) 2 (omega arith), eq-eqb a 48 e)) ∙ h in let y : _≡_ {A = ℕ} 0 1 = cc in omega arith
+
+low : (a : ℕ) (w : List ℕ) → 48 ≤ a → isPadded (a ∷ w) ≡ false → 0 < length w → ten 0 ≤ 10 * 0 + (a - 48)
+low a w l h z = let ne = first a w h z in omega arith
+
+number-printed : (w : List ℕ) (n : ℕ) → numberOf w ≡ Number n → (n < 10000) × (w ≡ digitsOf n)
+unfolding numberOf digitsOf digits
+number-printed [] n h = absurd (never n h)
+number-printed (a ∷ w) n h =
+    let u = unless (eqb (suc (length w)) 0) (cond (ltb 4 (suc (length w))) Other (cond (isPadded (a ∷ w)) Other (digitsFrom 0 (a ∷ w)))) n h in
+    let x = unless (ltb 4 (suc (length w))) (cond (isPadded (a ∷ w)) Other (digitsFrom 0 (a ∷ w))) n (u .1) in
+    let y = unless (isPadded (a ∷ w)) (digitsFrom 0 (a ∷ w)) n (x .1) in
+    let l : length w < 4 = omega (arith, ltb-false 4 (suc (length w)) (x .0)) in
+    let g = digit-is 0 a w n (y .1) in
+    let e : suc (length w) + 0 ≡ suc (length w) = omega arith in
+    let f : length w + 0 ≡ length w = omega arith in
+    let hi : n < ten (suc (length w)) = rw e at (most (a ∷ w) 0 0 n (y .1) (omega arith)) in
+    let lo : 0 < length w → ten (length w) ≤ n = (λ z. rw f at (least w (10 * 0 + (a - 48)) 0 n (g .more) (low a w (g .low) (y .0) z))) in
+    let p : placesFrom 19 n ≡ suc (length w) = places-exact 19 (length w) n (omega arith) lo hi in
+    (omega (arith, hi, ten-four (length w) l), sym (ap (λ k. digits k n) p ∙ ap (λ k. digits k n) (sym e) ∙ spell (a ∷ w) 0 0 n (y .1)))
+
+-- words with single spaces between
+abbrev joined : List (List ℕ) → List ℕ
+joined [] = []
+joined (w ∷ []) = w
+joined (w ∷ v ∷ ws) = w ++ 32 ∷ joined (v ∷ ws)
+
+cons-nil : (w : List ℕ) (ws : List (List ℕ)) → w ∷ ws ≡ [] → ⊥
+cons-nil w ws e = let z : _≡_ {A = ℕ} 0 1 = cc in omega arith
+
+some : (s : List ℕ) → words s ≡ [] → ⊥
+unfolding words
+some [] e = cons-nil [] [] e
+some (b ∷ s) e = by (eqb b 32) (words s) e
+  where
+    by : (t : Bool) (ws : List (List ℕ)) → cond t ([] ∷ ws) (glue b ws) ≡ [] → ⊥
+    by true ws e = cons-nil [] ws e
+    by false [] e = cons-nil (b ∷ []) [] e
+    by false (w ∷ ws) e = cons-nil (b ∷ w) ws e
+
+-- the words of a text make it up again
+joined-words : (s : List ℕ) → joined (words s) ≡ s
+unfolding words
+joined-words [] = refl
+joined-words (b ∷ s) = by (eqb b 32) (words s) refl (some s) (joined-words s)
+  where
+    by : (t : Bool) (ws : List (List ℕ)) → eqb b 32 ≡ t → (ws ≡ [] → ⊥) → joined ws ≡ s → joined (cond t ([] ∷ ws) (glue b ws)) ≡ b ∷ s
+    by true [] e n h = absurd (n refl)
+    by true (w ∷ ws) e n h = rw (eqb-true b 32 e) (ap (λ r. 32 ∷ r) h)
+    by false [] e n h = absurd (n refl)
+    by false (w ∷ []) e n h = ap (λ r. b ∷ r) h
+    by false (w ∷ v ∷ ws) e n h = ap (λ r. b ∷ r) h
+
+wrong : (q : Question) → Malformed ≡ Enquiry q → ⊥
+wrong q p = let z : _≡_ {A = ℕ} 0 1 = cc in omega arith
+
+record Numbers (x y z : Word) (q : Question) : Type 0 where
+  age : x ≡ Number (q .age)
+  deferment : y ≡ Number (q .deferment)
+  year : z ≡ Number (q .year)
+
+numbers : (x y z : Word) (q : Question) → enquiryOf x y z ≡ Enquiry q → Numbers x y z q
+numbers (Number a) (Number b) (Number c) q h =
+    let e : _≡_ {A = Question} (record { age = a; deferment = b; year = c }) q = cc in
+    record { age = ap (λ p. Number (p .age)) e; deferment = ap (λ p. Number (p .deferment)) e; year = ap (λ p. Number (p .year)) e }
+numbers (Number a) (Number b) Other q h = absurd (wrong q h)
+numbers (Number a) Other z q h = absurd (wrong q h)
+numbers Other y z q h = absurd (wrong q h)
+
+printed-words : (ws : List (List ℕ)) (q : Question) → three ws ≡ Enquiry q → (joined ws ≡ questionText q) × FourDigits q
+unfolding questionText
+printed-words [] q h = absurd (wrong q h)
+printed-words (a ∷ []) q h = absurd (wrong q h)
+printed-words (a ∷ b ∷ []) q h = absurd (wrong q h)
+printed-words (a ∷ b ∷ c ∷ []) q h =
+    let n = numbers (numberOf a) (numberOf b) (numberOf c) q h in
+    let x = number-printed a (q .age) (n .age) in
+    let y = number-printed b (q .deferment) (n .deferment) in
+    let z = number-printed c (q .year) (n .year) in
+    (rw (append-assoc, ← x .1, ← y .1, ← z .1) refl, record { age = x .0; deferment = y .0; year = z .0 })
+printed-words (a ∷ b ∷ c ∷ d ∷ ws) q h = absurd (wrong q h)
+
+-- A line that reads as an enquiry is its question, printed, and four digits hold each of its numbers.
+pub enquiry-printed : (text : List ℕ) (q : Question) → lineOf text ≡ Enquiry q → (text ≡ questionText q) × FourDigits q
+unfolding lineOf
+enquiry-printed text q h = let r = printed-words (words text) q h in (sym (joined-words text) ∙ r .0, r .1)
+
+number-short : (w : List ℕ) (n : ℕ) → numberOf w ≡ Number n → length w ≤ 4
+unfolding numberOf
+number-short w n h =
+    let u = unless (eqb (length w) 0) (cond (ltb 4 (length w)) Other (cond (isPadded w) Other (digitsFrom 0 w))) n h in
+    let x = unless (ltb 4 (length w)) (cond (isPadded w) Other (digitsFrom 0 w)) n (u .1) in
+    ltb-false 4 (length w) (x .0)
+
+short-words : (ws : List (List ℕ)) (q : Question) → three ws ≡ Enquiry q → length (joined ws) ≤ 14
+short-words [] q h = absurd (wrong q h)
+short-words (a ∷ []) q h = absurd (wrong q h)
+short-words (a ∷ b ∷ []) q h = absurd (wrong q h)
+short-words (a ∷ b ∷ c ∷ []) q h =
+    let n = numbers (numberOf a) (numberOf b) (numberOf c) q h in
+    simp length-append (omega (arith, number-short a (q .age) (n .age), number-short b (q .deferment) (n .deferment), number-short c (q .year) (n .year)))
+short-words (a ∷ b ∷ c ∷ d ∷ ws) q h = absurd (wrong q h)
+
+short : (text : List ℕ) (q : Question) → lineOf text ≡ Enquiry q → length text ≤ 14
+unfolding lineOf
+short text q h = rw (ap length (joined-words text)) at (short-words (words text) q h)
+
+-- A line of more than 14 bytes is malformed.
+pub long-malformed : (text : List ℕ) → 14 < length text → lineOf text ≡ Malformed
+long-malformed text l = by (lineOf text) refl
+  where
+    by : (p : Line) → lineOf text ≡ p → p ≡ Malformed
+    by (Enquiry q) h = absurd (omega (arith, short text q h))
+    by Malformed h = refl

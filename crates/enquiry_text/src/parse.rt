@@ -1,0 +1,119 @@
+// Reading a line: three decimal numbers of 1 to 4 digits, single spaces between, no needless leading zero.
+ghost use mathlib.Core.Path.{_≡_};
+ghost use Prim.Native.Nat.{_≤_};
+ghost use lib.ListN.{length};
+ghost use Rattle.enquiry_text.specs.Line.{lineOf, numberOf, enquiryOf, spaceAt, isPadded, digitsFrom};
+use crate::Line;
+use crate::Word;
+use model_points::Question;
+
+// The enquiry that a line of bytes is, its byte 10 not among them.
+pub fn parse_line(text: &[u8]) -> Line
+    ensures { λ r. ⌜ r ≡ lineOf (now (text .entry)) ⌝ }
+{
+    let a = first_space(text);
+    if a == text.len() {
+        return Line::Malformed;
+    }
+    let rest = &text[a + 1..];
+    let d = first_space(rest);
+    if d == rest.len() {
+        return Line::Malformed;
+    }
+    let last = &rest[d + 1..];
+    let y = first_space(last);
+    if y < last.len() {
+        return Line::Malformed;
+    }
+    let age = number(&text[..a]);
+    let deferment = number(&rest[..d]);
+    let year = number(last);
+    enquiry(age, deferment, year)
+}
+
+fn enquiry(a: Word, d: Word, y: Word) -> Line
+    ensures { λ r. ⌜ r ≡ enquiryOf a d y ⌝ }
+{
+    match a {
+        Word::Number(age) => match d {
+            Word::Number(deferment) => match y {
+                Word::Number(year) => Line::Enquiry(Question {
+                    age: age,
+                    deferment: deferment,
+                    year: year,
+                }),
+                Word::Other => Line::Malformed,
+            },
+            Word::Other => Line::Malformed,
+        },
+        Word::Other => Line::Malformed,
+    }
+}
+
+// The place of the first space, or the length where there is none.
+fn first_space(s: &[u8]) -> usize
+    ensures { λ r. ⌜ r ≡ spaceAt (now (s .entry)) ⌝ }
+    ensures { λ r. ⌜ r ≤ length (now (s .entry)) ⌝ }
+{
+    let mut i = 0;
+    while i < s.len() {
+        if s[i] == b' ' {
+            return i;
+        }
+        i += 1;
+    }
+    i
+}
+
+fn number(word: &[u8]) -> Word
+    ensures { λ r. ⌜ r ≡ numberOf (now (word .entry)) ⌝ }
+{
+    let n = word.len();
+    if n == 0 {
+        return Word::Other;
+    }
+    if 4 < n {
+        return Word::Other;
+    }
+    if is_padded(word) {
+        return Word::Other;
+    }
+    value_of(word)
+}
+
+// Whether a word begins with a needless zero.
+fn is_padded(word: &[u8]) -> bool
+    ensures { λ r. ⌜ r ≡ isPadded (now (word .entry)) ⌝ }
+{
+    if word.len() < 2 {
+        return false;
+    }
+    word[0] == b'0'
+}
+
+// The number that up to four digits spell.
+fn value_of(word: &[u8]) -> Word
+    requires { ⌜ length (now word) ≤ 4 ⌝ }
+    ensures { λ r. ⌜ r ≡ digitsFrom 0 (now (word .entry)) ⌝ }
+{
+    let mut value: u32 = 0;
+    let mut i = 0;
+    while i < word.len() {
+        let d = word[i];
+        if d < b'0' {
+            return Word::Other;
+        }
+        if b'9' < d {
+            return Word::Other;
+        }
+        value = 10 * value + wide(d - b'0');
+        i += 1;
+    }
+    Word::Number(value)
+}
+
+fn wide(d: u8) -> u32
+    ensures { λ r. ⌜ r ≡ d ⌝ }
+{
+    d as u32
+}

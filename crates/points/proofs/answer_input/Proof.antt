@@ -1,0 +1,58 @@
+-- The last reply fits the output.
+use mathlib.Core.Path.{sym}
+use native.Mathlib.Omega.{arith}
+use lib.Seq.{length-take-le}
+use borrow.Author.Needs.{needs}
+use Rattle.points.proofs.answer_input.Statement.{statement}
+use Rattle.points.proofs.answer_input.Tie as tie
+
+answer-blocks-requires : tie.Need-answer-blocks-requires
+answer-blocks-requires c κs = search needs
+
+same-length : tie.Need-same-length
+same-length c = search needs
+
+same-length-2 : tie.Need-same-length-2
+same-length-2 c = search needs
+
+returns : tie.Need-returns
+returns c = search needs
+
+finish-requires : tie.Need-finish-requires
+finish-requires c κs = search needs
+
+slice-reshare-prefix-write-all : tie.Need-slice-reshare-prefix-write-all
+slice-reshare-prefix-write-all c = search needs
+
+slice-aggregate-write-all : tie.Need-slice-aggregate-write-all
+slice-aggregate-write-all c = let f = c .before .before .before .finish in
+    let p = f .ensures in
+    sym (length-take-le (f .result) (f .last .1 .1 .0) (omega (arith, p .next, p .fits, p .same)))
+
+write-all-requires : tie.Need-write-all-requires
+write-all-requires c κs = search needs
+
+same-length-3 : tie.Need-same-length-3
+same-length-3 c = search needs
+
+same-length-4 : tie.Need-same-length-4
+same-length-4 c = search needs
+
+returns-2 : tie.Need-returns-2
+returns-2 c = search needs
+
+pub answer-input-spec : {M : Type 1} → statement M
+answer-input-spec =
+    tie.close
+    (tie.spec
+    answer-blocks-requires
+    same-length
+    same-length-2
+    returns
+    finish-requires
+    slice-reshare-prefix-write-all
+    slice-aggregate-write-all
+    write-all-requires
+    same-length-3
+    same-length-4
+    returns-2)

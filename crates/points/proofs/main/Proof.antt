@@ -1,0 +1,100 @@
+-- The run of a file that is accepted is an accepted run.
+use mathlib.Core.Path.{sym, _∙_}
+use native.Mathlib.Omega.{arith}
+use lib.Seq.{length-take-le}
+use Rattle.enquiry_lines.proofs.Opened.{opened-accepted}
+use borrow.Author.Needs.{needs}
+use Rattle.points.proofs.main.Statement.{statement}
+use Rattle.points.proofs.main.Tie as tie
+
+file-room-requires : tie.Need-file-room-requires
+file-room-requires c κs = search needs
+
+run-room-requires : tie.Need-run-room-requires
+run-room-requires c κs = search needs
+
+reply-room-requires : tie.Need-reply-room-requires
+reply-room-requires c κs = search needs
+
+slice-aggregate-read-basis : tie.Need-slice-aggregate-read-basis
+slice-aggregate-read-basis c = search needs
+
+read-basis-requires : tie.Need-read-basis-requires
+read-basis-requires c κs = search needs
+
+array-share-prefix-file : tie.Need-array-share-prefix-file
+array-share-prefix-file c = search needs
+
+slice-aggregate-open-file : tie.Need-slice-aggregate-open-file
+slice-aggregate-open-file c = search needs
+
+slice-aggregate-open-file-2 : tie.Need-slice-aggregate-open-file-2
+slice-aggregate-open-file-2 c = search needs
+
+slice-aggregate-open-file-3 : tie.Need-slice-aggregate-open-file-3
+slice-aggregate-open-file-3 c = search needs
+
+open-file-requires : tie.Need-open-file-requires
+open-file-requires c κs = search needs
+
+array-share-prefix-out : tie.Need-array-share-prefix-out
+array-share-prefix-out c = search needs
+
+slice-aggregate-write-all : tie.Need-slice-aggregate-write-all
+slice-aggregate-write-all c = let f = c .before .before .before .open-file in
+    let p = f .ensures .1 .1 in
+    sym (length-take-le (f .result .at) (f .last .1 .1 .0) (omega (arith, p .next, p .fits, p .same)))
+
+write-all-requires : tie.Need-write-all-requires
+write-all-requires c κs = search needs
+
+buffer-requires : tie.Need-buffer-requires
+buffer-requires c κs = search needs
+
+slice-aggregate-answer-input : tie.Need-slice-aggregate-answer-input
+slice-aggregate-answer-input c = search needs
+
+slice-aggregate-answer-input-2 : tie.Need-slice-aggregate-answer-input-2
+slice-aggregate-answer-input-2 c = search needs
+
+slice-aggregate-answer-input-3 : tie.Need-slice-aggregate-answer-input-3
+slice-aggregate-answer-input-3 c = search needs
+
+answer-input-requires : tie.Need-answer-input-requires
+answer-input-requires c κs = let o = c .before .before .before .before .before .before .before .before .before .before .open-file in
+    let run = c .before .before .before .before .before .before .before .before .before .before .before .before .before .before .before .before .before .before .run-room in
+    let e = sym (o .ensures .0) ∙ c .before .before .before .before .before .if1 .taken in (
+      rw (o .ensures .1 .0) (opened-accepted _ (run .result) (sym (run .ensures)) e),
+      (omega (arith, c .before .before .before .buffer .ensures), omega (arith, o .ensures .1 .1 .same, c .before .before .before .before .before .before .before .before .before .before .before .before .before .before .before .before .before .reply-room .ensures)),
+    )
+
+returns : tie.Need-returns
+returns c = search needs
+
+returns-2 : tie.Need-returns-2
+returns-2 c = search needs
+
+pub main-spec : {M : Type 1} → statement M
+main-spec =
+    tie.close
+    (tie.spec
+    file-room-requires
+    run-room-requires
+    reply-room-requires
+    slice-aggregate-read-basis
+    read-basis-requires
+    array-share-prefix-file
+    slice-aggregate-open-file
+    slice-aggregate-open-file-2
+    slice-aggregate-open-file-3
+    open-file-requires
+    array-share-prefix-out
+    slice-aggregate-write-all
+    write-all-requires
+    buffer-requires
+    slice-aggregate-answer-input
+    slice-aggregate-answer-input-2
+    slice-aggregate-answer-input-3
+    answer-input-requires
+    returns
+    returns-2)

@@ -1,0 +1,126 @@
+// The points program: answers the lines of standard input by the basis in basis.bin, on standard output. It moves bytes;
+// what they mean is enquiry_lines' to say.
+ghost use mathlib.Core.Path.{_≡_};
+ghost use Prim.Native.Nat.{_+_, _*_, _≤_};
+ghost use lib.ListN.{length};
+ghost use Rattle.basis.specs.Basis.{Accepted};
+ghost use Rattle.io.specs.Counts.{Counts};
+ghost use Rattle.points.specs.Going.{Going};
+use enquiry_lines::Pending;
+use enquiry_lines::lines;
+use enquiry_lines::open_basis;
+use libc::STDIN_FILENO;
+use libc::STDOUT_FILENO;
+
+// What a block leaves: the unfinished line, whether it was the last block, and whether its replies were written.
+struct Turn {
+    pending: Pending,
+    is_last: bool,
+    is_written: bool,
+}
+
+// One byte longer than a basis file: of a longer file so much is read that its length is refused.
+fn file_room() -> [u8; 4609]
+    ensures { λ r. ⌜ 4609 ≡ length r ⌝ }
+{
+    [0; 4609]
+}
+
+fn run_room() -> [u8; 4554]
+    ensures { λ r. ⌜ 4554 ≡ length r ⌝ }
+{
+    [0; 4554]
+}
+
+// Room for the replies to a block of 4,096 bytes, 192 bytes for each.
+fn reply_room() -> [u8; 786432]
+    ensures { λ r. ⌜ 786432 ≡ length r ⌝ }
+{
+    [0; 786432]
+}
+
+// How many bytes of basis.bin stand at the start of `file`; a missing file has none.
+fn read_basis(file: &mut [u8]) -> usize
+    ensures { λ r. ⌜ Counts r (now (file .exit)) ⌝ }
+{
+    let fd = os::open_read(b"basis.bin");
+    if fd < 0 {
+        return 0;
+    }
+    let n = io::read_full(fd, file);
+    libc::close(fd);
+    n
+}
+
+// Reads a block and answers the lines that end in it. The last block is empty, or one whose replies are not taken.
+fn answer_block(run: &[u8], s: Pending, part: &mut [u8], out: &mut [u8], blocks: u64) -> Turn
+    requires { ⌜ Accepted (now run) ⌝ }
+    requires { ⌜ (length (now part) ≤ 4096) × (786432 ≤ length (now out)) ⌝ }
+    requires { ⌜ Going s (blocks + 1) ⌝ }
+    ensures { λ r. ⌜ Going (r .pending) blocks ⌝ }
+{
+    let got = libc::read(STDIN_FILENO, part);
+    let n = io::count(got, part);
+    let f = lines::feed(run, s, &part[..n], out);
+    let at = f.at;
+    let is_written = io::write_all(STDOUT_FILENO, &out[..at]);
+    let pending = f.pending;
+    Turn {
+        pending: pending,
+        is_last: n == 0 || !is_written,
+        is_written: is_written,
+    }
+}
+
+// Nothing says that the input ends, so the blocks are counted down from a number that no run uses up.
+fn answer_blocks(run: &[u8], part: &mut [u8], out: &mut [u8]) -> Turn
+    requires { ⌜ Accepted (now run) ⌝ }
+    requires { ⌜ (length (now part) ≤ 4096) × (786432 ≤ length (now out)) ⌝ }
+    ensures { λ r. ⌜ Going (r .pending) 0 ⌝ }
+{
+    let mut pending = lines::begin();
+    let mut is_written = true;
+    let mut blocks: u64 = 1_000_000_000_000_000;
+    while 0 < blocks {
+        blocks -= 1;
+        let t = answer_block(run, pending, part, out, blocks);
+        let next = t.pending;
+        pending = next;
+        is_written = t.is_written;
+        if t.is_last {
+            break;
+        }
+    }
+    Turn {
+        pending: pending,
+        is_last: true,
+        is_written: is_written,
+    }
+}
+
+// All of standard input: its blocks, then a last line that lacks its byte 10.
+fn answer_input(run: &[u8], part: &mut [u8], out: &mut [u8])
+    requires { ⌜ Accepted (now run) ⌝ }
+    requires { ⌜ (length (now part) ≤ 4096) × (786432 ≤ length (now out)) ⌝ }
+{
+    let t = answer_blocks(run, part, out);
+    if !t.is_written {
+        return;
+    }
+    let at = lines::finish(run, t.pending, out);
+    io::write_all(STDOUT_FILENO, &out[..at]);
+}
+
+fn main() {
+    let mut file = file_room();
+    let mut run = run_room();
+    let mut out = reply_room();
+    let n = read_basis(&mut file);
+    let o = open_basis::open_file(&file[..n], &mut run, &mut out);
+    let at = o.at;
+    let is_written = io::write_all(STDOUT_FILENO, &out[..at]);
+    if o.accepted && is_written {
+        let mut part = io::buffer();
+        answer_input(&run, &mut part, &mut out);
+    }
+}
