@@ -101,11 +101,7 @@ pub fn brink(random: &mut Random) -> Draft {
     draft
 }
 
-fn components(
-    random: &mut Random,
-    draft: &mut Draft,
-    mut terms: impl FnMut(&mut Random) -> ([i32; 2], u8, u8),
-) {
+fn components(random: &mut Random, draft: &mut Draft, mut terms: impl FnMut(&mut Random) -> ([i32; 2], u8, u8)) {
     for component in [Component::Age, Component::BirthYear] {
         for index in 0..component.entries() {
             let (rates, period, proportion) = terms(random);

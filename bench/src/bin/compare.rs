@@ -27,7 +27,11 @@ fn settings() -> Result<Settings, String> {
             "--comparisons" => settings.comparisons = number,
             "--workers" => settings.workers = number.max(1),
             "--base" => settings.base = Some(number),
-            _ => return Err(format!("{word} is not known: --seed, --comparisons, --workers, --base, each with a number")),
+            _ => {
+                return Err(format!(
+                    "{word} is not known: --seed, --comparisons, --workers, --base, each with a number"
+                ));
+            }
         }
     }
     Ok(settings)

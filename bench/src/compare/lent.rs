@@ -25,7 +25,9 @@ pub fn empty_lendings() -> Result<(), String> {
             return Err(format!("empty lendings at {pointer:?}: {refusals:?}"));
         }
     }
-    println!("compare: a length of 0 with a null pointer, one out of line and one that cannot be read is refused as 1 or 11");
+    println!(
+        "compare: a length of 0 with a null pointer, one out of line and one that cannot be read is refused as 1 or 11"
+    );
     Ok(())
 }
 

@@ -48,12 +48,12 @@ pub const IMPROVEMENTS: RangeInclusive<i64> = -500_000_000..=500_000_000;
 /// The little-endian numbers of a run. Callers name offsets that lie in it.
 #[inline]
 pub fn signed(run: &[u8], offset: usize) -> i32 {
-    i32::from_le_bytes([run[offset], run[offset + 1], run[offset + 2], run[offset + 3]])
+    i32::from_le_bytes(run[offset..offset + 4].try_into().expect("four bytes"))
 }
 
 #[inline]
 pub fn short(run: &[u8], offset: usize) -> u32 {
-    u32::from(u16::from_le_bytes([run[offset], run[offset + 1]]))
+    u32::from(u16::from_le_bytes(run[offset..offset + 2].try_into().expect("two bytes")))
 }
 
 #[cfg(test)]

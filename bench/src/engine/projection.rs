@@ -58,23 +58,26 @@ impl Basis<'_> {
 
     /// The improvement at an age of 20 to 150 in a year from the foundation year to 2130, or 9.
     pub fn improvement(&self, age: u32, year: u32) -> Result<i64, Refusal> {
-        self.improvement_of(&self.age_component(age), age, year)
+        let improvement = self.improvement_of(&self.age_component(age), age, year);
+        if IMPROVEMENTS.contains(&improvement) { Ok(improvement) } else { Err(Refusal::improvement(age, year)) }
     }
 
     #[inline]
-    fn improvement_of(&self, age_component: &Component, age: u32, year: u32) -> Result<i64, Refusal> {
+    fn improvement_of(&self, age_component: &Component, age: u32, year: u32) -> i64 {
         let years = i64::from(year - self.foundation_year);
         let addition = if years > 0 { self.constant_addition } else { 0 };
-        let improvement = age_component.after(years) + self.birth_year_component(year - age).after(years) + addition;
-        if IMPROVEMENTS.contains(&improvement) { Ok(improvement) } else { Err(Refusal::improvement(age, year)) }
+        age_component.after(years) + self.birth_year_component(year - age).after(years) + addition
     }
 
     /// The factor at an age of 20 to 150 in a year from the base year on, or the first 9 or 10 on the way to it.
     pub fn factor(&self, age: u32, year: u32) -> Result<u64, Refusal> {
         let age_component = self.age_component(age);
         let mut factor = UNIT;
-        for year in self.base_year + 1..=year.min(LAST_YEAR) {
-            let improvement = self.improvement_of(&age_component, age, year)?;
+        for year in self.base_year + 1..year.min(LAST_YEAR) + 1 {
+            let improvement = self.improvement_of(&age_component, age, year);
+            if !IMPROVEMENTS.contains(&improvement) {
+                return Err(Refusal::improvement(age, year));
+            }
             factor = product(factor, (UNIT as i64 - improvement) as u64);
             if factor > 4 * UNIT {
                 return Err(Refusal::factor(age, year));
