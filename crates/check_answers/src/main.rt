@@ -5,11 +5,17 @@
 // 5 and 6 expectation, 7 and 8 annuity), the place of its basis (1), and age, deferment and year (4 each). A line a case:
 // `value` and the number, or `refused` and the refusal's number and places.
 ghost use mathlib.Core.Path.{_≡_};
+ghost use Prim.Native.Nat.{_≤_};
 ghost use lib.ListN.{length};
+ghost use lib.IntN.{natAbs};
 use basis::Answer;
 use basis::Refusal;
 use basis::SignedAnswer;
 use basis::little_endian;
+use enquiry_text::digits;
+use enquiry_text::reply;
+use libc::STDIN_FILENO;
+use libc::STDOUT_FILENO;
 use valuation::Kind;
 
 // ---- the bases
@@ -23,7 +29,7 @@ fn room() -> [u8; 145728]
 // Reads the number of bases and gives the bytes of as many, at most those there is room for.
 fn read_length() -> u32 {
     let mut bytes = [0u8; 2];
-    check_support::read_whole(&mut bytes);
+    io::read_full(STDIN_FILENO, &mut bytes);
     let bases = little_endian::read_u16(&bytes, 0);
     if bases < 32 { 4554 * bases } else { 145728 }
 }
@@ -41,26 +47,46 @@ fn run_at(runs: &[u8], place: u8) -> &[u8] {
 
 // ---- a case
 fn print_refused(r: Refusal) {
-    check_support::print_text(b"refused ");
-    check_support::print_refusal(r, b"\n");
+    let mut line = [0u8; 192];
+    let end = reply::put_refusal(&mut line, 0, r);
+    io::write_all(STDOUT_FILENO, &line[..end]);
+}
+
+// A number behind a word, and byte 10.
+fn print_number(word: &[u8], n: u64)
+    requires { ⌜ length (now word) ≤ 7 ⌝ }
+{
+    let mut line = [0u8; 28];
+    let at = digits::put_text(&mut line, 0, word);
+    let end = digits::put_number(&mut line, at, n, b'\n');
+    io::write_all(STDOUT_FILENO, &line[..end]);
 }
 
 fn print_answer(a: Answer) {
     match a {
-        Answer::Value(n) => {
-            check_support::print_text(b"value ");
-            check_support::print_number(n, b"\n");
-        }
+        Answer::Value(n) => print_number(b"value ", n),
         Answer::Refused(r) => print_refused(r),
+    }
+}
+
+// A number without its sign. The least number has no negative of its own, so it is reached from -1 downwards.
+fn magnitude(n: i64) -> u64
+    ensures { λ r. ⌜ r ≡ natAbs n ⌝ }
+{
+    if n < 0 { (-1 - n) as u64 + 1 } else { n as u64 }
+}
+
+fn print_signed(n: i64) {
+    if n < 0 {
+        print_number(b"value -", magnitude(n));
+    } else {
+        print_number(b"value ", magnitude(n));
     }
 }
 
 fn print_signed_answer(a: SignedAnswer) {
     match a {
-        SignedAnswer::Value(n) => {
-            check_support::print_text(b"value ");
-            check_support::print_signed(n, b"\n");
-        }
+        SignedAnswer::Value(n) => print_signed(n),
         SignedAnswer::Refused(r) => print_refused(r),
     }
 }
@@ -101,7 +127,7 @@ fn run_case(run: &[u8], kind: u8, age: u32, deferment: u32, year: u32) {
 // Reads a case and works it; false at the end of the input.
 fn next_case(runs: &[u8]) -> bool {
     let mut asked = [0u8; 14];
-    if !check_support::read_whole(&mut asked) {
+    if io::read_full(STDIN_FILENO, &mut asked) < 14 {
         return false;
     }
     let age = little_endian::read_u32(&asked, 2);
@@ -121,8 +147,8 @@ fn run_cases(runs: &[u8]) -> u64 {
 }
 
 fn work(runs: &mut [u8]) {
-    check_support::read_whole(runs);
-    check_support::print_cases(run_cases(runs));
+    io::read_full(STDIN_FILENO, runs);
+    print_number(b"cases ", run_cases(runs));
 }
 
 fn main() {

@@ -14,6 +14,9 @@ use basis::Refusal;
 use basis::little_endian;
 use basis_file::read;
 use basis_file::write;
+use enquiry_text::digits;
+use libc::STDIN_FILENO;
+use libc::STDOUT_FILENO;
 
 // ---- the input and the output of a case
 fn room() -> [u8; 5000]
@@ -54,7 +57,7 @@ fn lay_base(file: &[u8], kind: u8, input: &mut [u8])
 // One patch of standard input.
 fn patch(input: &mut [u8]) {
     let mut read = [0u8; 3];
-    check_support::read_whole(&mut read);
+    io::read_full(STDIN_FILENO, &mut read);
     let at = little_endian::read_u16(&read, 0) as usize;
     if at < input.len() {
         input[at] = read[2];
@@ -90,9 +93,14 @@ fn sum_of(output: &[u8]) -> u32
     sum
 }
 
+// The refusal's number and places, and the sum.
 fn print_line(r: Refusal, sum: u32) {
-    check_support::print_refusal(r, b" ");
-    check_support::print_number(sum as u64, b"\n");
+    let mut line = [0u8; 84];
+    let a = digits::put_number(&mut line, 0, r.number as u64, b' ');
+    let b = digits::put_number(&mut line, a, r.first, b' ');
+    let c = digits::put_number(&mut line, b, r.second, b' ');
+    let d = digits::put_number(&mut line, c, sum as u64, b'\n');
+    io::write_all(STDOUT_FILENO, &line[..d]);
 }
 
 fn print_answer(c: Check, sum: u32) {
@@ -143,7 +151,7 @@ fn run_case(file: &[u8], header: &[u8])
 // Reads a case and works it; false at the end of the input.
 fn next_case(file: &[u8]) -> bool {
     let mut header = [0u8; 11];
-    if !check_support::read_whole(&mut header) {
+    if io::read_full(STDIN_FILENO, &mut header) < 11 {
         return false;
     }
     run_case(file, &header);
@@ -159,8 +167,15 @@ fn run_cases(file: &[u8]) -> u64 {
     cases
 }
 
+fn print_cases(cases: u64) {
+    let mut line = [0u8; 27];
+    let a = digits::put_text(&mut line, 0, b"cases ");
+    let b = digits::put_number(&mut line, a, cases, b'\n');
+    io::write_all(STDOUT_FILENO, &line[..b]);
+}
+
 fn main() {
     let mut file = file_room();
-    check_support::read_whole(&mut file);
-    check_support::print_cases(run_cases(&file));
+    io::read_full(STDIN_FILENO, &mut file);
+    print_cases(run_cases(&file));
 }

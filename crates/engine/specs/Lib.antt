@@ -1,1 +1,3 @@
 pub mod Enquiry
+pub mod Grid
+pub mod Lifelines

@@ -3,6 +3,8 @@
 pub mod answers;
 pub mod cells;
 pub mod files;
+pub mod grid;
+pub mod lifelines;
 pub mod points;
 pub mod values;
 
@@ -20,4 +22,20 @@ pub struct CAnswer {
 pub struct CSignedAnswer {
     pub refusal: Refusal,
     pub value: i64,
+}
+
+// What the grid's checks let it do: its refusal, and how many records it answers.
+pub struct GridStart {
+    pub refusal: Refusal,
+    pub records: usize,
+}
+
+// Where a lifeline stands after a start or a step, and whether it has ended (1).
+#[repr(C)]
+pub struct CLifeline {
+    pub refusal: Refusal,
+    pub survivors: u64,
+    pub age: u32,
+    pub year: u32,
+    pub ended: u32,
 }

@@ -47,7 +47,7 @@ fn places(n: u64) -> usize
 }
 
 // A number, then one byte more.
-pub(crate) fn put_number(out: &mut [u8], at: usize, n: u64, then: u8) -> usize
+pub fn put_number(out: &mut [u8], at: usize, n: u64, then: u8) -> usize
     requires { ⌜ at + 21 ≤ length (now out) ⌝ }
     ensures { λ r. ⌜ Put (now (out .entry)) at (digitsOf n ++ then ∷ []) (now (out .exit)) r ⌝ }
     ensures { λ r. ⌜ r ≤ at + 21 ⌝ }
@@ -71,7 +71,7 @@ pub(crate) fn put_units(out: &mut [u8], at: usize, v: u64, then: u8) -> usize
 }
 
 // A text as it stands.
-pub(crate) fn put_text(out: &mut [u8], at: usize, text: &[u8]) -> usize
+pub fn put_text(out: &mut [u8], at: usize, text: &[u8]) -> usize
     requires { ⌜ at + length (now text) ≤ length (now out) ⌝ }
     ensures { λ r. ⌜ Put (now (out .entry)) at (now (text .entry)) (now (out .exit)) r ⌝ }
 {

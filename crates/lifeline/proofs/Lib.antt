@@ -1,1 +1,4 @@
 pub mod Standing
+pub mod Survivorship
+mod After
+pub mod Walk

@@ -1,6 +1,6 @@
 -- A lifeline (01, "A lifeline reader holds the lent data run with an age, a year and the survivors"): the survivors of one cohort,
 -- year by year. The trade's word for its survivors is cohort survivorship.
-use Prim.Native.Nat.{ℕ, _+_}
+use Prim.Native.Nat.{ℕ, zero, suc, _+_}
 use mathlib.Core.Bool.{cond}
 use mathlib.Core.List.{List}
 use lib.Dec.{eqb, leb}
@@ -15,6 +15,7 @@ use Rattle.valuation.specs.Enquiry.{valuationCheck}
 use Rattle.valuation.specs.Valuation.{survivorsAfterYear}
 use Rattle.lifeline.specs.declared.Status.{Status}
 use Rattle.lifeline.specs.declared.Status.the-variants as status
+use Rattle.lifeline.specs.declared.Stand.{Stand}
 use Rattle.lifeline.specs.declared.Begun.{Begun}
 use Rattle.lifeline.specs.declared.Moved.{Moved}
 
@@ -69,3 +70,22 @@ unlessRefused age year survivors (Refused r) m = moved age year survivors (statu
 
 unfoldable pub stepAt : List ℕ → ℕ → ℕ → ℕ → Moved
 stepAt run age year survivors = unlessRefused age year survivors (stepCheck run age year survivors) (lived run age year survivors)
+
+-- ---- from a start, step by step
+abbrev pub standAt : ℕ → ℕ → ℕ → Stand
+standAt age year survivors = record { age = age; year = year; survivors = survivors }
+
+abbrev pub stepFrom : List ℕ → Stand → Moved
+stepFrom run s = stepAt run (s .age) (s .year) (s .survivors)
+
+-- where it stands at its start, and after a step
+abbrev pub standBegun : Begun → Stand
+standBegun b = standAt (b .age) (b .year) (b .survivors)
+
+abbrev pub standMoved : Moved → Stand
+standMoved m = standAt (m .age) (m .year) (m .survivors)
+
+-- where it stands n steps on
+unfoldable pub standAfter : List ℕ → ℕ → ℕ → ℕ → Stand
+standAfter run age year zero = standBegun (startAt run age year)
+standAfter run age year (suc n) = standMoved (stepFrom run (standAfter run age year n))

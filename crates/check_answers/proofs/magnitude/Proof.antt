@@ -9,8 +9,8 @@ use mir.Val.{toZ, ofZ}
 use mir.Facts.{toZ-ofZ, toZ-pos}
 use borrow.Author.Needs.{needs}
 use Rattle.arithmetic.proofs.Machine.{negative, natural, flip}
-use Rattle.check_support.proofs.magnitude.Statement.{statement}
-use Rattle.check_support.proofs.magnitude.Tie as tie
+use Rattle.check_answers.proofs.magnitude.Statement.{statement}
+use Rattle.check_answers.proofs.magnitude.Tie as tie
 
 record Below (n : ℤ) : Type 0 where
   m : ℕ

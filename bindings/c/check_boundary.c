@@ -1,0 +1,344 @@
+/* Checks the boundary that nothing proves: C sees the engine's structs where the engine puts them, and each function
+   answers and refuses as the definitions say on a few cases worked by hand. Prints one line, and each check that failed. */
+#include <stddef.h>
+#include <stdio.h>
+#include <string.h>
+#include "parvusek.h"
+
+enum { RUN = 4554, FILE_SIZE = 4608, FURTHER = 16, KEPT = 0xA5 };
+
+static int checks, failures;
+
+#define HOLDS(fact) holds((fact), #fact, __LINE__)
+
+static void holds(int fact, const char *text, int line) {
+    checks++;
+    if (!fact) {
+        failures++;
+        printf("check_boundary.c:%d: not so: %s\n", line, text);
+    }
+}
+
+/* ---- what an answer says */
+
+static int refused(parvusek_refusal_t r, uint32_t number, uint64_t first, uint64_t second) {
+    return r.number == number && r.first == first && r.second == second;
+}
+
+static int passed(parvusek_refusal_t r) { return refused(r, 0, 0, 0); }
+
+static int is(parvusek_answer_t a, uint64_t value) { return passed(a.refusal) && a.value == value; }
+
+static int declined(parvusek_answer_t a, uint32_t number, uint64_t first, uint64_t second) {
+    return refused(a.refusal, number, first, second) && a.value == 0;
+}
+
+static int is_signed(parvusek_signed_answer_t a, int64_t value) { return passed(a.refusal) && a.value == value; }
+
+static int point_is(parvusek_point_answer_t p, uint64_t a, uint64_t b, uint64_t c, uint64_t d) {
+    return passed(p.refusal) && p.results[0] == a && p.results[1] == b && p.results[2] == c && p.results[3] == d;
+}
+
+static int point_refused(parvusek_point_answer_t p, uint32_t number, uint64_t first, uint64_t second) {
+    return refused(p.refusal, number, first, second) && !p.results[0] && !p.results[1] && !p.results[2] && !p.results[3];
+}
+
+static int all(const uint8_t *at, size_t n, uint8_t byte) {
+    for (size_t i = 0; i < n; i++)
+        if (at[i] != byte) return 0;
+    return 1;
+}
+
+/* ---- bases */
+
+static void put2(uint8_t *at, uint32_t n) {
+    at[0] = (uint8_t)n;
+    at[1] = (uint8_t)(n >> 8);
+}
+
+static void put4(uint8_t *at, int32_t n) {
+    put2(at, (uint32_t)n);
+    put2(at + 2, (uint32_t)n >> 16);
+}
+
+static uint32_t get4(const uint8_t *at) {
+    return at[0] | (uint32_t)at[1] << 8 | (uint32_t)at[2] << 16 | (uint32_t)at[3] << 24;
+}
+
+static void fill4(uint8_t *at, size_t count, int32_t n) {
+    for (size_t i = 0; i < count; i++) put4(at + 4 * i, n);
+}
+
+/* F and B 2006, every base rate 100,000,000, other rates 0, T 20, P 50 */
+static void sample(uint8_t *run) {
+    memset(run, 0, RUN);
+    memcpy(run, "MPB1", 4);
+    put2(run + 4, 2006);
+    put2(run + 6, 2006);
+    fill4(run + 30, 131, 100000000);
+    memset(run + 1602, 20, 131);
+    memset(run + 1733, 50, 131);
+    memset(run + 4016, 20, 269);
+    memset(run + 4285, 50, 269);
+}
+
+/* the same with every improvement after F the constant addition */
+static void sample_with_addition(uint8_t *run, int32_t addition) {
+    sample(run);
+    put4(run + 8, addition);
+}
+
+/* the same with every improvement -400,000,000 in F and -500,000,000 after it */
+static void sample_worsening(uint8_t *run) {
+    sample_with_addition(run, -100000000);
+    fill4(run + 554, 262, -200000000);
+    fill4(run + 1864, 538, -200000000);
+}
+
+/* the same with an improvement of 587,500,000 a year after F */
+static void sample_beyond(uint8_t *run) {
+    sample(run);
+    fill4(run + 554, 131, 200000000);
+    fill4(run + 1078, 131, -200000000);
+    memset(run + 1602, 4, 131);
+    memset(run + 1733, 150, 131);
+}
+
+/* ---- layouts */
+
+static void check_layouts(void) {
+    HOLDS(sizeof(parvusek_refusal_t) == 24);
+    HOLDS(offsetof(parvusek_refusal_t, number) == 0);
+    HOLDS(offsetof(parvusek_refusal_t, first) == 8);
+    HOLDS(offsetof(parvusek_refusal_t, second) == 16);
+    HOLDS(sizeof(parvusek_answer_t) == 32);
+    HOLDS(offsetof(parvusek_answer_t, refusal) == 0);
+    HOLDS(offsetof(parvusek_answer_t, value) == 24);
+    HOLDS(sizeof(parvusek_signed_answer_t) == 32);
+    HOLDS(offsetof(parvusek_signed_answer_t, refusal) == 0);
+    HOLDS(offsetof(parvusek_signed_answer_t, value) == 24);
+    HOLDS(sizeof(parvusek_question_t) == 12);
+    HOLDS(offsetof(parvusek_question_t, age) == 0);
+    HOLDS(offsetof(parvusek_question_t, deferment) == 4);
+    HOLDS(offsetof(parvusek_question_t, year) == 8);
+    HOLDS(sizeof(parvusek_questions_t) == 72);
+    HOLDS(sizeof(parvusek_point_answer_t) == 56);
+    HOLDS(offsetof(parvusek_point_answer_t, results) == 0);
+    HOLDS(offsetof(parvusek_point_answer_t, refusal) == 32);
+    HOLDS(sizeof(parvusek_small_set_t) == 360);
+    HOLDS(offsetof(parvusek_small_set_t, refusal) == 0);
+    HOLDS(offsetof(parvusek_small_set_t, points) == 24);
+    HOLDS(sizeof(parvusek_point_t) == 64);
+    HOLDS(offsetof(parvusek_point_t, age) == 0);
+    HOLDS(offsetof(parvusek_point_t, deferment) == 4);
+    HOLDS(offsetof(parvusek_point_t, year) == 8);
+    HOLDS(offsetof(parvusek_point_t, refusal) == 12);
+    HOLDS(offsetof(parvusek_point_t, results) == 16);
+    HOLDS(offsetof(parvusek_point_t, first) == 48);
+    HOLDS(offsetof(parvusek_point_t, second) == 56);
+    HOLDS(sizeof(parvusek_lifeline_t) == 48);
+    HOLDS(offsetof(parvusek_lifeline_t, refusal) == 0);
+    HOLDS(offsetof(parvusek_lifeline_t, survivors) == 24);
+    HOLDS(offsetof(parvusek_lifeline_t, age) == 32);
+    HOLDS(offsetof(parvusek_lifeline_t, year) == 36);
+    HOLDS(offsetof(parvusek_lifeline_t, ended) == 40);
+}
+
+/* ---- the basis */
+
+static void check_runs(void) {
+    uint8_t run[RUN];
+    sample(run);
+    HOLDS(passed(parvusek_check_basis(run, RUN)));
+    HOLDS(refused(parvusek_check_basis(run, RUN - 1), 1, 0, 0));
+    HOLDS(refused(parvusek_check_basis(NULL, 0), 1, 0, 0));
+    put2(run + 6, 2005);
+    HOLDS(refused(parvusek_check_basis(run, RUN), 5, 6, 0));
+    run[17] = 1;
+    HOLDS(refused(parvusek_check_basis(run, RUN), 4, 17, 0));
+    run[0] = 'm';
+    HOLDS(refused(parvusek_check_basis(run, RUN), 4, 0, 0));
+    sample(run);
+    put4(run + 12, -1);
+    HOLDS(refused(parvusek_check_basis(run, RUN), 5, 12, 0));
+}
+
+static uint32_t block_check(const uint8_t *block) {
+    uint32_t sum = 0;
+    for (uint32_t i = 0; i < 127; i++) sum += get4(block + 4 * i) * (i + 1);
+    return sum;
+}
+
+static void check_files(void) {
+    uint8_t run[RUN], file[FILE_SIZE + FURTHER], back[RUN + FURTHER];
+    sample(run);
+    memset(file, KEPT, sizeof file);
+    memset(back, KEPT, sizeof back);
+
+    HOLDS(refused(parvusek_write_basis(run, RUN - 1, file, FILE_SIZE - 1), 11, FILE_SIZE, 0));
+    HOLDS(refused(parvusek_write_basis(run, RUN - 1, file, sizeof file), 1, 0, 0));
+    HOLDS(all(file, sizeof file, KEPT));
+    HOLDS(passed(parvusek_write_basis(run, RUN, file, sizeof file)));
+    HOLDS(all(file + FILE_SIZE, FURTHER, KEPT));
+    for (uint32_t b = 0; b < 9; b++) {
+        const uint8_t *block = file + 512 * b;
+        HOLDS(block[0] == b && block[1] == 0);
+        HOLDS(memcmp(block + 2, run + 506 * b, 506) == 0);
+        HOLDS(get4(block + 508) == block_check(block));
+    }
+
+    HOLDS(refused(parvusek_read_basis(NULL, 0, NULL, 0), 11, RUN, 0));
+    HOLDS(refused(parvusek_read_basis(file, FILE_SIZE + 1, back, sizeof back), 1, 0, 0));
+    file[512 * 7 + 9] ^= 1;
+    HOLDS(refused(parvusek_read_basis(file, FILE_SIZE, back, sizeof back), 2, 7, 0));
+    file[512 * 7 + 9] ^= 1;
+    file[512 * 3] = 4;
+    put4(file + 512 * 3 + 508, (int32_t)block_check(file + 512 * 3));
+    HOLDS(refused(parvusek_read_basis(file, FILE_SIZE, back, sizeof back), 3, 3, 0));
+    HOLDS(all(back, sizeof back, KEPT));
+    file[512 * 3] = 3;
+    put4(file + 512 * 3 + 508, (int32_t)block_check(file + 512 * 3));
+    HOLDS(passed(parvusek_read_basis(file, FILE_SIZE, back, sizeof back)));
+    HOLDS(memcmp(back, run, RUN) == 0);
+    HOLDS(all(back + RUN, FURTHER, KEPT));
+}
+
+static int32_t long_term(const uint8_t *run, uint32_t age) { return (int32_t)get4(run + 1078 + 4 * (age - 20)); }
+
+static void check_short_forms(void) {
+    uint8_t run[RUN], out[RUN + FURTHER];
+    sample_beyond(run);
+    memset(out, KEPT, sizeof out);
+    HOLDS(refused(parvusek_short_form(run, RUN, 200000001, out, RUN - 1), 11, RUN, 0));
+    HOLDS(refused(parvusek_short_form(run, RUN - 1, 200000001, out, RUN), 1, 0, 0));
+    HOLDS(refused(parvusek_short_form(run, RUN, 200000001, out, RUN), 5, 1078, 0));
+    HOLDS(refused(parvusek_short_form(run, RUN, -200000001, out, RUN), 5, 1078, 0));
+    HOLDS(all(out, sizeof out, KEPT));
+
+    HOLDS(passed(parvusek_short_form(run, RUN, 10000000, out, sizeof out)));
+    HOLDS(all(out + RUN, FURTHER, KEPT));
+    HOLDS(memcmp(out, run, 1078) == 0);
+    HOLDS(long_term(out, 20) == 10000000 && long_term(out, 90) == 10000000);
+    HOLDS(long_term(out, 91) == 9666667);
+    HOLDS(long_term(out, 119) == 333333);
+    HOLDS(long_term(out, 120) == 0 && long_term(out, 150) == 0);
+    HOLDS(all(out + 1602, 131, 20) && all(out + 1733, 131, 50));
+    HOLDS(memcmp(out + 1864, run + 1864, 1076) == 0);
+    HOLDS(all(out + 2940, 1076, 0));
+    HOLDS(all(out + 4016, 269, 20) && all(out + 4285, 269, 50));
+
+    HOLDS(passed(parvusek_short_form(run, RUN, -1, out, RUN)));
+    HOLDS(long_term(out, 91) == -1 && long_term(out, 105) == 0);
+}
+
+/* ---- single cells */
+
+static void check_cells(void) {
+    uint8_t run[RUN];
+    sample(run);
+    HOLDS(is_signed(parvusek_improvement(run, RUN, 148, 2010), 0));
+    HOLDS(is(parvusek_factor(run, RUN, 148, 2010), 1000000000));
+    HOLDS(is(parvusek_rate(run, RUN, 148, 2010), 100000000));
+    HOLDS(declined(parvusek_factor(run, RUN, 19, 2131), 6, 19, 0));
+    HOLDS(declined(parvusek_rate(run, RUN, UINT32_MAX, 2010), 6, UINT32_MAX, 0));
+    HOLDS(declined(parvusek_factor(run, RUN, 150, UINT32_MAX), 7, UINT32_MAX, 0));
+    HOLDS(declined(parvusek_rate(run, RUN, 20, 2005), 7, 2005, 0));
+    HOLDS(declined(parvusek_rate(run, RUN - 1, 19, 2005), 1, 0, 0));
+
+    /* an improvement is asked from F on, the others from B on */
+    put2(run + 6, 2009);
+    HOLDS(is_signed(parvusek_improvement(run, RUN, 60, 2006), 0));
+    HOLDS(declined(parvusek_factor(run, RUN, 60, 2008), 7, 2008, 0));
+
+    sample_with_addition(run, 10000000);
+    HOLDS(is_signed(parvusek_improvement(run, RUN, 60, 2006), 0));
+    HOLDS(is_signed(parvusek_improvement(run, RUN, 60, 2007), 10000000));
+    HOLDS(is(parvusek_factor(run, RUN, 60, 2006), 1000000000));
+    HOLDS(is(parvusek_factor(run, RUN, 60, 2009), 970299000));
+    HOLDS(is(parvusek_rate(run, RUN, 60, 2009), 97029900));
+
+    sample_worsening(run);
+    HOLDS(is_signed(parvusek_improvement(run, RUN, 60, 2006), -400000000));
+    HOLDS(is_signed(parvusek_improvement(run, RUN, 60, 2130), -500000000));
+    HOLDS(is(parvusek_factor(run, RUN, 60, 2009), 3375000000));
+    HOLDS(declined(parvusek_factor(run, RUN, 60, 2011), 10, 60, 2010));
+
+    sample_beyond(run);
+    parvusek_signed_answer_t beyond = parvusek_improvement(run, RUN, 60, 2007);
+    HOLDS(refused(beyond.refusal, 9, 60, 2007) && beyond.value == 0);
+    HOLDS(declined(parvusek_rate(run, RUN, 60, 2130), 9, 60, 2007));
+}
+
+/* ---- values */
+
+static void check_values(void) {
+    uint8_t run[RUN];
+    sample(run);
+    HOLDS(is(parvusek_period_survivorship(run, RUN, 148, 2, 2010), 810000000));
+    HOLDS(is(parvusek_cohort_survivorship(run, RUN, 148, 0, 2010), 1000000000));
+    HOLDS(is(parvusek_period_expectation(run, RUN, 148, 0, 2010), 2210000000));
+    HOLDS(is(parvusek_period_expectation(run, RUN, 148, 1, 2010), 1400000000));
+    HOLDS(is(parvusek_period_annuity(run, RUN, 148, 0, 2010), 2710000000));
+    HOLDS(is(parvusek_period_annuity(run, RUN, 148, 1, 2010), 1710000000));
+    HOLDS(is(parvusek_cohort_expectation(run, RUN, 148, 2, 2130), 500000000));
+    HOLDS(declined(parvusek_cohort_annuity(run, RUN, 148, 3, 2131), 8, 148, 3));
+    HOLDS(declined(parvusek_period_annuity(run, RUN, 148, UINT32_MAX, 2010), 8, 148, UINT32_MAX));
+    HOLDS(declined(parvusek_cohort_expectation(run, RUN, 151, 3, 2131), 6, 151, 0));
+    HOLDS(declined(parvusek_period_expectation(run, RUN, 148, 2, 2131), 7, 2131, 0));
+    HOLDS(declined(parvusek_cohort_survivorship(NULL, 0, 151, 3, 2131), 1, 0, 0));
+
+    /* a cohort moves to the next year, whose rate is 99,000,000 */
+    sample_with_addition(run, 10000000);
+    HOLDS(is(parvusek_period_survivorship(run, RUN, 148, 2, 2006), 810000000));
+    HOLDS(is(parvusek_cohort_survivorship(run, RUN, 148, 2, 2006), 810900000));
+    HOLDS(is(parvusek_cohort_expectation(run, RUN, 148, 0, 2006), 2210900000));
+    HOLDS(is(parvusek_cohort_annuity(run, RUN, 148, 0, 2006), 2710900000));
+    HOLDS(is(parvusek_period_annuity(run, RUN, 148, 0, 2006), 2710000000));
+
+    sample(run);
+    put4(run + 12, 200000000);
+    HOLDS(is(parvusek_period_annuity(run, RUN, 149, 0, 2010), 1750000000));
+    sample_worsening(run);
+    HOLDS(declined(parvusek_cohort_annuity(run, RUN, 100, 0, 2006), 10, 104, 2010));
+    HOLDS(declined(parvusek_period_survivorship(run, RUN, 100, 1, 2010), 10, 100, 2010));
+    sample_beyond(run);
+    HOLDS(declined(parvusek_cohort_expectation(run, RUN, 100, 0, 2006), 9, 101, 2007));
+}
+
+/* ---- sets */
+
+static void check_small_sets(void) {
+    uint8_t run[RUN];
+    const parvusek_questions_t asked = {{{148, 0, 2010}, {150, 0, 2010}, {148, 3, 2010}, {19, 0, 2010}, {148, 0, 2131}, {149, 1, 2010}}};
+    sample(run);
+    parvusek_small_set_t set = parvusek_small_set(run, RUN, asked);
+    HOLDS(passed(set.refusal));
+    HOLDS(point_is(set.points[0], 2210000000, 2210000000, 2710000000, 2710000000));
+    HOLDS(point_is(set.points[1], 500000000, 500000000, 1000000000, 1000000000));
+    HOLDS(point_refused(set.points[2], 8, 148, 3));
+    HOLDS(point_refused(set.points[3], 6, 19, 0));
+    HOLDS(point_refused(set.points[4], 7, 2131, 0));
+    HOLDS(point_is(set.points[5], 500000000, 500000000, 900000000, 900000000));
+
+    sample_with_addition(run, 10000000);
+    const parvusek_questions_t moving = {{{148, 0, 2006}, {148, 0, 2006}, {148, 0, 2006}, {148, 0, 2006}, {148, 0, 2006}, {148, 0, 2006}}};
+    set = parvusek_small_set(run, RUN, moving);
+    HOLDS(point_is(set.points[5], 2210000000, 2210900000, 2710000000, 2710900000));
+
+    run[3] = '2';
+    set = parvusek_small_set(run, RUN, asked);
+    HOLDS(refused(set.refusal, 4, 3, 0));
+    for (int i = 0; i < 6; i++) HOLDS(point_is(set.points[i], 0, 0, 0, 0));
+}
+
+int main(void) {
+    check_layouts();
+    check_runs();
+    check_files();
+    check_short_forms();
+    check_cells();
+    check_values();
+    check_small_sets();
+    printf("boundary, C: %d checks, %d failed\n", checks, failures);
+    return failures != 0;
+}

@@ -1,0 +1,77 @@
+// Lifelines as C keeps them: the host holds age, year and survivors between the calls, and lends the data run to each.
+ghost use mathlib.Core.Path.{_≡_};
+ghost use Rattle.lifeline.specs.Lifeline.{startAt, stepAt};
+ghost use Rattle.engine.specs.Lifelines.{lifelineBegun, stepRefusal, stepEnded, lifelineMoved};
+use crate::CLifeline;
+use crate::answers;
+use basis::Check;
+use basis::Refusal;
+use lifeline::Begun;
+use lifeline::Moved;
+use lifeline::Status;
+use lifeline::cohort;
+
+fn begun(b: Begun) -> CLifeline
+    ensures { λ r. ⌜ r ≡ lifelineBegun b ⌝ }
+{
+    let check = b.check;
+    CLifeline {
+        refusal: answers::refusal_of(check),
+        survivors: b.survivors,
+        age: b.age,
+        year: b.year,
+        ended: 0,
+    }
+}
+
+fn step_refusal(status: Status) -> Refusal
+    ensures { λ r. ⌜ r ≡ stepRefusal status ⌝ }
+{
+    match status {
+        Status::Advanced => answers::refusal_of(Check::Passed),
+        Status::Ended => answers::refusal_of(Check::Passed),
+        Status::Refused(r) => r,
+    }
+}
+
+fn step_ended(status: Status) -> u32
+    ensures { λ r. ⌜ r ≡ stepEnded status ⌝ }
+{
+    match status {
+        Status::Advanced => 0,
+        Status::Ended => 1,
+        Status::Refused(_) => 0,
+    }
+}
+
+fn moved(m: Moved) -> CLifeline
+    ensures { λ r. ⌜ r ≡ lifelineMoved m ⌝ }
+{
+    let status = m.status;
+    CLifeline {
+        refusal: step_refusal(status),
+        survivors: m.survivors,
+        age: m.age,
+        year: m.year,
+        ended: step_ended(status),
+    }
+}
+
+#[no_mangle]
+pub extern "C" fn parvusek_lifeline_start(run: &[u8], age: u32, year: u32) -> CLifeline
+    ensures { λ r. ⌜ r ≡ lifelineBegun (startAt (now (run .entry)) age year) ⌝ }
+{
+    begun(cohort::start_at(run, age, year))
+}
+
+#[no_mangle]
+pub extern "C" fn parvusek_lifeline_step(
+    run: &[u8],
+    age: u32,
+    year: u32,
+    survivors: u64,
+) -> CLifeline
+    ensures { λ r. ⌜ r ≡ lifelineMoved (stepAt (now (run .entry)) age year survivors) ⌝ }
+{
+    moved(cohort::step_at(run, age, year, survivors))
+}

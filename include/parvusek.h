@@ -1,0 +1,96 @@
+/* The engine's surface for C, base level. Every call is total: any pointer with its true length, any number.
+   No call keeps a pointer, allocates, or writes anything but the lent output it names, and that only where it is
+   not refused. A length of 0 may come with any pointer. An input and an output of one call must not overlap.
+   Units: 1,000,000,000 to one.
+
+   A refusal is a number and two places; the first in the order below decides, and docs/REFUSALS.md has each number's
+   sentence. U is 1,000,000,000, F the foundation year and B the base year of the data run. */
+#ifndef PARVUSEK_H
+#define PARVUSEK_H
+#include <stddef.h>
+#include <stdint.h>
+
+#ifdef __cplusplus
+extern "C" {
+#endif
+
+typedef struct { uint32_t number; uint64_t first, second; } parvusek_refusal_t;      /* number 0: none, places 0 */
+typedef struct { parvusek_refusal_t refusal; uint64_t value; } parvusek_answer_t;    /* refused: value 0 */
+typedef struct { parvusek_refusal_t refusal; int64_t value; } parvusek_signed_answer_t;
+
+typedef struct { uint32_t age, deferment, year; } parvusek_question_t;
+typedef struct { parvusek_question_t points[6]; } parvusek_questions_t;
+/* results are period and cohort expectation, period and cohort annuity; refused: all four 0 */
+typedef struct { uint64_t results[4]; parvusek_refusal_t refusal; } parvusek_point_answer_t;
+typedef struct { parvusek_refusal_t refusal; parvusek_point_answer_t points[6]; } parvusek_small_set_t;
+/* a record of the grid, with the same four results; first and second are the refusal's places */
+typedef struct { uint32_t age, deferment, year, refusal; uint64_t results[4]; uint64_t first, second; } parvusek_point_t;
+/* where a lifeline stands after a start or a step, and whether it has ended (1) */
+typedef struct { parvusek_refusal_t refusal; uint64_t survivors; uint32_t age, year, ended; } parvusek_lifeline_t;
+
+/* ---- basis: a file of 4,608 bytes, a data run of 4,554 */
+
+/* Whether a data run may be used. Refused: 1 (length), 4 (mark or zero bytes), 5 (a field outside its limits). */
+parvusek_refusal_t parvusek_check_basis(const uint8_t *run, size_t run_len);
+
+/* Writes the data run of a file into the first 4,554 bytes of run; further bytes are kept.
+   Refused: 11 (run too short: 4554), 1 (length), blocks ascending 2 (check) before 3 (number), then 4, 5. */
+parvusek_refusal_t parvusek_read_basis(const uint8_t *file, size_t file_len, uint8_t *run, size_t run_len);
+
+/* Writes the file of a data run into the first 4,608 bytes of file; further bytes are kept.
+   Refused: 11 (file too short: 4608), 1, 4, 5. */
+parvusek_refusal_t parvusek_write_basis(const uint8_t *run, size_t run_len, uint8_t *file, size_t file_len);
+
+/* Writes the short form into the first 4,554 bytes of out: the data run with this one long-term rate, in units, run
+   off over the ages 91 to 119, every period 20 and every proportion 50; further bytes are kept.
+   Refused: 11 (out too short: 4554), 1, 4, 5, then 5 at offset 1078 for a rate beyond 200,000,000 either way. */
+parvusek_refusal_t parvusek_short_form(const uint8_t *run, size_t run_len, int32_t long_term_rate, uint8_t *out, size_t out_len);
+
+/* ---- single cells. Refused: 1, 4, 5 by the data run, 6 (age outside 20 to 150), 7 (year after 2130, or before F for
+   an improvement and before B for the others), 9 (an improvement needed is beyond 500,000,000 either way), and for a
+   factor and a rate 10 (a factor needed is above 4 U). */
+
+/* The rate of improvement; below zero where mortality worsens. */
+parvusek_signed_answer_t parvusek_improvement(const uint8_t *run, size_t run_len, uint32_t age, uint32_t year);
+/* The reduction factor, U in year B. */
+parvusek_answer_t parvusek_factor(const uint8_t *run, size_t run_len, uint32_t age, uint32_t year);
+/* The mortality rate: the base rate times the factor, at most U. */
+parvusek_answer_t parvusek_rate(const uint8_t *run, size_t run_len, uint32_t age, uint32_t year);
+
+/* ---- values of a life, each period and cohort. Refused: 1, 4, 5, 6, 8 (age + deferment above 150), 7 (year after
+   2130 or before B; year + deferment may be after 2130), then 9 and 10 in the order of the work. */
+
+/* Of U lives at this age in this year, those left after so many years; survivorship names its number of years as the
+   deferment. */
+parvusek_answer_t parvusek_period_survivorship(const uint8_t *run, size_t run_len, uint32_t age, uint32_t deferment, uint32_t year);
+parvusek_answer_t parvusek_cohort_survivorship(const uint8_t *run, size_t run_len, uint32_t age, uint32_t deferment, uint32_t year);
+/* The expectation of life at age + deferment in year + deferment, in years. */
+parvusek_answer_t parvusek_period_expectation(const uint8_t *run, size_t run_len, uint32_t age, uint32_t deferment, uint32_t year);
+parvusek_answer_t parvusek_cohort_expectation(const uint8_t *run, size_t run_len, uint32_t age, uint32_t deferment, uint32_t year);
+/* The value at this age in this year of 1 a year in advance for life, from the deferment's end on. */
+parvusek_answer_t parvusek_period_annuity(const uint8_t *run, size_t run_len, uint32_t age, uint32_t deferment, uint32_t year);
+parvusek_answer_t parvusek_cohort_annuity(const uint8_t *run, size_t run_len, uint32_t age, uint32_t deferment, uint32_t year);
+
+/* ---- sets of model points */
+
+/* Six points by value. The set is refused by the data run alone (1, 4, 5), its points then being 0 throughout; a point
+   is refused by itself (6, 8, 7, then 9 and 10 in the order of its four results). */
+parvusek_small_set_t parvusek_small_set(const uint8_t *run, size_t run_len, parvusek_questions_t questions);
+/* The first 119 records, in place: each gets its four results, or its refusal with all four 0, whatever stood there;
+   questions and further records are kept. Refused: 11 (a list of fewer than 119: 119), 1, 4, 5; then no record
+   changes. */
+parvusek_refusal_t parvusek_grid(const uint8_t *run, size_t run_len, parvusek_point_t *points, size_t count);
+
+/* ---- one life, year by year; the host keeps age, year and survivors between calls */
+
+/* U lives at this age in this year. Refused as a value with deferment 0; then age, year and survivors are 0. */
+parvusek_lifeline_t parvusek_lifeline_start(const uint8_t *run, size_t run_len, uint32_t age, uint32_t year);
+/* One year of cohort survivorship, or ended at age 150. Refused: 1, 4, 5 by the data run, 6, 7 (year before B, or
+   year - age after 2110; a year after 2130 may stand), 5 at 4554 for survivors above U, then 9 and 10. A step that
+   ends or is refused hands back the age, year and survivors that it was given. */
+parvusek_lifeline_t parvusek_lifeline_step(const uint8_t *run, size_t run_len, uint32_t age, uint32_t year, uint64_t survivors);
+
+#ifdef __cplusplus
+}
+#endif
+#endif
