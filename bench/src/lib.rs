@@ -5,4 +5,5 @@ pub mod engine;
 pub mod ffi;
 pub mod guard;
 pub mod random;
+pub mod stack;
 pub mod timing;
