@@ -13,11 +13,11 @@ use Rattle.basis.specs.declared.Check.{Check}
 use Rattle.basis.specs.declared.Check.the-variants.{Passed, Refused}
 use Rattle.basis.specs.Basis.{basisOf}
 use Rattle.basis.specs.Run.{runCheck}
-use Rattle.basis.specs.Outcome.{Outcome, value, refused}
+use Rattle.basis.specs.Outcome.{Outcome, value, refused, firstOf}
 use Rattle.basis.proofs.Outcome.{both-passed, checked-value}
 use Rattle.projection.specs.Enquiry.{ageCheck, yearCheck, enquiryCheck}
 use Rattle.valuation.specs.declared.Kind.the-variants.{Cohort}
-use Rattle.valuation.specs.Enquiry.{defermentCheck, defermentEnquiryCheck, valuationCheck, survivorshipEnquiry}
+use Rattle.valuation.specs.Enquiry.{defermentCheck, valuationCheck, survivorshipEnquiry}
 use Rattle.valuation.specs.Valuation.{survivorsAfterYear, survivorsOf}
 use Rattle.valuation.proofs.Enquiries.{valuation-passed}
 use Rattle.valuation.proofs.Survivors.{survivors-first, survivors-next, survivors-refused, survivors-natural, survivors-small}
@@ -74,19 +74,19 @@ module _ (run : List ℕ) (age year : ℕ) where
   start-passes : (n : ℕ) → valuationCheck run age n year ≡ Passed → valuationCheck run age 0 year ≡ Passed
   unfolding defermentCheck
   start-passes n h =
-      let p = both-passed (defermentEnquiryCheck run age n) (yearCheck (basisOf run .base) year) h in
-      let q = both-passed (enquiryCheck run age) (defermentCheck age n) (p .0) in
+      let p = both-passed (enquiryCheck run age) (firstOf (defermentCheck age n) (yearCheck (basisOf run .base) year)) h in
+      let q = both-passed (defermentCheck age n) (yearCheck (basisOf run .base) year) (p .1) in
       let v = valuation-passed run age n year h in
-      rw (q .0, p .1, le-leb (age + 0) 150 (omega (arith, v .2))) refl
+      rw (p .0, q .1, le-leb (age + 0) 150 (omega (arith, v .2))) refl
 
   step-passes : (n k s : ℕ) → valuationCheck run age n year ≡ Passed → k < n → s ≤ U → stepCheck run (age + k) (year + k) s ≡ Passed
   unfolding ageCheck standingYearCheck survivorsCheck
   step-passes n k s h l u =
-      let p = both-passed (defermentEnquiryCheck run age n) (yearCheck (basisOf run .base) year) h in
-      let q = both-passed (enquiryCheck run age) (defermentCheck age n) (p .0) in
+      let p = both-passed (enquiryCheck run age) (firstOf (defermentCheck age n) (yearCheck (basisOf run .base) year)) h in
+      let q = both-passed (defermentCheck age n) (yearCheck (basisOf run .base) year) (p .1) in
       let v = valuation-passed run age n year h in
       rw (
-        both-passed (runCheck run) (ageCheck age) (q .0) .0,
+        both-passed (runCheck run) (ageCheck age) (p .0) .0,
         le-leb 20 (age + k) (omega (arith, v .1)),
         le-leb (age + k) 150 (omega (arith, v .2)),
         le-leb (basisOf run .base) (year + k) (omega (arith, v .3)),
