@@ -13,11 +13,11 @@ impl Random {
     /// A stream of its own for the case `index` of a run with this seed.
     pub fn case(seed: u64, index: u64) -> Self {
         let mut random = Random::new(seed ^ index.wrapping_mul(0xd1b5_4a32_d192_ed03));
-        random.next();
+        random.word();
         random
     }
 
-    pub fn next(&mut self) -> u64 {
+    pub fn word(&mut self) -> u64 {
         self.state = self.state.wrapping_add(0x9e37_79b9_7f4a_7c15);
         let mut mixed = self.state;
         mixed = (mixed ^ (mixed >> 30)).wrapping_mul(0xbf58_476d_1ce4_e5b9);
@@ -27,7 +27,7 @@ impl Random {
 
     /// From 0 to `bound` less one.
     pub fn below(&mut self, bound: u64) -> u64 {
-        ((u128::from(self.next()) * u128::from(bound)) >> 64) as u64
+        ((u128::from(self.word()) * u128::from(bound)) >> 64) as u64
     }
 
     /// From `low` to `high`, both possible.

@@ -18,7 +18,7 @@ pub fn damage(random: &mut Random, run: &mut Vec<u8>) {
                 run[place] ^= 1 << random.below(8);
             }
         }
-        6 => run.iter_mut().for_each(|byte| *byte = random.next() as u8),
+        6 => run.iter_mut().for_each(|byte| *byte = random.word() as u8),
         _ => length(random, run),
     }
 }

@@ -41,7 +41,7 @@ pub fn damage(random: &mut Random, file: &mut Vec<u8>) {
         }),
         2 => resealed(random, file, |random, block| {
             let place = random.below(block.len() as u64) as usize;
-            block[place] = random.next() as u8;
+            block[place] = random.word() as u8;
         }),
         3 => swap_blocks(random, file),
         4 => {

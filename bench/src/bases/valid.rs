@@ -96,7 +96,9 @@ pub fn brink(random: &mut Random) -> Draft {
     components(random, &mut draft, |random| {
         let nudge = random.between(-1, 1) as i32 * i32::from(random.one_in(4));
         let near = (part + nudge).clamp(-200_000_000, 200_000_000);
-        ([near, part], random.between(1, 50) as u8, random.between(0, 150) as u8)
+        // now and then far from its long-term rate, so that it overshoots where much remains at half way
+        let initial = if random.one_in(64) { -near } else { near };
+        ([initial, part], random.between(1, 50) as u8, random.between(0, 150) as u8)
     });
     draft
 }

@@ -149,8 +149,10 @@ impl Calls {
         let questions = inputs::questions(random, run);
         let proved = ffi::small_set(run, questions);
         let rust = SmallSet::from(sets::small_set(run, &questions.points.map(sets::Question::from)));
-        for point in &rust.points {
-            self.tally.outcome(Function::SmallSet, point.refusal.number);
+        if rust.refusal.number == 0 {
+            for point in &rust.points {
+                self.tally.outcome(Function::SmallSet, point.refusal.number);
+            }
         }
         self.same(Function::SmallSet, rust.refusal.number, &|| format!("{questions:?}"), &rust, &proved)
     }

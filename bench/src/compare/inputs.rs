@@ -36,9 +36,9 @@ fn accepted(random: &mut Random) -> Draft {
 
 pub fn any_number(random: &mut Random) -> u32 {
     match random.below(3) {
-        0 => random.next() as u32,
+        0 => random.word() as u32,
         1 => random.pick(&[0, 1, u32::MAX, u32::MAX - 149, 1 << 31, i32::MAX as u32, 65_536]),
-        _ => (random.next() as u32) >> random.below(32),
+        _ => (random.word() as u32) >> random.below(32),
     }
 }
 
@@ -86,14 +86,14 @@ pub fn questions(random: &mut Random, run: &[u8]) -> Questions {
 /// A record with a question, and with anything in the places of its answer.
 pub fn record(random: &mut Random, run: &[u8]) -> Record {
     let Question { age, deferment, year } = question(random, run);
-    let results: Results = std::array::from_fn(|_| random.next());
-    let (refusal, first, second) = (random.next() as u32, random.next(), random.next());
+    let results: Results = std::array::from_fn(|_| random.word());
+    let (refusal, first, second) = (random.word() as u32, random.word(), random.word());
     Record { age, deferment, year, refusal, results, first, second }
 }
 
 pub fn survivors(random: &mut Random) -> u64 {
     match random.below(8) {
-        0 => random.next(),
+        0 => random.word(),
         1 => random.pick(&[0, 1, UNIT - 1, UNIT, UNIT + 1, u64::MAX, 1 << 32, (1 << 63) + 1]),
         _ => random.below(UNIT + 1),
     }
@@ -101,7 +101,7 @@ pub fn survivors(random: &mut Random) -> u64 {
 
 pub fn long_term_rate(random: &mut Random) -> i32 {
     match random.below(8) {
-        0 => random.next() as i32,
+        0 => random.word() as i32,
         1 => random.pick(&[-200_000_001, -200_000_000, 200_000_000, 200_000_001, i32::MIN, i32::MAX, 0, -1]),
         _ => random.between(-200_000_000, 200_000_000) as i32,
     }
@@ -124,7 +124,7 @@ pub fn records_count(random: &mut Random) -> usize {
 /// Fills bytes that a call may leave or overwrite.
 pub fn fill(random: &mut Random, bytes: &mut [u8]) {
     for part in bytes.chunks_mut(8) {
-        let drawn = random.next().to_le_bytes();
+        let drawn = random.word().to_le_bytes();
         part.copy_from_slice(&drawn[..part.len()]);
     }
 }

@@ -2,6 +2,8 @@
 use super::calls::{Calls, edge};
 use super::inputs;
 use super::report::{Difference, Tally};
+use crate::engine::enquiries;
+use crate::engine::layout::RUN_LENGTH;
 use crate::random::Random;
 
 /// A difference, with what is needed to see it again.
@@ -34,7 +36,7 @@ pub fn compare_base(calls: &mut Calls, seed: u64, base: u64) -> Result<(), Box<F
 
 fn ask(calls: &mut Calls, random: &mut Random) -> Result<(), Difference> {
     calls.check_basis()?;
-    let rounds = if calls.run.bytes().len() == crate::engine::layout::RUN_LENGTH { 10 } else { 2 };
+    let rounds = if calls.run.bytes().len() == RUN_LENGTH { 10 } else { 2 };
     for round in 0..rounds {
         calls.lifeline_start(random)?;
         if round % 4 == 0 {
@@ -49,10 +51,12 @@ fn ask(calls: &mut Calls, random: &mut Random) -> Result<(), Difference> {
             calls.lifeline_step(random)?;
         }
     }
-    if random.one_in(8) {
+    // the sets cost the most, unless the run is refused
+    let refused = enquiries::check_basis(calls.run.bytes()).is_err();
+    if refused || random.one_in(8) {
         calls.small_set(random)?;
     }
-    if random.one_in(64) {
+    if refused || random.one_in(64) {
         calls.grid(random)?;
     }
     Ok(())
