@@ -103,6 +103,23 @@ pub fn brink(random: &mut Random) -> Draft {
     draft
 }
 
+/// Factors that double every three years, to exactly 4 U after six, or to a little beside it.
+pub fn fourfold(random: &mut Random) -> Draft {
+    let foundation = random.between(1992, 2080) as u16;
+    let mut draft = Draft::plain(foundation, foundation);
+    draft.set_addition(random.pick(&[0, 0, -1, 1]));
+    for index in 0..AGES {
+        draft.set_base_rate(index, random.between(0, 1_000_000_000) as i32);
+        draft.set_component(Component::Age, index, [-200_000_000; 2], 1, 50);
+    }
+    // 1.25, 1.25 and 1.28, in whichever order an age meets the birth years
+    for index in 0..BIRTH_YEARS {
+        let rate = if index % 3 == 0 { -80_000_000 } else { -50_000_000 };
+        draft.set_component(Component::BirthYear, index, [rate; 2], 1, 50);
+    }
+    draft
+}
+
 fn components(random: &mut Random, draft: &mut Draft, mut terms: impl FnMut(&mut Random) -> ([i32; 2], u8, u8)) {
     for component in [Component::Age, Component::BirthYear] {
         for index in 0..component.entries() {

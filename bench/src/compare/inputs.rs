@@ -21,6 +21,7 @@ pub fn run(random: &mut Random) -> (usize, Vec<u8>) {
         }
         1 => (1, valid::anywhere(random).run),
         2 => (2, valid::extreme(random).run),
+        3 if random.one_in(4) => (3, valid::fourfold(random).run),
         3 => (3, valid::brink(random).run),
         _ => (0, valid::modest(random).run),
     }
