@@ -1,0 +1,130 @@
+//! Accepted data runs at random: of modest size, anywhere in the limits, and at the limits.
+use super::draft::{Component, Draft};
+use crate::engine::layout::*;
+use crate::random::Random;
+
+/// A year pair in the limits, the base year often the foundation year or near it.
+fn years(random: &mut Random) -> (u16, u16) {
+    let foundation = match random.below(4) {
+        0 => random.pick(&[1992, 1993, 2079, 2080]),
+        _ => random.between(1992, 2080),
+    };
+    let base = match random.below(4) {
+        0 => foundation,
+        1 => random.between(foundation, (foundation + 10).min(2130)),
+        2 => random.pick(&[2129, 2130, foundation + 1]).max(foundation),
+        _ => random.between(foundation, 2130),
+    };
+    (foundation as u16, base as u16)
+}
+
+/// A number of either sign and of any order of magnitude up to `limit`.
+fn of_any_size(random: &mut Random, limit: i64) -> i32 {
+    let size = (limit >> random.below(29)).max(1);
+    random.between(-size, size) as i32
+}
+
+/// Fields that a real basis could have, so that most enquiries are answered.
+pub fn modest(random: &mut Random) -> Draft {
+    let (foundation, base) = years(random);
+    let mut draft = Draft::plain(foundation, base);
+    let spread = random.pick(&[1, 1_000, 1_000_000, 30_000_000, 60_000_000]);
+    draft.set_addition(random.between(-spread, spread) as i32);
+    draft.set_discount_rate(random.pick(&[0, 1, 30_000_000, 200_000_000]).min(random.between(0, 200_000_000) as i32));
+    let growth = random.between(1_000, 1_150) as f64 / 1_000.0;
+    let mut rate = random.between(0, 100_000_000) as f64;
+    for index in 0..AGES {
+        draft.set_base_rate(index, rate.min(1e9) as i32);
+        rate *= growth;
+    }
+    components(random, &mut draft, |random| {
+        let rates = [random.between(-spread, spread) as i32, random.between(-spread, spread) as i32];
+        (rates, random.between(1, 50) as u8, random.between(0, 100) as u8)
+    });
+    draft
+}
+
+/// Every field anywhere in its limits, of any order of magnitude.
+pub fn anywhere(random: &mut Random) -> Draft {
+    let (foundation, base) = years(random);
+    let mut draft = Draft::plain(foundation, base);
+    draft.set_addition(of_any_size(random, 100_000_000));
+    draft.set_discount_rate(of_any_size(random, 200_000_000).abs());
+    for index in 0..AGES {
+        let rate = of_any_size(random, 1_000_000_000).abs();
+        draft.set_base_rate(index, rate);
+    }
+    let limit = 200_000_000 >> random.below(8);
+    components(random, &mut draft, |random| {
+        let rates = [of_any_size(random, limit), of_any_size(random, limit)];
+        (rates, random.between(1, 50) as u8, random.between(0, 150) as u8)
+    });
+    draft
+}
+
+/// Every field at or next to a limit, or 0.
+pub fn extreme(random: &mut Random) -> Draft {
+    const RATES: [i32; 7] = [-200_000_000, -199_999_999, -1, 0, 1, 199_999_999, 200_000_000];
+    let (foundation, base) = years(random);
+    let mut draft = Draft::plain(foundation, base);
+    draft.set_addition(random.pick(&[-100_000_000, -99_999_999, -1, 0, 1, 99_999_999, 100_000_000]));
+    draft.set_discount_rate(random.pick(&[0, 1, 199_999_999, 200_000_000]));
+    for index in 0..AGES {
+        draft.set_base_rate(index, random.pick(&[0, 1, 499_999_999, 500_000_000, 999_999_999, 1_000_000_000]));
+    }
+    // the same pair for many entries, so that whole stretches stay within the limits of an improvement
+    let common = [random.pick(&RATES), random.pick(&RATES)];
+    let mixed = random.one_in(2);
+    components(random, &mut draft, |random| {
+        let rates = if mixed && random.one_in(8) { [random.pick(&RATES), random.pick(&RATES)] } else { common };
+        (rates, random.pick(&[1, 2, 3, 49, 50]), random.pick(&[0, 1, 25, 50, 100, 149, 150]))
+    });
+    draft
+}
+
+/// Improvements of exactly or nearly ±500,000,000 and factors of nearly 4 U.
+pub fn brink(random: &mut Random) -> Draft {
+    let (foundation, base) = years(random);
+    let mut draft = Draft::plain(foundation, base);
+    let sign = random.pick(&[-1, 1]);
+    let part = random.pick(&[200_000_000, 199_999_999, 100_000_000, 29_000_000, 11_000_000]) * sign;
+    draft.set_addition(random.pick(&[100_000_000, 99_999_999, 0]) * sign);
+    draft.set_discount_rate(random.between(0, 200_000_000) as i32);
+    for index in 0..AGES {
+        draft.set_base_rate(index, random.pick(&[0, 1, 250_000_000, 1_000_000_000]));
+    }
+    components(random, &mut draft, |random| {
+        let nudge = random.between(-1, 1) as i32 * i32::from(random.one_in(4));
+        let near = (part + nudge).clamp(-200_000_000, 200_000_000);
+        // now and then far from its long-term rate, so that it overshoots where much remains at half way
+        let initial = if random.one_in(64) { -near } else { near };
+        ([initial, part], random.between(1, 50) as u8, random.between(0, 150) as u8)
+    });
+    draft
+}
+
+/// Factors that double every three years, to exactly 4 U after six, or to a little beside it.
+pub fn fourfold(random: &mut Random) -> Draft {
+    let foundation = random.between(1992, 2080) as u16;
+    let mut draft = Draft::plain(foundation, foundation);
+    draft.set_addition(random.pick(&[0, 0, -1, 1]));
+    for index in 0..AGES {
+        draft.set_base_rate(index, random.between(0, 1_000_000_000) as i32);
+        draft.set_component(Component::Age, index, [-200_000_000; 2], 1, 50);
+    }
+    // 1.25, 1.25 and 1.28, in whichever order an age meets the birth years
+    for index in 0..BIRTH_YEARS {
+        let rate = if index % 3 == 0 { -80_000_000 } else { -50_000_000 };
+        draft.set_component(Component::BirthYear, index, [rate; 2], 1, 50);
+    }
+    draft
+}
+
+fn components(random: &mut Random, draft: &mut Draft, mut terms: impl FnMut(&mut Random) -> ([i32; 2], u8, u8)) {
+    for component in [Component::Age, Component::BirthYear] {
+        for index in 0..component.entries() {
+            let (rates, period, proportion) = terms(random);
+            draft.set_component(component, index, rates, period, proportion);
+        }
+    }
+}

@@ -1,0 +1,93 @@
+//! How cost grows with the years since the base, the ages up to 150 and the records of the grid that are answered.
+//! Prints lines of CSV: what grows, how much of it, nanoseconds of a call in the archive and in the Rust engine.
+//! growth [SWEEPS]
+use parvusek_bench::bases::Draft;
+use parvusek_bench::engine::enquiries;
+use parvusek_bench::engine::sets::{self, GRID, Record};
+use parvusek_bench::engine::valuation::Kind;
+use parvusek_bench::ffi::{self, Question};
+use parvusek_bench::timing::race;
+use std::env;
+use std::hint::black_box;
+use std::time::Duration;
+
+const MEASURE: Duration = Duration::from_micros(200);
+const ROUNDS: usize = 9;
+const BASE_YEAR: u32 = 2006;
+const COHORT_ANNUITY: usize = 5;
+
+/// An amount of what grows, the work that it makes for both engines, and the least medians of the sweeps so far.
+struct Point<'a> {
+    what: &'static str,
+    amount: u32,
+    proved: Box<dyn FnMut() + 'a>,
+    rust: Box<dyn FnMut() + 'a>,
+    least: (f64, f64),
+}
+
+impl<'a> Point<'a> {
+    fn new(what: &'static str, amount: u32, proved: impl FnMut() + 'a, rust: impl FnMut() + 'a) -> Self {
+        Point { what, amount, proved: Box::new(proved), rust: Box::new(rust), least: (f64::MAX, f64::MAX) }
+    }
+
+    fn measure(&mut self) {
+        let timing = race(ROUNDS, MEASURE, &mut *self.proved, &mut *self.rust);
+        self.least = (self.least.0.min(timing.proved), self.least.1.min(timing.rust));
+    }
+}
+
+fn done<T>(answer: T) {
+    black_box(answer);
+}
+
+fn factor(run: &[u8], years: u32) -> Point<'_> {
+    let year = BASE_YEAR + years;
+    Point::new(
+        "years since the base (factor)",
+        years,
+        move || done(ffi::factor(black_box(run), 65, year)),
+        move || done(enquiries::factor(black_box(run), 65, year)),
+    )
+}
+
+fn annuity(run: &[u8], ages: u32) -> Point<'_> {
+    let age = 150 - ages;
+    let question = Question { age, deferment: 0, year: BASE_YEAR };
+    Point::new(
+        "ages to 150 (cohort annuity)",
+        ages,
+        move || done(ffi::enquiry(COHORT_ANNUITY, black_box(run), question)),
+        move || done(enquiries::annuity(black_box(run), Kind::Cohort, age, 0, BASE_YEAR)),
+    )
+}
+
+/// The grid has 119 records always; those not counted here ask about age 0 and are refused at once.
+fn grid(run: &[u8], answered: usize) -> Point<'_> {
+    let record = |index| {
+        let age = if index < answered { 65 } else { 0 };
+        Record { age, deferment: 0, year: BASE_YEAR, refusal: 0, results: [0; 4], first: 0, second: 0 }
+    };
+    let mut lent: Vec<Record> = (0..GRID).map(record).collect();
+    let mut own = lent.clone();
+    Point::new(
+        "records answered at age 65 (grid)",
+        answered as u32,
+        move || done(ffi::grid(black_box(run), black_box(&mut lent))),
+        move || done(sets::grid(black_box(run), black_box(&mut own))),
+    )
+}
+
+fn main() {
+    let sweeps = env::args().nth(1).and_then(|word| word.parse().ok()).unwrap_or(9);
+    let run = Draft::benchmark().run;
+    let mut points: Vec<Point> = (0..=124).step_by(4).map(|years| factor(&run, years)).collect();
+    points.extend((0..=130).step_by(5).map(|ages| annuity(&run, ages)));
+    points.extend((0..=GRID).step_by(17).map(|answered| grid(&run, answered)));
+    for _ in 0..sweeps {
+        points.iter_mut().for_each(Point::measure);
+    }
+    println!("what,amount,proved,rust");
+    for Point { what, amount, least: (proved, rust), .. } in points {
+        println!("{what},{amount},{proved:.0},{rust:.0}");
+    }
+}

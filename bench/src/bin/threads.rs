@@ -1,0 +1,58 @@
+//! Two threads ask the archive on the same lent run, in different orders at the same time, and get the answers that one
+//! thread got before: there is no state to share.
+use parvusek_bench::bases::Draft;
+use parvusek_bench::compare::inputs;
+use parvusek_bench::ffi::{self, Answer, Lifeline, Question, Refusal, SignedAnswer, SmallSet};
+use parvusek_bench::random::Random;
+use std::process::ExitCode;
+use std::sync::Barrier;
+use std::thread;
+
+#[derive(Debug, PartialEq)]
+struct Answers {
+    check: Refusal,
+    improvement: SignedAnswer,
+    cells: [Answer; 2],
+    enquiries: [Answer; 6],
+    lifeline: [Lifeline; 2],
+    set: Option<SmallSet>,
+}
+
+/// Everything about one question; the small set for one in eight, as it costs the most.
+fn ask(run: &[u8], index: usize, question: Question) -> Answers {
+    let Question { age, year, .. } = question;
+    let set = index.is_multiple_of(8).then(|| ffi::small_set(run, ffi::Questions { points: [question; 6] }));
+    Answers {
+        check: ffi::check_basis(run),
+        improvement: ffi::improvement(run, age, year),
+        cells: [ffi::factor(run, age, year), ffi::rate(run, age, year)],
+        enquiries: std::array::from_fn(|which| ffi::enquiry(which, run, question)),
+        lifeline: [ffi::lifeline_start(run, age, year), ffi::lifeline_step(run, age, year, 987_654_321)],
+        set,
+    }
+}
+
+fn main() -> ExitCode {
+    let run = Draft::benchmark().run;
+    let mut random = Random::new(1);
+    let questions: Vec<Question> = (0..400).map(|_| inputs::question(&mut random, &run)).collect();
+    let alone: Vec<Answers> = questions.iter().enumerate().map(|(index, asked)| ask(&run, index, *asked)).collect();
+    let together = Barrier::new(2);
+    let compare = |backwards: bool| {
+        together.wait();
+        (0..questions.len()).find(|&index| {
+            let index = if backwards { questions.len() - 1 - index } else { index };
+            ask(&run, index, questions[index]) != alone[index]
+        })
+    };
+    let found: Vec<Option<usize>> = thread::scope(|scope| {
+        let threads = [scope.spawn(|| compare(false)), scope.spawn(|| compare(true))];
+        threads.into_iter().map(|thread| thread.join().expect("a thread panicked")).collect()
+    });
+    if found.iter().any(Option::is_some) {
+        println!("threads: FAILED: two threads on one run got other answers than one thread, at {found:?}");
+        return ExitCode::FAILURE;
+    }
+    println!("threads: 2 threads on one run got the answers of one, {} questions each", questions.len());
+    ExitCode::SUCCESS
+}

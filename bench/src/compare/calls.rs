@@ -1,0 +1,212 @@
+//! One call of each function to both engines, compared in every field and in every byte of the lent output.
+use super::inputs;
+use super::report::{Difference, FUNCTIONS, Function, Tally};
+use crate::bases::{damaged, files};
+use crate::engine::layout::{FILE_LENGTH, RUN_LENGTH};
+use crate::engine::lifeline::{self, Stand};
+use crate::engine::sets::{self, GRID, Record};
+use crate::engine::valuation::Kind;
+use crate::engine::{Refusal as EngineRefusal, enquiries, file, short_form};
+use crate::ffi::{self, Answer, Lifeline, Refusal, SignedAnswer, SmallSet};
+use crate::guard::{Edge, Guarded};
+use crate::random::Random;
+use std::fmt::Debug;
+
+/// The buffers that are lent, and the count of what was seen.
+pub struct Calls {
+    pub run: Guarded,
+    file: Guarded,
+    output: Guarded,
+    records: Guarded,
+    pub tally: Tally,
+}
+
+type Compared = Result<(), Difference>;
+
+impl Default for Calls {
+    fn default() -> Self {
+        let room = Guarded::new;
+        Calls { run: room(2), file: room(2), output: room(3), records: room(2), tally: Tally::default() }
+    }
+}
+
+impl Calls {
+    fn same<T: PartialEq + Debug>(
+        &mut self,
+        function: Function,
+        refusal: u32,
+        asked: &dyn Fn() -> String,
+        rust: &T,
+        proved: &T,
+    ) -> Compared {
+        self.tally.call();
+        self.tally.outcome(function, refusal);
+        if rust == proved {
+            return Ok(());
+        }
+        Err(Difference { function, asked: asked(), rust: format!("{rust:?}"), proved: format!("{proved:?}") })
+    }
+
+    pub fn check_basis(&mut self) -> Compared {
+        let proved = ffi::check_basis(self.run.bytes());
+        let rust = Refusal::from(enquiries::check_basis(self.run.bytes()));
+        self.same(Function::CheckBasis, rust.number, &|| "the run".into(), &rust, &proved)
+    }
+
+    /// Reads the run's file, damaged now and then, or the file of a damaged run.
+    pub fn read_basis(&mut self, random: &mut Random) -> Compared {
+        let mut run = self.run.bytes().to_vec();
+        run.resize(RUN_LENGTH, 0);
+        if random.one_in(4) {
+            damaged::damage(random, &mut run);
+            run.resize(RUN_LENGTH, 0);
+        }
+        let mut file = files::file_of(&run);
+        if random.one_in(2) {
+            files::damage(random, &mut file);
+        }
+        self.file.lend(&file, edge(random));
+        self.output(random, Function::ReadBasis, RUN_LENGTH, "a file of the run".into(), |calls, out| {
+            (ffi::read_basis(calls.file.bytes(), out.proved), file::read_basis(&file, out.rust))
+        })
+    }
+
+    pub fn write_basis(&mut self, random: &mut Random) -> Compared {
+        self.output(random, Function::WriteBasis, FILE_LENGTH, "the run".into(), |calls, out| {
+            let run = calls.run.bytes();
+            (ffi::write_basis(run, out.proved), file::write_basis(run, out.rust))
+        })
+    }
+
+    pub fn short_form(&mut self, random: &mut Random) -> Compared {
+        let rate = inputs::long_term_rate(random);
+        self.output(random, Function::ShortForm, RUN_LENGTH, format!("long-term rate {rate}"), |calls, out| {
+            let run = calls.run.bytes();
+            (ffi::short_form(run, rate, out.proved), short_form::short_form(run, rate, out.rust))
+        })
+    }
+
+    /// A call with a lent output: prefilled alike for both, it must end alike, and unchanged after a refusal.
+    fn output(
+        &mut self,
+        random: &mut Random,
+        function: Function,
+        needed: usize,
+        asked: String,
+        call: impl FnOnce(&Self, Outputs) -> (Refusal, Result<(), EngineRefusal>),
+    ) -> Compared {
+        let mut output = std::mem::replace(&mut self.output, Guarded::new(0));
+        let length = inputs::output_length(random, needed);
+        let lent = output.place(length, edge(random));
+        inputs::fill(random, lent);
+        let before = lent.to_vec();
+        let mut rust_output = before.clone();
+        let (proved, rust) = call(self, Outputs { proved: lent, rust: &mut rust_output });
+        let rust = Refusal::from(rust);
+        let asked = move || format!("{asked}, output of {length} bytes");
+        let kept = proved.number == 0 || output.bytes() == before;
+        let alike = output.bytes() == rust_output;
+        self.output = output;
+        self.same(function, rust.number, &asked, &(rust, true, true), &(proved, kept, alike))
+    }
+
+    pub fn improvement(&mut self, random: &mut Random) -> Compared {
+        let (age, year) = (inputs::age(random), inputs::year(random, self.run.bytes()));
+        let proved = ffi::improvement(self.run.bytes(), age, year);
+        let rust = SignedAnswer::from(enquiries::improvement(self.run.bytes(), age, year));
+        let asked = || format!("age {age} year {year}");
+        self.same(Function::Improvement, rust.refusal.number, &asked, &rust, &proved)
+    }
+
+    pub fn factor_or_rate(&mut self, random: &mut Random) -> Compared {
+        let (age, year) = (inputs::age(random), inputs::year(random, self.run.bytes()));
+        let run = self.run.bytes();
+        let (function, proved, rust) = if random.one_in(2) {
+            (Function::Factor, ffi::factor(run, age, year), enquiries::factor(run, age, year))
+        } else {
+            (Function::Rate, ffi::rate(run, age, year), enquiries::rate(run, age, year))
+        };
+        let rust = Answer::from(rust);
+        self.same(function, rust.refusal.number, &|| format!("age {age} year {year}"), &rust, &proved)
+    }
+
+    /// Survivorship, expectation or annuity, period or cohort.
+    pub fn enquiry(&mut self, random: &mut Random) -> Compared {
+        let which = random.below(6) as usize;
+        let run = self.run.bytes();
+        let question = inputs::question(random, run);
+        let ffi::Question { age, deferment, year } = question;
+        let kind = if which.is_multiple_of(2) { Kind::Period } else { Kind::Cohort };
+        let ask = [enquiries::survivorship, enquiries::expectation, enquiries::annuity][which / 2];
+        let proved = ffi::enquiry(which, run, question);
+        let rust = Answer::from(ask(run, kind, age, deferment, year));
+        let function = FUNCTIONS[Function::PeriodSurvivorship as usize + which];
+        self.same(function, rust.refusal.number, &|| format!("{question:?}"), &rust, &proved)
+    }
+
+    pub fn small_set(&mut self, random: &mut Random) -> Compared {
+        let run = self.run.bytes();
+        let questions = inputs::questions(random, run);
+        let proved = ffi::small_set(run, questions);
+        let rust = SmallSet::from(sets::small_set(run, &questions.points.map(sets::Question::from)));
+        if rust.refusal.number == 0 {
+            for point in &rust.points {
+                self.tally.outcome(Function::SmallSet, point.refusal.number);
+            }
+        }
+        self.same(Function::SmallSet, rust.refusal.number, &|| format!("{questions:?}"), &rust, &proved)
+    }
+
+    /// The grid, with the same promise about its records as an output has about its bytes.
+    pub fn grid(&mut self, random: &mut Random) -> Compared {
+        let run = self.run.bytes();
+        let count = inputs::records_count(random);
+        let mut rust_records: Vec<Record> = (0..count).map(|_| inputs::record(random, run)).collect();
+        self.records.place(count * size_of::<Record>(), edge(random));
+        // a record is whole numbers without gaps
+        let lent = unsafe { self.records.values_mut::<Record>() };
+        lent.copy_from_slice(&rust_records);
+        let before = rust_records.clone();
+        let proved = ffi::grid(run, lent);
+        let rust = Refusal::from(sets::grid(run, &mut rust_records));
+        let kept = proved.number == 0 || lent == before;
+        let differing = lent.iter().zip(&rust_records).position(|(found, wanted)| found != wanted);
+        let found = differing.map(|place| (place, before[place], rust_records[place], lent[place]));
+        if rust.number == 0 {
+            for record in &rust_records[..GRID] {
+                self.tally.outcome(Function::Grid, record.refusal);
+            }
+        }
+        let asked = || format!("{count} records; place, before, Rust, proved of the first that differs: {found:?}");
+        self.same(Function::Grid, rust.number, &asked, &(rust, true, true), &(proved, kept, found.is_none()))
+    }
+
+    pub fn lifeline_start(&mut self, random: &mut Random) -> Compared {
+        let (age, year) = (inputs::age(random), inputs::year(random, self.run.bytes()));
+        let proved = ffi::lifeline_start(self.run.bytes(), age, year);
+        let rust = Lifeline::of_start(lifeline::start(self.run.bytes(), age, year));
+        self.same(Function::LifelineStart, rust.refusal.number, &|| format!("age {age} year {year}"), &rust, &proved)
+    }
+
+    pub fn lifeline_step(&mut self, random: &mut Random) -> Compared {
+        let run = self.run.bytes();
+        let age = inputs::age(random);
+        let year = match random.below(4) {
+            0 => 2110u32.wrapping_add(age).wrapping_add(random.below(3) as u32).wrapping_sub(1),
+            _ => inputs::year(random, run),
+        };
+        let stand = Stand { age, year, survivors: inputs::survivors(random) };
+        let proved = ffi::lifeline_step(run, age, year, stand.survivors);
+        let rust = Lifeline::of_step(stand, lifeline::step(run, stand));
+        self.same(Function::LifelineStep, rust.refusal.number, &|| format!("{stand:?}"), &rust, &proved)
+    }
+}
+
+struct Outputs<'lent> {
+    proved: &'lent mut [u8],
+    rust: &'lent mut [u8],
+}
+
+pub fn edge(random: &mut Random) -> Edge {
+    random.pick(&[Edge::Front, Edge::Back])
+}

@@ -1,0 +1,52 @@
+//! What is lent at its oddest: nothing, at a pointer that cannot be read, and the proof that guards are noticed.
+use crate::engine::layout::RUN_LENGTH;
+use crate::ffi::raw::*;
+use crate::ffi::{Questions, Refusal};
+use crate::guard::{Edge, Guarded};
+use std::ptr;
+
+/// Reads beyond a lent buffer; the caller wants to see this end the program.
+pub fn trespass(front: bool) {
+    let mut lent = Guarded::new(2);
+    lent.place(RUN_LENGTH, if front { Edge::Front } else { Edge::Back });
+    lent.trespass(if front { Edge::Front } else { Edge::Back });
+}
+
+/// Length 0 with any pointer: null, not aligned, and directly at a guard.
+pub fn empty_lendings() -> Result<(), String> {
+    let mut guarded = Guarded::new(1);
+    let at_guard = guarded.place(0, Edge::Back).as_mut_ptr();
+    for pointer in [ptr::null_mut(), ptr::without_provenance_mut(1), at_guard] {
+        let refusals = refusals_of_nothing(pointer);
+        let wanted = |number, first| Refusal { number, first, second: 0 };
+        let mut expected = vec![wanted(1, 0), wanted(11, 4554), wanted(11, 4608), wanted(11, 4554), wanted(11, 119)];
+        expected.resize(refusals.len(), wanted(1, 0));
+        if refusals != expected {
+            return Err(format!("empty lendings at {pointer:?}: {refusals:?}"));
+        }
+    }
+    println!(
+        "compare: a length of 0 with a null pointer, one out of line and one that cannot be read is refused as 1 or 11"
+    );
+    Ok(())
+}
+
+fn refusals_of_nothing(nothing: *mut u8) -> Vec<Refusal> {
+    unsafe {
+        let mut refusals = vec![
+            parvusek_check_basis(nothing, 0),
+            parvusek_read_basis(nothing, 0, nothing, 0),
+            parvusek_write_basis(nothing, 0, nothing, 0),
+            parvusek_short_form(nothing, 0, 0, nothing, 0),
+            parvusek_grid(nothing, 0, nothing.cast(), 0),
+            parvusek_improvement(nothing, 0, 60, 2010).refusal,
+            parvusek_factor(nothing, 0, 60, 2010).refusal,
+            parvusek_rate(nothing, 0, 60, 2010).refusal,
+            parvusek_small_set(nothing, 0, Questions::default()).refusal,
+            parvusek_lifeline_start(nothing, 0, 60, 2010).refusal,
+            parvusek_lifeline_step(nothing, 0, 60, 2010, 0).refusal,
+        ];
+        refusals.extend(ENQUIRIES.map(|enquiry| enquiry(nothing, 0, 60, 0, 2010).refusal));
+        refusals
+    }
+}

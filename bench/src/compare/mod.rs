@@ -1,0 +1,6 @@
+//! The Rust engine against the archive on random inputs, every lent buffer between guard pages.
+pub mod calls;
+pub mod inputs;
+pub mod lent;
+pub mod report;
+pub mod worker;

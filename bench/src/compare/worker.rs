@@ -1,0 +1,63 @@
+//! A stretch of the comparison: bases by number, each from a stream of its own, and the calls on each.
+use super::calls::{Calls, edge};
+use super::inputs;
+use super::report::{Difference, Tally};
+use crate::engine::enquiries;
+use crate::engine::layout::RUN_LENGTH;
+use crate::random::Random;
+
+/// A difference, with what is needed to see it again.
+#[derive(Debug)]
+pub struct Found {
+    pub base: u64,
+    pub kind: &'static str,
+    pub run: Vec<u8>,
+    pub difference: Difference,
+}
+
+/// Compares on the bases `first`, `first + every`, .. until `enough` says so of the tally.
+pub fn compare(seed: u64, first: u64, every: u64, enough: impl Fn(&Tally) -> bool) -> Result<Tally, Box<Found>> {
+    let mut calls = Calls::default();
+    let mut base = first;
+    while !enough(&calls.tally) {
+        compare_base(&mut calls, seed, base)?;
+        base += every;
+    }
+    Ok(calls.tally)
+}
+
+/// All that is asked of one base.
+pub fn compare_base(calls: &mut Calls, seed: u64, base: u64) -> Result<(), Box<Found>> {
+    let mut random = Random::case(seed, base);
+    let (kind, run) = inputs::run(&mut random);
+    calls.run.lend(&run, edge(&mut random));
+    ask(calls, &mut random).map_err(|difference| Box::new(Found { base, kind: inputs::BASES[kind], run, difference }))
+}
+
+fn ask(calls: &mut Calls, random: &mut Random) -> Result<(), Difference> {
+    calls.check_basis()?;
+    let rounds = if calls.run.bytes().len() == RUN_LENGTH { 10 } else { 2 };
+    for round in 0..rounds {
+        calls.lifeline_start(random)?;
+        if round % 4 == 0 {
+            calls.read_basis(random)?;
+            calls.write_basis(random)?;
+            calls.short_form(random)?;
+        }
+        for _ in 0..3 {
+            calls.improvement(random)?;
+            calls.factor_or_rate(random)?;
+            calls.enquiry(random)?;
+            calls.lifeline_step(random)?;
+        }
+    }
+    // the sets cost the most, unless the run is refused
+    let refused = enquiries::check_basis(calls.run.bytes()).is_err();
+    if refused || random.one_in(8) {
+        calls.small_set(random)?;
+    }
+    if refused || random.one_in(64) {
+        calls.grid(random)?;
+    }
+    Ok(())
+}

@@ -1,0 +1,93 @@
+//! A data run that has passed its checks, and the checks: 1, then every 4, then 5 by offset.
+use super::layout::*;
+use super::refusal::Refusal;
+use std::ops::RangeInclusive;
+
+/// An accepted data run with its single fields; the tables are read where they are used.
+#[derive(Clone, Copy)]
+pub struct Basis<'run> {
+    pub run: &'run [u8; RUN_LENGTH],
+    pub foundation_year: u32,
+    pub base_year: u32,
+    pub constant_addition: i64,
+    pub discount_rate: u64,
+}
+
+impl<'run> Basis<'run> {
+    /// Checks a lent run afresh.
+    pub fn accept(run: &'run [u8]) -> Result<Self, Refusal> {
+        let run: &[u8; RUN_LENGTH] = run.try_into().map_err(|_| Refusal::length())?;
+        check_mark(run)?;
+        check_single_fields(run)?;
+        check_tables(run)?;
+        Ok(Basis {
+            run,
+            foundation_year: short(run, FOUNDATION_YEAR),
+            base_year: short(run, BASE_YEAR),
+            constant_addition: i64::from(signed(run, CONSTANT_ADDITION)),
+            discount_rate: signed(run, DISCOUNT_RATE) as u64,
+        })
+    }
+}
+
+fn check_mark(run: &[u8; RUN_LENGTH]) -> Result<(), Refusal> {
+    if let Some(place) = run.iter().zip(&MARK).position(|(found, wanted)| found != wanted) {
+        return Err(Refusal::mark(place));
+    }
+    match run[ZERO_BYTES..BASE_RATES].iter().position(|&byte| byte != 0) {
+        Some(place) => Err(Refusal::mark(ZERO_BYTES + place)),
+        None => Ok(()),
+    }
+}
+
+fn check_single_fields(run: &[u8; RUN_LENGTH]) -> Result<(), Refusal> {
+    let foundation_year = short(run, FOUNDATION_YEAR);
+    if !(FIRST_YEAR..=LAST_FOUNDATION_YEAR).contains(&foundation_year) {
+        return Err(Refusal::field(FOUNDATION_YEAR));
+    }
+    if !(foundation_year..=LAST_YEAR).contains(&short(run, BASE_YEAR)) {
+        return Err(Refusal::field(BASE_YEAR));
+    }
+    if !ADDITIONS.contains(&signed(run, CONSTANT_ADDITION)) {
+        return Err(Refusal::field(CONSTANT_ADDITION));
+    }
+    if !DISCOUNT_RATES.contains(&signed(run, DISCOUNT_RATE)) {
+        return Err(Refusal::field(DISCOUNT_RATE));
+    }
+    Ok(())
+}
+
+fn check_tables(run: &[u8; RUN_LENGTH]) -> Result<(), Refusal> {
+    check_numbers(run, BASE_RATES, AGES, &MORTALITY_RATES)?;
+    check_numbers(run, AGE_INITIAL, 2 * AGES, &IMPROVEMENT_RATES)?;
+    check_bytes(run, AGE_PERIODS, AGES, &PERIODS)?;
+    check_bytes(run, AGE_PROPORTIONS, AGES, &PROPORTIONS)?;
+    check_numbers(run, BIRTH_INITIAL, 2 * BIRTH_YEARS, &IMPROVEMENT_RATES)?;
+    check_bytes(run, BIRTH_PERIODS, BIRTH_YEARS, &PERIODS)?;
+    check_bytes(run, BIRTH_PROPORTIONS, BIRTH_YEARS, &PROPORTIONS)
+}
+
+fn check_numbers(
+    run: &[u8; RUN_LENGTH],
+    offset: usize,
+    count: usize,
+    limits: &RangeInclusive<i32>,
+) -> Result<(), Refusal> {
+    let mut entries = run[offset..offset + 4 * count].chunks_exact(4);
+    match entries.position(|entry| !limits.contains(&signed(entry, 0))) {
+        Some(place) => Err(Refusal::field(offset + 4 * place)),
+        None => Ok(()),
+    }
+}
+
+fn check_bytes(
+    run: &[u8; RUN_LENGTH],
+    offset: usize,
+    count: usize,
+    limits: &RangeInclusive<u8>,
+) -> Result<(), Refusal> {
+    match run[offset..offset + count].iter().position(|entry| !limits.contains(entry)) {
+        Some(place) => Err(Refusal::field(offset + place)),
+        None => Ok(()),
+    }
+}

@@ -1,0 +1,123 @@
+//! The figures of 01, and the wrong engines that it names.
+use super::basis::Basis;
+use super::enquiries::*;
+use super::layout::{AGES, BIRTH_YEARS, FIRST_BIRTH_YEAR};
+use super::projection::Component;
+use super::refusal::Refusal;
+use super::units::UNIT;
+use super::valuation::Kind;
+use crate::bases::Draft;
+use crate::bases::draft::Component::{Age, BirthYear};
+
+fn component(initial_rate: i64, long_term_rate: i64, period: i64, proportion: i64, years: i64) -> i64 {
+    Component { initial_rate, long_term_rate, convergence_period: period, proportion_remaining: proportion }
+        .after(years)
+}
+
+#[test]
+fn components() {
+    let at = |years| component(20_000_000, 10_000_000, 40, 50, years);
+    assert_eq!([0, 10, 20, 40, 41].map(at), [20_000_000, 18_437_500, 15_000_000, 10_000_000, 10_000_000]);
+    assert_eq!(component(20_000_000, 10_000_000, 40, 125, 10), 26_875_000);
+    assert_eq!(component(10_000_000, 0, 3, 50, 1), 7_407_407);
+    assert_eq!(component(1, 0, 2, 50, 1), 1);
+    assert_eq!(component(-1, 0, 2, 50, 1), 0);
+}
+
+/// Every age's two rates alike, birth years nothing.
+fn level(rate: i32) -> Draft {
+    let mut draft = Draft::plain(2006, 2006);
+    for index in 0..AGES {
+        draft.set_component(Age, index, [rate, rate], 20, 50);
+    }
+    draft
+}
+
+#[test]
+fn factors() {
+    let draft = level(10_000_000);
+    let at = |year| factor(&draft.run, 60, year).unwrap();
+    assert_eq!([2006, 2007, 2008, 2009].map(at), [UNIT, 990_000_000, 980_100_000, 970_299_000]);
+}
+
+#[test]
+fn a_factor_above_four() {
+    let mut draft = level(-200_000_000);
+    draft.set_addition(-100_000_000);
+    for index in 0..BIRTH_YEARS {
+        draft.set_component(BirthYear, index, [-200_000_000; 2], 20, 50);
+    }
+    let at = |year| factor(&draft.run, 60, year);
+    assert_eq!([2007, 2008, 2009].map(at), [1_500_000_000, 2_250_000_000, 3_375_000_000].map(Ok));
+    assert_eq!(at(2010), Err(Refusal::factor(60, 2010)));
+    assert_eq!(at(2130), Err(Refusal::factor(60, 2010)));
+}
+
+#[test]
+fn an_improvement_beyond_its_limits() {
+    let mut draft = Draft::plain(2006, 2006);
+    draft.set_component(Age, 40, [200_000_000, -200_000_000], 4, 150);
+    assert_eq!(component(200_000_000, -200_000_000, 4, 150, 1), 587_500_000);
+    assert_eq!(improvement(&draft.run, 60, 2006), Ok(200_000_000));
+    assert_eq!(improvement(&draft.run, 60, 2007), Err(Refusal::improvement(60, 2007)));
+    assert_eq!(factor(&draft.run, 60, 2008), Err(Refusal::improvement(60, 2007)));
+}
+
+#[test]
+fn an_annuity() {
+    let mut draft = Draft::plain(2006, 2006);
+    draft.set_base_rate(129, 100_000_000);
+    draft.set_discount_rate(200_000_000);
+    assert_eq!(annuity(&draft.run, Kind::Period, 149, 0, 2006), Ok(1_750_000_000));
+    assert_eq!(annuity(&draft.run, Kind::Cohort, 149, 0, 2130), Ok(1_750_000_000));
+}
+
+/// The basis of 01's points program.
+fn tenth() -> Draft {
+    let mut draft = Draft::plain(2006, 2006);
+    (0..AGES).for_each(|index| draft.set_base_rate(index, 100_000_000));
+    draft
+}
+
+#[test]
+fn the_points_program() {
+    let draft = tenth();
+    let basis = Basis::accept(&draft.run).unwrap();
+    let at = |age, deferment| super::sets::point(&basis, super::sets::Question { age, deferment, year: 2010 });
+    assert_eq!(at(148, 0), Ok([2_210_000_000, 2_210_000_000, 2_710_000_000, 2_710_000_000]));
+    assert_eq!(at(150, 0), Ok([500_000_000, 500_000_000, 1_000_000_000, 1_000_000_000]));
+    assert_eq!(at(148, 3), Err(Refusal::deferment(148, 3)));
+}
+
+#[test]
+fn a_deferred_annuity_starts_at_the_undeferred_age() {
+    let draft = tenth();
+    assert_eq!(annuity(&draft.run, Kind::Period, 148, 1, 2010), Ok(1_710_000_000));
+    assert_eq!(expectation(&draft.run, Kind::Period, 148, 1, 2010), Ok(1_400_000_000));
+    assert_eq!(survivorship(&draft.run, Kind::Cohort, 20, 2, 2010), Ok(810_000_000));
+}
+
+#[test]
+fn the_addition_begins_after_the_foundation_year() {
+    let mut draft = tenth();
+    draft.set_addition(7);
+    assert_eq!([2006, 2007].map(|year| improvement(&draft.run, 60, year)), [Ok(0), Ok(7)]);
+}
+
+#[test]
+fn the_factor_belongs_to_the_attained_age() {
+    let mut draft = tenth();
+    let born = 1950;
+    draft.set_component(BirthYear, (born - FIRST_BIRTH_YEAR) as usize, [100_000_000; 2], 20, 50);
+    // only the year in which an age meets the birth year moves its factor
+    assert_eq!([2009, 2010, 2011].map(|year| factor(&draft.run, 60, year)), [UNIT, 900_000_000, 900_000_000].map(Ok));
+    assert_eq!(factor(&draft.run, 61, 2010), Ok(UNIT));
+}
+
+#[test]
+fn the_factor_is_held_after_2130() {
+    let draft = level(10_000_000);
+    let basis = Basis::accept(&draft.run).unwrap();
+    assert_eq!(basis.factor(60, 2131), basis.factor(60, 2130));
+    assert_eq!(factor(&draft.run, 60, 2131), Err(Refusal::year(2131)));
+}

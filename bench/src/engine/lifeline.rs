@@ -1,0 +1,46 @@
+//! The lifeline: one life's cohort survivorship, a year at a step. The caller keeps where it stands.
+use super::basis::Basis;
+use super::enquiries::check_question;
+use super::layout::{FIRST_AGE, LAST_AGE, LAST_BIRTH_YEAR, RUN_LENGTH};
+use super::refusal::Refusal;
+use super::units::UNIT;
+
+#[derive(Clone, Copy, Debug, PartialEq, Eq)]
+pub struct Stand {
+    pub age: u32,
+    pub year: u32,
+    pub survivors: u64,
+}
+
+#[derive(Clone, Copy, Debug, PartialEq, Eq)]
+pub enum Step {
+    Moved(Stand),
+    Ended,
+}
+
+pub fn start(run: &[u8], age: u32, year: u32) -> Result<Stand, Refusal> {
+    let basis = Basis::accept(run)?;
+    check_question(&basis, age, 0, year)?;
+    Ok(Stand { age, year, survivors: UNIT })
+}
+
+/// One year on from where it stands. Refused or ended, it stands where it stood.
+pub fn step(run: &[u8], stand: Stand) -> Result<Step, Refusal> {
+    let basis = Basis::accept(run)?;
+    let Stand { age, year, survivors } = stand;
+    if !(FIRST_AGE..=LAST_AGE).contains(&age) {
+        return Err(Refusal::age(age));
+    }
+    // a year from the base year on is above every age, so the difference does not wrap
+    if year < basis.base_year || year - age > LAST_BIRTH_YEAR {
+        return Err(Refusal::year(year));
+    }
+    if survivors > UNIT {
+        return Err(Refusal::field(RUN_LENGTH));
+    }
+    if age == LAST_AGE {
+        return Ok(Step::Ended);
+    }
+    let survivors = basis.survive(survivors, age, year)?;
+    Ok(Step::Moved(Stand { age: age + 1, year: year + 1, survivors }))
+}
