@@ -103,11 +103,11 @@ fn kind_of(kind: u8) -> Kind {
 // A kind that is not there is answered by a refusal that no rule has.
 fn answer(run: &[u8], kind: u8, age: u32, deferment: u32, year: u32) -> Answer {
     match kind {
-        1 => projection::enquiry::factor(run, age, year),
-        2 => projection::enquiry::rate(run, age, year),
-        3 | 4 => valuation::enquiry::survivorship(run, kind_of(kind), age, deferment, year),
-        5 | 6 => valuation::enquiry::expectation(run, kind_of(kind), age, deferment, year),
-        7 | 8 => valuation::enquiry::annuity(run, kind_of(kind), age, deferment, year),
+        1 => enquiry::cells::factor(run, age, year),
+        2 => enquiry::cells::rate(run, age, year),
+        3 | 4 => enquiry::values::survivorship(run, kind_of(kind), age, deferment, year),
+        5 | 6 => enquiry::values::expectation(run, kind_of(kind), age, deferment, year),
+        7 | 8 => enquiry::values::annuity(run, kind_of(kind), age, deferment, year),
         _ => Answer::Refused(Refusal {
             number: 0,
             first: 0,
@@ -118,7 +118,7 @@ fn answer(run: &[u8], kind: u8, age: u32, deferment: u32, year: u32) -> Answer {
 
 fn run_case(run: &[u8], kind: u8, age: u32, deferment: u32, year: u32) {
     if kind == 0 {
-        print_signed_answer(projection::enquiry::improvement(run, age, year));
+        print_signed_answer(enquiry::cells::improvement(run, age, year));
     } else {
         print_answer(answer(run, kind, age, deferment, year));
     }

@@ -1,12 +1,12 @@
 // Enquiries for values: survivorship, expectation of life and annuity-due, each period and cohort.
 ghost use mathlib.Core.Path.{_≡_};
 ghost use Rattle.valuation.specs.declared.Kind.the-variants.{Period, Cohort};
-ghost use Rattle.valuation.specs.Enquiry.{survivorshipEnquiry, expectationEnquiry, annuityEnquiry};
+ghost use Rattle.enquiry.specs.Enquiry.{survivorshipEnquiry, expectationEnquiry, annuityEnquiry};
 ghost use Rattle.engine.specs.Enquiry.{answerOf};
 use crate::CAnswer;
 use crate::answers;
+use enquiry::values;
 use valuation::Kind;
-use valuation::enquiry;
 
 // The deferment is the number of years.
 #[no_mangle]
@@ -18,7 +18,7 @@ pub extern "C" fn parvusek_period_survivorship(
 ) -> CAnswer
     ensures { λ r. ⌜ r ≡ answerOf (survivorshipEnquiry (now (run .entry)) Period age deferment year) ⌝ }
 {
-    answers::answer_of(enquiry::survivorship(run, Kind::Period, age, deferment, year))
+    answers::answer_of(values::survivorship(run, Kind::Period, age, deferment, year))
 }
 
 #[no_mangle]
@@ -30,7 +30,7 @@ pub extern "C" fn parvusek_cohort_survivorship(
 ) -> CAnswer
     ensures { λ r. ⌜ r ≡ answerOf (survivorshipEnquiry (now (run .entry)) Cohort age deferment year) ⌝ }
 {
-    answers::answer_of(enquiry::survivorship(run, Kind::Cohort, age, deferment, year))
+    answers::answer_of(values::survivorship(run, Kind::Cohort, age, deferment, year))
 }
 
 #[no_mangle]
@@ -42,7 +42,7 @@ pub extern "C" fn parvusek_period_expectation(
 ) -> CAnswer
     ensures { λ r. ⌜ r ≡ answerOf (expectationEnquiry (now (run .entry)) Period age deferment year) ⌝ }
 {
-    answers::answer_of(enquiry::expectation(run, Kind::Period, age, deferment, year))
+    answers::answer_of(values::expectation(run, Kind::Period, age, deferment, year))
 }
 
 #[no_mangle]
@@ -54,7 +54,7 @@ pub extern "C" fn parvusek_cohort_expectation(
 ) -> CAnswer
     ensures { λ r. ⌜ r ≡ answerOf (expectationEnquiry (now (run .entry)) Cohort age deferment year) ⌝ }
 {
-    answers::answer_of(enquiry::expectation(run, Kind::Cohort, age, deferment, year))
+    answers::answer_of(values::expectation(run, Kind::Cohort, age, deferment, year))
 }
 
 #[no_mangle]
@@ -66,7 +66,7 @@ pub extern "C" fn parvusek_period_annuity(
 ) -> CAnswer
     ensures { λ r. ⌜ r ≡ answerOf (annuityEnquiry (now (run .entry)) Period age deferment year) ⌝ }
 {
-    answers::answer_of(enquiry::annuity(run, Kind::Period, age, deferment, year))
+    answers::answer_of(values::annuity(run, Kind::Period, age, deferment, year))
 }
 
 #[no_mangle]
@@ -78,5 +78,5 @@ pub extern "C" fn parvusek_cohort_annuity(
 ) -> CAnswer
     ensures { λ r. ⌜ r ≡ answerOf (annuityEnquiry (now (run .entry)) Cohort age deferment year) ⌝ }
 {
-    answers::answer_of(enquiry::annuity(run, Kind::Cohort, age, deferment, year))
+    answers::answer_of(values::annuity(run, Kind::Cohort, age, deferment, year))
 }

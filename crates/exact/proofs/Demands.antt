@@ -6,13 +6,12 @@ use native.Mathlib.Omega.{arith}
 use Rattle.arithmetic.proofs.Distance.{within-more}
 use Rattle.basis.specs.Basis.{basisOf}
 use Rattle.basis.specs.Outcome.{firstOf}
+use Rattle.basis.specs.Run.{runCheck}
 use Rattle.basis.proofs.Outcome.{checked-value}
 use Rattle.projection.specs.Projection.{factorOf, rateOf}
-use Rattle.projection.specs.Enquiry.{enquiryCheck, yearCheck, factorEnquiry, rateEnquiry}
-use Rattle.projection.proofs.Enquiries.{from-passed}
 use Rattle.valuation.specs.Valuation.{yearOn, survivorsOf, expectationOf, annuityOf}
-use Rattle.valuation.specs.Enquiry.{valuationCheck, survivorshipEnquiry, expectationEnquiry, annuityEnquiry}
-use Rattle.valuation.proofs.Enquiries.{valuation-passed}
+use Rattle.enquiry.specs.Enquiry.{cellCheck, valuationCheck, factorEnquiry, rateEnquiry, survivorshipEnquiry, expectationEnquiry, annuityEnquiry}
+use Rattle.enquiry.proofs.Passed.{cell-passed, valuation-passed}
 use Rattle.exact.specs.Model.{yearsTo}
 use Rattle.exact.specs.Distance.{largestYears, Demand3}
 use Rattle.exact.proofs.Factor.{factor-within, rate-within}
@@ -26,12 +25,12 @@ demand-3 run =
     let b = basisOf run in
     record {
       factor = λ age year f answered improving.
-          let h = checked-value (firstOf (enquiryCheck run age) (yearCheck (b .base) year)) (factorOf b age year) f answered in
-          let p = from-passed run age (b .base) year (h .0) in
+          let h = checked-value (firstOf (runCheck run) (cellCheck (b .base) age year)) (factorOf b age year) f answered in
+          let p = cell-passed run (b .base) age year (h .0) in
           factor-within b age year (p .0 .limits) (p .1) (p .2) improving f (h .1);
       rate = λ age year q answered improving.
-          let h = checked-value (firstOf (enquiryCheck run age) (yearCheck (b .base) year)) (rateOf b age year) q answered in
-          let p = from-passed run age (b .base) year (h .0) in
+          let h = checked-value (firstOf (runCheck run) (cellCheck (b .base) age year)) (rateOf b age year) q answered in
+          let p = cell-passed run (b .base) age year (h .0) in
           rate-within b age year (p .0 .limits) (p .1) (p .2) improving q (h .1);
       survivorship = λ kind age n year s answered improving.
           let h = checked-value (valuationCheck run age n year) (survivorsOf b kind age year n) s answered in

@@ -10,9 +10,8 @@ use Rattle.arithmetic.specs.Fraction.{Fraction, Within}
 use Rattle.basis.specs.Basis.{Basis, basisOf}
 use Rattle.basis.specs.Outcome.{value}
 use Rattle.projection.specs.Projection.{heldYear}
-use Rattle.projection.specs.Enquiry.{factorEnquiry, rateEnquiry}
 use Rattle.valuation.specs.Valuation.{yearOn}
-use Rattle.valuation.specs.Enquiry.{survivorshipEnquiry, expectationEnquiry, annuityEnquiry}
+use Rattle.enquiry.specs.Enquiry.{factorEnquiry, rateEnquiry, survivorshipEnquiry, expectationEnquiry, annuityEnquiry}
 use Rattle.valuation.specs.declared.Kind.{Kind}
 use Rattle.exact.specs.Model.{exactImprovement, yearsTo, exactFactor, exactRate, exactSurvivors, exactExpectation, exactAnnuity}
 

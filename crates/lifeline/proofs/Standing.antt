@@ -10,11 +10,12 @@ use Rattle.arithmetic.specs.Fraction.{U}
 use Rattle.basis.specs.declared.Check.the-variants.{Passed, Refused}
 use Rattle.basis.specs.declared.Refusal.{Refusal}
 use Rattle.basis.specs.Basis.{basisOf, Accepted}
-use Rattle.basis.specs.Outcome.{refusal}
+use Rattle.basis.specs.Outcome.{refusal, firstOf}
 use Rattle.basis.proofs.Outcome.{unless-passed, both-passed}
-use Rattle.projection.specs.Enquiry.{inRange, enquiryCheck}
-use Rattle.projection.proofs.Enquiries.{in-range, enquiry-passed}
-use Rattle.valuation.specs.Enquiry.{valuationCheck}
+use Rattle.basis.specs.Run.{runCheck}
+use Rattle.basis.proofs.Acceptance.{accepted}
+use Rattle.enquiry.specs.Enquiry.{inRange, ageCheck, valuationCheck}
+use Rattle.enquiry.proofs.Passed.{in-range, age-passed}
 use Rattle.valuation.specs.Valuation.{survivorsAfterYear}
 use Rattle.lifeline.specs.declared.Status.the-variants as status
 use Rattle.lifeline.specs.Lifeline.{begun, startAt, standingYearCheck, standingCheck, survivorsCheck, stepCheck, moved, yearLater, lived, stepAt}
@@ -29,12 +30,15 @@ survivors-passed survivors h = leb-true survivors U (unless-passed (leb survivor
 
 pub step-passed : (run : List ℕ) (age year survivors : ℕ) → stepCheck run age year survivors ≡ Passed
     → Accepted run × (20 ≤ age) × (age ≤ 150) × (basisOf run .base ≤ year) × (year ≤ 2110 + age) × (survivors ≤ U)
+unfolding standingCheck
 step-passed run age year survivors h =
-    let p = both-passed (standingCheck run age year) (survivorsCheck survivors) h in
-    let q = both-passed (enquiryCheck run age) (standingYearCheck (basisOf run .base) age year) (p .0) in
-    let e = enquiry-passed run age (q .0) in
-    let y = standing-year-passed (basisOf run .base) age year (q .1) in
-    (e .0, e .1, e .2, y .0, y .1, survivors-passed survivors (p .1))
+    let base = basisOf run .base in
+    let p = both-passed (runCheck run) (standingCheck (basisOf run) age year survivors) h in
+    let q = both-passed (ageCheck age) (firstOf (standingYearCheck base age year) (survivorsCheck survivors)) (p .1) in
+    let s = both-passed (standingYearCheck base age year) (survivorsCheck survivors) (q .1) in
+    let a = age-passed age (q .0) in
+    let y = standing-year-passed base age year (s .0) in
+    (accepted run (p .0), a .0, a .1, y .0, y .1, survivors-passed survivors (s .1))
 
 -- ---- the start
 module _ (run : List ℕ) (age year : ℕ) where

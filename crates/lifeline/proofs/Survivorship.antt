@@ -13,18 +13,17 @@ use Rattle.basis.specs.declared.Check.{Check}
 use Rattle.basis.specs.declared.Check.the-variants.{Passed, Refused}
 use Rattle.basis.specs.Basis.{basisOf}
 use Rattle.basis.specs.Run.{runCheck}
-use Rattle.basis.specs.Outcome.{Outcome, value, refused, firstOf}
+use Rattle.basis.specs.Outcome.{Outcome, value, refused}
 use Rattle.basis.proofs.Outcome.{both-passed, checked-value}
-use Rattle.projection.specs.Enquiry.{ageCheck, yearCheck, enquiryCheck}
 use Rattle.valuation.specs.declared.Kind.the-variants.{Cohort}
-use Rattle.valuation.specs.Enquiry.{defermentCheck, valuationCheck, survivorshipEnquiry}
+use Rattle.enquiry.specs.Enquiry.{ageCheck, defermentCheck, questionCheck, valuationCheck, survivorshipEnquiry}
 use Rattle.valuation.specs.Valuation.{survivorsAfterYear, survivorsOf}
-use Rattle.valuation.proofs.Enquiries.{valuation-passed}
+use Rattle.enquiry.proofs.Passed.{question-parts, valuation-passed}
 use Rattle.valuation.proofs.Survivors.{survivors-first, survivors-next, survivors-refused, survivors-natural, survivors-small}
 use Rattle.lifeline.specs.declared.Status.the-variants as status
 use Rattle.lifeline.specs.declared.Stand.{Stand}
 use Rattle.lifeline.specs.declared.Moved.{Moved}
-use Rattle.lifeline.specs.Lifeline.{standingYearCheck, survivorsCheck, stepCheck, moved, yearLater, lived, unlessRefused, stepAt, standAt, stepFrom, standBegun, standMoved, standAfter}
+use Rattle.lifeline.specs.Lifeline.{standingYearCheck, survivorsCheck, standingCheck, stepCheck, moved, yearLater, lived, unlessRefused, stepAt, standAt, stepFrom, standBegun, standMoved, standAfter}
 use Rattle.lifeline.proofs.Standing.{start-passed, step-lived}
 
 -- the first n steps from a start have all advanced
@@ -72,21 +71,19 @@ module _ (run : List ℕ) (age year : ℕ) where
   -- ---- and as long as survivorship is answered each step advances
   -- what an enquiry for n years checks lets a lifeline start, and step before the n years are over
   start-passes : (n : ℕ) → valuationCheck run age n year ≡ Passed → valuationCheck run age 0 year ≡ Passed
-  unfolding defermentCheck
+  unfolding defermentCheck questionCheck
   start-passes n h =
-      let p = both-passed (enquiryCheck run age) (firstOf (defermentCheck age n) (yearCheck (basisOf run .base) year)) h in
-      let q = both-passed (defermentCheck age n) (yearCheck (basisOf run .base) year) (p .1) in
+      let p = both-passed (runCheck run) (questionCheck (basisOf run) age n year) h in
+      let q = question-parts (basisOf run) age n year (p .1) in
       let v = valuation-passed run age n year h in
-      rw (p .0, q .1, le-leb (age + 0) 150 (omega (arith, v .2))) refl
+      rw (p .0, q .0, q .2, le-leb (age + 0) 150 (omega (arith, v .2))) refl
 
   step-passes : (n k s : ℕ) → valuationCheck run age n year ≡ Passed → k < n → s ≤ U → stepCheck run (age + k) (year + k) s ≡ Passed
-  unfolding ageCheck standingYearCheck survivorsCheck
+  unfolding ageCheck standingYearCheck survivorsCheck standingCheck
   step-passes n k s h l u =
-      let p = both-passed (enquiryCheck run age) (firstOf (defermentCheck age n) (yearCheck (basisOf run .base) year)) h in
-      let q = both-passed (defermentCheck age n) (yearCheck (basisOf run .base) year) (p .1) in
       let v = valuation-passed run age n year h in
       rw (
-        both-passed (runCheck run) (ageCheck age) (p .0) .0,
+        both-passed (runCheck run) (questionCheck (basisOf run) age n year) h .0,
         le-leb 20 (age + k) (omega (arith, v .1)),
         le-leb (age + k) 150 (omega (arith, v .2)),
         le-leb (basisOf run .base) (year + k) (omega (arith, v .3)),

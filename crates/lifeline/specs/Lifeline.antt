@@ -8,10 +8,10 @@ use lib.IntN.{ℤ, pos, natAbs}
 use Rattle.arithmetic.specs.Fraction.{U}
 use Rattle.basis.specs.declared.Check.{Check}
 use Rattle.basis.specs.declared.Check.the-variants.{Passed, Refused}
-use Rattle.basis.specs.Basis.{basisOf}
+use Rattle.basis.specs.Basis.{Basis, basisOf}
+use Rattle.basis.specs.Run.{runCheck}
 use Rattle.basis.specs.Outcome.{Outcome, value, refused, refusal, unless, firstOf}
-use Rattle.projection.specs.Enquiry.{inRange, enquiryCheck}
-use Rattle.valuation.specs.Enquiry.{valuationCheck}
+use Rattle.enquiry.specs.Enquiry.{inRange, ageCheck, valuationCheck}
 use Rattle.valuation.specs.Valuation.{survivorsAfterYear}
 use Rattle.lifeline.specs.declared.Status.{Status}
 use Rattle.lifeline.specs.declared.Status.the-variants as status
@@ -37,17 +37,17 @@ startAt run age year = begunAt age year (valuationCheck run age 0 year)
 unfoldable pub standingYearCheck : ℕ → ℕ → ℕ → Check
 standingYearCheck base age year = unless (inRange base (2110 + age) year) (refusal 7 year 0)
 
--- the data run and the age (6), then the year
-abbrev pub standingCheck : List ℕ → ℕ → ℕ → Check
-standingCheck run age year = firstOf (enquiryCheck run age) (standingYearCheck (basisOf run .base) age year)
-
 -- 5: survivors above U, places 4554 and 0
 unfoldable pub survivorsCheck : ℕ → Check
 survivorsCheck survivors = unless (leb survivors U) (refusal 5 4554 0)
 
--- then the survivors
+-- the age (6), the year, then the survivors
+unfoldable pub standingCheck : Basis → ℕ → ℕ → ℕ → Check
+standingCheck b age year survivors = firstOf (ageCheck age) (firstOf (standingYearCheck (b .base) age year) (survivorsCheck survivors))
+
+-- first of all the data run
 abbrev pub stepCheck : List ℕ → ℕ → ℕ → ℕ → Check
-stepCheck run age year survivors = firstOf (standingCheck run age year) (survivorsCheck survivors)
+stepCheck run age year survivors = firstOf (runCheck run) (standingCheck (basisOf run) age year survivors)
 
 -- ---- the step
 abbrev pub moved : ℕ → ℕ → ℕ → Status → Moved

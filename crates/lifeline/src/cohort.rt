@@ -3,7 +3,7 @@ ghost use mathlib.Core.Path.{_≡_};
 ghost use Prim.Native.Nat.{_+_, _≤_, _<_};
 ghost use lib.IntN.{pos};
 ghost use Rattle.basis.specs.Basis.{basisOf, Accepted};
-ghost use Rattle.projection.specs.Enquiry.{inRange};
+ghost use Rattle.enquiry.specs.Enquiry.{inRange};
 ghost use Rattle.valuation.specs.Valuation.{survivorsAfterYear};
 ghost use Rattle.lifeline.specs.Lifeline.{startAt, standingYearCheck, standingCheck, survivorsCheck, stepCheck, yearLater, stepAt};
 use crate::Begun;
@@ -12,6 +12,7 @@ use crate::Status;
 use basis::Answer;
 use basis::Check;
 use basis::Refusal;
+use basis::checks;
 
 const UNIT: u64 = 1_000_000_000;
 
@@ -19,7 +20,7 @@ const UNIT: u64 = 1_000_000_000;
 pub fn start_at(run: &[u8], age: u32, year: u32) -> Begun
     ensures { λ r. ⌜ r ≡ startAt (now (run .entry)) age year ⌝ }
 {
-    match valuation::enquiry::check_valuation(run, age, 0, year) {
+    match enquiry::values::check_valuation(run, age, 0, year) {
         Check::Passed => Begun {
             age: age,
             year: year,
@@ -35,17 +36,15 @@ pub fn start_at(run: &[u8], age: u32, year: u32) -> Begun
     }
 }
 
-// From B on, with a birth year up to 2110. The age has been checked, so that the sum is small.
+// From B on, with a birth year up to 2110. The sum is made in 64 bits, where it cannot wrap.
 fn is_standing_year(base: u32, age: u32, year: u32) -> bool
-    requires { ⌜ age ≤ 150 ⌝ }
     ensures { λ r. ⌜ r ≡ inRange base (2110 + age) year ⌝ }
 {
-    base <= year && year <= 2110 + age
+    base <= year && year as u64 <= 2110 + age as u64
 }
 
 // 7: any other year.
 fn check_standing_year(base: u32, age: u32, year: u32) -> Check
-    requires { ⌜ age ≤ 150 ⌝ }
     ensures { λ r. ⌜ r ≡ standingYearCheck base age year ⌝ }
 {
     if is_standing_year(base, age, year) {
@@ -56,16 +55,6 @@ fn check_standing_year(base: u32, age: u32, year: u32) -> Check
             first: year as u64,
             second: 0,
         })
-    }
-}
-
-// The data run afresh and the age, then the year.
-fn check_standing(run: &[u8], age: u32, year: u32) -> Check
-    ensures { λ r. ⌜ r ≡ standingCheck (now (run .entry)) age year ⌝ }
-{
-    match projection::enquiry::check_enquiry(run, age) {
-        Check::Passed => check_standing_year(basis::fields::base_year(run), age, year),
-        Check::Refused(r) => Check::Refused(r),
     }
 }
 
@@ -84,12 +73,24 @@ fn check_survivors(survivors: u64) -> Check
     }
 }
 
-// All that a step checks before it moves.
+// The age, the year, then the survivors.
+fn check_standing(run: &[u8], age: u32, year: u32, survivors: u64) -> Check
+    requires { ⌜ Accepted (now run) ⌝ }
+    ensures { λ r. ⌜ r ≡ standingCheck (basisOf (now (run .entry))) age year survivors ⌝ }
+{
+    let of_year = check_standing_year(basis::fields::base_year(run), age, year);
+    checks::first_of(
+        enquiry::checks::check_age(age),
+        checks::first_of(of_year, check_survivors(survivors)),
+    )
+}
+
+// All that a step checks before it moves: the data run afresh, then these.
 fn check_step(run: &[u8], age: u32, year: u32, survivors: u64) -> Check
     ensures { λ r. ⌜ r ≡ stepCheck (now (run .entry)) age year survivors ⌝ }
 {
-    match check_standing(run, age, year) {
-        Check::Passed => check_survivors(survivors),
+    match checks::check_run(run) {
+        Check::Passed => check_standing(run, age, year, survivors),
         Check::Refused(r) => Check::Refused(r),
     }
 }

@@ -6,11 +6,10 @@ use lib.IntN.{ℤ, natAbs}
 use Rattle.basis.specs.declared.Check.{Check}
 use Rattle.basis.specs.declared.Check.the-variants.{Passed, Refused}
 use Rattle.basis.specs.Basis.{Basis, basisOf}
-use Rattle.basis.specs.Outcome.{Outcome, value, refused, refusal, firstOf, checked, andThen, noRefusal}
+use Rattle.basis.specs.Outcome.{Outcome, value, refused, checked, andThen, noRefusal}
 use Rattle.basis.specs.Run.{runCheck}
-use Rattle.projection.specs.Enquiry.{ageCheck, yearCheck}
+use Rattle.enquiry.specs.Enquiry.{questionCheck}
 use Rattle.valuation.specs.declared.Kind.the-variants.{Period, Cohort}
-use Rattle.valuation.specs.Enquiry.{defermentCheck}
 use Rattle.valuation.specs.Valuation.{expectationOf, annuityOf}
 use Rattle.model_points.specs.declared.Question.{Question}
 use Rattle.model_points.specs.declared.PointAnswer.{PointAnswer}
@@ -19,10 +18,6 @@ use Rattle.model_points.specs.declared.SmallSet.{SmallSet}
 use Rattle.model_points.specs.declared.Point.{Point}
 
 -- ---- A question on an accepted basis
--- the age (6), the deferment (8), then the year (7), from B on
-unfoldable pub questionCheck : Basis → Question → Check
-questionCheck b q = firstOf (firstOf (ageCheck (q .age)) (defermentCheck (q .age) (q .deferment))) (yearCheck (b .base) (q .year))
-
 -- four results in their order, the first refusal of the four deciding; no result is below zero, so its size is the result itself
 unfoldable pub fourOf : Outcome ℤ → Outcome ℤ → Outcome ℤ → Outcome ℤ → Outcome (List ℕ)
 fourOf first second third fourth =
@@ -45,8 +40,9 @@ abbrev pub pointAnswerOf : Outcome (List ℕ) → PointAnswer
 pointAnswerOf (value results) = record { results = results; refusal = noRefusal }
 pointAnswerOf (refused r) = record { results = noResults; refusal = r }
 
+-- its own checks, then the four results
 unfoldable pub pointOf : Basis → Question → PointAnswer
-pointOf b q = pointAnswerOf (checked (questionCheck b q) (resultsOf b (q .age) (q .deferment) (q .year)))
+pointOf b q = pointAnswerOf (checked (questionCheck b (q .age) (q .deferment) (q .year)) (resultsOf b (q .age) (q .deferment) (q .year)))
 
 -- ---- The small set
 -- a refused basis refuses the set as a whole: its points then carry 0 in every result, refusal and place

@@ -2,37 +2,14 @@
 ghost use mathlib.Core.Path.{_≡_};
 ghost use Prim.Native.Nat.{_+_, _≤_};
 ghost use Rattle.basis.specs.Basis.{basisOf, Accepted};
-ghost use Rattle.basis.specs.Outcome.{firstOf, meaning, refused};
-ghost use Rattle.projection.specs.Enquiry.{ageCheck};
-ghost use Rattle.valuation.specs.Enquiry.{defermentCheck};
-ghost use Rattle.model_points.specs.Points.{questionCheck, fourOf, resultsOf, pointAnswerOf, pointOf};
+ghost use Rattle.basis.specs.Outcome.{meaning, refused};
+ghost use Rattle.model_points.specs.Points.{fourOf, resultsOf, pointAnswerOf, pointOf};
 use crate::PointAnswer;
 use crate::Question;
 use basis::Answer;
 use basis::Check;
 use basis::Refusal;
 use valuation::Kind;
-
-// The age, then the deferment.
-fn check_life(age: u32, deferment: u32) -> Check
-    ensures { λ r. ⌜ r ≡ firstOf (ageCheck age) (defermentCheck age deferment) ⌝ }
-{
-    match projection::enquiry::check_age(age) {
-        Check::Passed => valuation::enquiry::check_deferment(age, deferment),
-        Check::Refused(r) => Check::Refused(r),
-    }
-}
-
-// The same and the year, from B on.
-fn check_question(run: &[u8], q: Question) -> Check
-    requires { ⌜ Accepted (now run) ⌝ }
-    ensures { λ r. ⌜ r ≡ questionCheck (basisOf (now (run .entry))) q ⌝ }
-{
-    match check_life(q.age, q.deferment) {
-        Check::Passed => projection::enquiry::check_year(basis::fields::base_year(run), q.year),
-        Check::Refused(r) => Check::Refused(r),
-    }
-}
 
 fn refused_point(refusal: Refusal) -> PointAnswer
     ensures { λ r. ⌜ r ≡ pointAnswerOf (refused refusal) ⌝ }
@@ -86,7 +63,7 @@ pub fn point_at(run: &[u8], q: Question) -> PointAnswer
     requires { ⌜ Accepted (now run) ⌝ }
     ensures { λ r. ⌜ r ≡ pointOf (basisOf (now (run .entry))) q ⌝ }
 {
-    match check_question(run, q) {
+    match enquiry::checks::check_question(run, q.age, q.deferment, q.year) {
         Check::Passed => results_at(run, q.age, q.deferment, q.year),
         Check::Refused(r) => refused_point(r),
     }

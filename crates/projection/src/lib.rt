@@ -1,5 +1,4 @@
 // The projection of mortality from a basis: improvements, reduction factors and mortality rates.
-pub mod enquiry;
 pub mod factor;
 pub mod improvement;
 pub mod rate;

@@ -2,4 +2,3 @@ pub mod Survivors
 pub mod Lives
 pub mod Payments
 pub mod LastAge
-pub mod Enquiries

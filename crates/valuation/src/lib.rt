@@ -1,6 +1,5 @@
 // The values that rest on mortality rates: survivorship, expectation of life and annuity-due, each period and cohort.
 pub mod annuity;
-pub mod enquiry;
 pub mod expectation;
 pub mod survivorship;
 

@@ -46,19 +46,36 @@ returns c = simp (c .before .before .first .given .1, c .refused-point .ensures)
 
 returns-2 : tie.Need-returns-2
 unfolding fourOf
-returns-2 c = simp (c .before .before .before .before .before .first2 .given .1, c .before .before .second .given .1, c .refused-point2 .ensures)
+returns-2 c =
+    let second = c .before .before in
+    let first = second .before .before .before in
+    simp (first .first2 .given .1, second .second .given .1, c .refused-point2 .ensures)
 
 returns-3 : tie.Need-returns-3
 unfolding fourOf
-returns-3 c = simp (c .before .before .before .before .before .before .before .before .first2 .given .1, c .before .before .before .before .before .second2 .given .1, c .before .before .third .given .1, c .refused-point3 .ensures)
+returns-3 c =
+    let third = c .before .before in
+    let second = third .before .before .before in
+    let first = second .before .before .before in
+    simp (first .first2 .given .1, second .second2 .given .1, third .third .given .1, c .refused-point3 .ensures)
 
 returns-4 : tie.Need-returns-4
 unfolding fourOf
-returns-4 c = simp (c .before .before .before .before .before .before .before .before .before .before .before .first2 .given .1, c .before .before .before .before .before .before .before .before .second2 .given .1, c .before .before .before .before .before .third2 .given .1, c .before .before .fourth .given .1, c .refused-point4 .ensures)
+returns-4 c =
+    let fourth = c .before .before in
+    let third = fourth .before .before .before in
+    let second = third .before .before .before in
+    let first = second .before .before .before in
+    simp (first .first2 .given .1, second .second2 .given .1, third .third2 .given .1, fourth .fourth .given .1, c .refused-point4 .ensures)
 
 returns-5 : tie.Need-returns-5
 unfolding fourOf
-returns-5 c = simp (c .before .before .before .before .before .before .before .before .before .before .first2 .given .1, c .before .before .before .before .before .before .before .second2 .given .1, c .before .before .before .before .third2 .given .1, c .before .fourth2 .given .1)
+returns-5 c =
+    let fourth = c .before in
+    let third = fourth .before .before .before in
+    let second = third .before .before .before in
+    let first = second .before .before .before in
+    simp (first .first2 .given .1, second .second2 .given .1, third .third2 .given .1, fourth .fourth2 .given .1)
 
 pub four-spec : {M : Type 1} → statement M
 four-spec =

@@ -3,7 +3,7 @@ use mathlib.Core.Path.{_∙_, sym, ap}
 use borrow.Author.Needs.{needs}
 use Rattle.basis.proofs.Outcome.{checked-passed, checked-refused}
 use Rattle.model_points.specs.Points.{pointAnswerOf, pointOf}
-use Rattle.model_points.proofs.Asked.{question-passed}
+use Rattle.enquiry.proofs.Passed.{question-passed}
 use Rattle.model_points.proofs.results.point_at.Statement.{statement}
 use Rattle.model_points.proofs.results.point_at.Tie as tie
 
@@ -16,7 +16,8 @@ enum-told c = search needs
 results-at-requires : tie.Need-results-at-requires
 results-at-requires c κs =
     let s = c .before .before .before .before in
-    question-passed (s .args .run .now) (s .args .q) (s .pre) (sym (c .before .before .check-question .ensures) ∙ c .enum-told .given .1)
+    let q = s .args .q in
+    question-passed (s .args .run .now) (q .age) (q .deferment) (q .year) (s .pre) (sym (c .before .before .check-question .ensures) ∙ c .enum-told .given .1)
 
 enum-known-r : tie.Need-enum-known-r
 enum-known-r c = search needs

@@ -21,7 +21,11 @@ four-requires c κs = search needs
 
 returns : tie.Need-returns
 unfolding resultsOf
-returns c = simp (c .four .ensures, c .before .before .before .before .expectation-at .ensures, c .before .before .before .expectation-at2 .ensures, c .before .before .annuity-at .ensures, c .before .annuity-at2 .ensures)
+returns c =
+    let cohort = c .before in
+    let period = cohort .before in
+    let ages = period .before in
+    simp (c .four .ensures, ages .before .expectation-at .ensures, ages .expectation-at2 .ensures, period .annuity-at .ensures, cohort .annuity-at2 .ensures)
 
 pub results-at-spec : {M : Type 1} → statement M
 results-at-spec =

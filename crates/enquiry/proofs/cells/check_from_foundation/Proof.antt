@@ -1,0 +1,42 @@
+-- Once it has passed the run is accepted, so that the first year is there to be read; then the cell's own checks decide.
+use mathlib.Core.Path.{_∙_, sym, ap}
+use Prim.Native.Nat.{ℕ}
+use borrow.Author.Needs.{needs}
+use Rattle.basis.proofs.Outcome.{first-passed, first-refused}
+use Rattle.basis.proofs.Acceptance.{accepted}
+use Rattle.enquiry.specs.Enquiry.{cellCheck}
+use Rattle.enquiry.proofs.cells.check_from_foundation.Statement.{statement}
+use Rattle.enquiry.proofs.cells.check_from_foundation.Tie as tie
+
+check-run-requires : tie.Need-check-run-requires
+check-run-requires c κs = search needs
+
+enum-told : tie.Need-enum-told
+enum-told c = search needs
+
+foundation-year-requires : tie.Need-foundation-year-requires
+foundation-year-requires c κs =
+    let a = c .before .before .before .before .args in
+    accepted (a .run .now) (sym (c .before .before .check-run .ensures) ∙ c .enum-told .given .1)
+
+check-cell-requires : tie.Need-check-cell-requires
+check-cell-requires c κs = search needs
+
+enum-known-r : tie.Need-enum-known-r
+enum-known-r c = search needs
+
+returns : tie.Need-returns
+returns c =
+    let told = c .before .before in
+    let a = told .before .before .before .before .args in
+    c .check-cell .ensures
+    ∙ ap (λ (first : ℕ). cellCheck first (a .age) (a .year)) (c .before .foundation-year .ensures)
+    ∙ sym (first-passed _ _ (sym (told .before .before .check-run .ensures) ∙ told .enum-told .given .1))
+
+returns-2 : tie.Need-returns-2
+returns-2 c = sym (first-refused _ _ _ (sym (c .before .before .before .check-run .ensures) ∙ c .before .r .given .1))
+
+pub check-from-foundation-spec : {M : Type 1} → statement M
+check-from-foundation-spec =
+    tie.close
+    (tie.spec check-run-requires enum-told foundation-year-requires check-cell-requires enum-known-r returns returns-2)

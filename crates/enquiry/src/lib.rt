@@ -1,0 +1,4 @@
+// Enquiries: any bytes, any age, deferment and year are answered or refused.
+pub mod cells;
+pub mod checks;
+pub mod values;

@@ -1,0 +1,45 @@
+// Enquiries for the values of a life: survivorship, expectation and annuity, each period and cohort.
+ghost use mathlib.Core.Path.{_≡_};
+ghost use Rattle.basis.specs.Outcome.{meaning};
+ghost use Rattle.enquiry.specs.Enquiry.{valuationCheck, survivorshipEnquiry, expectationEnquiry, annuityEnquiry};
+use crate::checks;
+use basis::Answer;
+use basis::Check;
+use valuation::Kind;
+
+// The data run afresh, then the question.
+pub fn check_valuation(run: &[u8], age: u32, deferment: u32, year: u32) -> Check
+    ensures { λ r. ⌜ r ≡ valuationCheck (now (run .entry)) age deferment year ⌝ }
+{
+    match basis::checks::check_run(run) {
+        Check::Passed => checks::check_question(run, age, deferment, year),
+        Check::Refused(r) => Check::Refused(r),
+    }
+}
+
+pub fn survivorship(run: &[u8], kind: Kind, age: u32, deferment: u32, year: u32) -> Answer
+    ensures { λ r. ⌜ meaning r ≡ survivorshipEnquiry (now (run .entry)) kind age deferment year ⌝ }
+{
+    match check_valuation(run, age, deferment, year) {
+        Check::Passed => valuation::survivorship::survivors_at(run, kind, age, year, deferment),
+        Check::Refused(r) => Answer::Refused(r),
+    }
+}
+
+pub fn expectation(run: &[u8], kind: Kind, age: u32, deferment: u32, year: u32) -> Answer
+    ensures { λ r. ⌜ meaning r ≡ expectationEnquiry (now (run .entry)) kind age deferment year ⌝ }
+{
+    match check_valuation(run, age, deferment, year) {
+        Check::Passed => valuation::expectation::expectation_at(run, kind, age, year, deferment),
+        Check::Refused(r) => Answer::Refused(r),
+    }
+}
+
+pub fn annuity(run: &[u8], kind: Kind, age: u32, deferment: u32, year: u32) -> Answer
+    ensures { λ r. ⌜ meaning r ≡ annuityEnquiry (now (run .entry)) kind age deferment year ⌝ }
+{
+    match check_valuation(run, age, deferment, year) {
+        Check::Passed => valuation::annuity::annuity_at(run, kind, age, year, deferment),
+        Check::Refused(r) => Answer::Refused(r),
+    }
+}
