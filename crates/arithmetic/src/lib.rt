@@ -13,7 +13,7 @@ pub fn wide(n: i32) -> i64
 }
 
 // The greatest whole number not above n / d. Below zero the division goes by −1 − n, since the machine's rounds towards 0.
-pub fn floor_div(n: i64, d: u64) -> i64
+fn floor_div(n: i64, d: u64) -> i64
     requires { ⌜ 0 < d ⌝ }
     ensures { λ r. ⌜ r ≡ floorDiv n d ⌝ }
 {

@@ -33,7 +33,7 @@ fn improvement_from(attained: Convergence, birth: Convergence, years: u32, addit
 }
 
 // The improvement at an age, whose terms the caller has read, in a year from F to 2130.
-pub fn improvement_at(run: &[u8], terms: Convergence, age: u32, year: u32) -> i64
+pub(crate) fn improvement_at(run: &[u8], terms: Convergence, age: u32, year: u32) -> i64
     requires { ⌜ Accepted (now run) × (20 ≤ age) × (age ≤ 150) × (terms ≡ basisOf (now run) .byAge age) × (basisOf (now run) .foundation ≤ year) × (year ≤ 2130) ⌝ }
     ensures { λ r. ⌜ r ≡ improvementOf (basisOf (now (run .entry))) age year ⌝ }
 {
@@ -43,7 +43,7 @@ pub fn improvement_at(run: &[u8], terms: Convergence, age: u32, year: u32) -> i6
 }
 
 // Is an improvement within ±500,000,000?
-pub fn is_usable(improvement: i64) -> bool
+pub(crate) fn is_usable(improvement: i64) -> bool
     ensures { λ r. ⌜ r ≡ usable improvement ⌝ }
 {
     -500_000_000 <= improvement && improvement <= 500_000_000

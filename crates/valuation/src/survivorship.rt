@@ -11,7 +11,7 @@ use basis::Answer;
 const UNIT: u64 = 1_000_000_000;
 
 // The year of the rate j years on.
-pub fn year_on(kind: Kind, year: u32, j: u32) -> u32
+pub(crate) fn year_on(kind: Kind, year: u32, j: u32) -> u32
     requires { ⌜ (year ≤ 2260) × (j ≤ 130) ⌝ }
     ensures { λ r. ⌜ r ≡ yearOn kind year j ⌝ }
 {
