@@ -1,5 +1,5 @@
 -- U and a rate of discount within its limits: a natural number that 64 bits hold. Assumes nothing.
-use Prim.Native.Nat.{_+_, _≤_}
+use Prim.Native.Nat.{_≤_}
 use native.Mathlib.Omega.{arith}
 use lib.IntN.{ℤ, pos, negsuc, natAbs, _+ℤ_}
 use lib.Signed.{_≤ℤ_, nonNeg, yes-nonNeg}
@@ -7,7 +7,7 @@ use lib.Dec.{T}
 use mir.Syntax.{w64}
 use mir.Val.{SFits}
 use Rattle.arithmetic.specs.Fraction.{U}
-use Rattle.arithmetic.proofs.Difference.{_⊖_, parts, ring, ⊖-≤, ⊖-abs, ≤-parts}
+use Rattle.arithmetic.proofs.Difference.{parts, ring, ⊖-≤, ⊖-abs, ≤-parts}
 use Rattle.arithmetic.proofs.Machine.{sfits-abs}
 use Rattle.basis.specs.Basis.{Basis, Limited, accumulationOf}
 

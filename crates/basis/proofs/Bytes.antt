@@ -1,7 +1,7 @@
 -- The bytes of a number give the number back, and bytes below 256 are those of their number. Assumes nothing.
 use mathlib.Core.Path.{_≡_, sym, ap, _∙_}
 use mathlib.Core.List.{[], _∷_}
-use Prim.Native.Nat.{ℕ, suc, _+_, _*_, _-_, _/_, _%_, _^_, _<_, _≤_}
+use Prim.Native.Nat.{ℕ, _+_, _*_, _/_, _%_, _^_, _<_, _≤_}
 use native.Mathlib.Omega.{arith}
 use native.Mathlib.Nat.{mod-eq-of-lt, div-add-mod', div-div-eq-div-mul}
 use lib.Arith.{digits-div, digits-mod}
@@ -45,14 +45,17 @@ bytes-of-u32 a b c d h k l m =
     simp (e, f, g, remainder n q a (omega arith) h, remainder q r b (omega arith) k, remainder r d c (omega arith) l, mod-eq-of-lt m)
 
 -- ---- signed numbers
-pub unsigned-fits : (z : ℤ) → natAbs z < 2 ^ 31 → unsigned32 z < 4_294_967_296
+unsigned-fits : (z : ℤ) → natAbs z < 2 ^ 31 → unsigned32 z < 4_294_967_296
 unsigned-fits (pos n) h = omega arith
 unsigned-fits (negsuc n) h = omega arith
 
 signed-back : (z : ℤ) → natAbs z < 2 ^ 31 → signed32 (unsigned32 z) ≡ z
 unfolding signed32
 signed-back (pos n) h = simp (lt-ltb n (2 ^ 31) (omega arith))
-signed-back (negsuc n) h = let l : 2 ^ 31 ≤ 2 ^ 32 - suc n = omega arith in rw (le-ltb (2 ^ 32 - suc n) (2 ^ 31) l) (ap negsuc (omega arith))
+signed-back (negsuc n) h =
+    let m = unsigned32 (negsuc n) in
+    let l : 2 ^ 31 ≤ m = omega arith in
+    rw (le-ltb m (2 ^ 31) l) (ap negsuc (omega arith))
 
 pub i32-back : (z : ℤ) → natAbs z < 2 ^ 31 → i32At (i32Bytes z) 0 ≡ z
 i32-back z h = ap signed32 (u32-back (unsigned32 z) (unsigned-fits z h)) ∙ signed-back z h

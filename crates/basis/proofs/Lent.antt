@@ -42,10 +42,12 @@ module _ {A : Type 0} (out : List A) (at : ℕ) where
     pub placed-next : (next : List A) → placed (placed out at part) (at + length part) next ≡ placed out at (part ++ next)
     placed-next next =
         let n = at + length part in
+        let m = length next in
+        let new = placed out at part in
         let front = take at out ++ part in
         let long : length front ≡ n = rw (length-append, length-take-le at out (omega arith)) in
-        let before : take n (placed out at part) ≡ front = take-at front (drop n out) n long in
-        let behind : drop n (placed out at part) ≡ drop n out = drop-at front (drop n out) n long in
-        let after : drop (n + length next) (placed out at part) ≡ drop (n + length next) out = sym (drop-drop (length next) n (placed out at part)) ∙ ap (drop (length next)) behind ∙ drop-drop (length next) n out in
-        let e : at + length (part ++ next) ≡ n + length next = rw length-append (omega arith) in
+        let before : take n new ≡ front = take-at front (drop n out) n long in
+        let behind : drop n new ≡ drop n out = drop-at front (drop n out) n long in
+        let after : drop (n + m) new ≡ drop (n + m) out = sym (drop-drop m n new) ∙ ap (drop m) behind ∙ drop-drop m n out in
+        let e : at + length (part ++ next) ≡ n + m = rw length-append (omega arith) in
         rw (before, after, e) (simp append-assoc)

@@ -51,7 +51,11 @@ fn terms_at(
     remaining: usize,
     place: usize,
 ) -> Convergence
-    requires { ⌜ (initial + 4 * place + 4 ≤ length (now run)) × (long + 4 * place + 4 ≤ length (now run)) × (period + place < length (now run)) × (remaining + place < length (now run)) × (length (now run) ≡ 4554) ⌝ }
+    requires { ⌜ initial + 4 * place + 4 ≤ length (now run) ⌝ }
+    requires { ⌜ long + 4 * place + 4 ≤ length (now run) ⌝ }
+    requires { ⌜ period + place < length (now run) ⌝ }
+    requires { ⌜ remaining + place < length (now run) ⌝ }
+    requires { ⌜ length (now run) ≡ 4554 ⌝ }
     ensures { λ r. ⌜ r ≡ termsAt (now (run .entry)) initial long period remaining place ⌝ }
 {
     Convergence {

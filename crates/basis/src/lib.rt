@@ -1,8 +1,9 @@
-// The basis: what a data run holds, and whether it may be used. These are the types that every layer above speaks in.
-pub mod checks;
+// The basis: what an accepted data run holds, and the types that every layer above speaks in.
 pub mod fields;
 pub mod little_endian;
-pub mod tables;
+
+ghost use mathlib.Core.Path.{_≡_};
+ghost use Rattle.basis.specs.Outcome.{firstOf};
 
 // A refusal: its number and its two places (01, "Who can cause a refusal").
 #[repr(C)]
@@ -39,41 +40,12 @@ pub struct Convergence {
     pub remaining: u8,
 }
 
-// A kind of number in a data run: a byte, 2 bytes, 4 bytes, 4 bytes signed.
-pub enum Number {
-    Byte,
-    Half,
-    Word,
-    SignedWord,
-}
-
-// A lower limit: a number, or the foundation year of the run itself.
-pub enum Limit {
-    Is(i64),
-    FoundationYear,
-}
-
-// Numbers of one kind, one after the other: the refusal of one outside its limits, the kind, the two limits, the offset
-// of the first, and how many there are.
-pub struct Field(
-    pub u32,
-    pub Number,
-    pub Limit,
-    pub i64,
-    pub usize,
-    pub usize,
-);
-
-// The tables of a data run in the order in which they stand there: one entry for each age from 20, or for each birth
-// year from 1842. Periods are T, proportions P.
-pub enum Table {
-    BaseRates,
-    AgeInitialRates,
-    AgeLongTermRates,
-    AgePeriods,
-    AgeProportions,
-    BirthYearInitialRates,
-    BirthYearLongTermRates,
-    BirthYearPeriods,
-    BirthYearProportions,
+// The first refusal of two checks.
+pub fn first_of(first: Check, next: Check) -> Check
+    ensures { λ r. ⌜ r ≡ firstOf first next ⌝ }
+{
+    match first {
+        Check::Passed => next,
+        Check::Refused(r) => Check::Refused(r),
+    }
 }

@@ -27,7 +27,7 @@ pub fn read_u32(s: &[u8], at: usize) -> u32
 }
 
 // The signed number that 32 bits stand for. A cast would refuse the upper half, so that is reached from -1 downwards.
-pub fn to_signed(n: u32) -> i32
+fn to_signed(n: u32) -> i32
     ensures { λ r. ⌜ r ≡ signed32 n ⌝ }
 {
     if n < 2147483648 {

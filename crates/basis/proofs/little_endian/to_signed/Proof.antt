@@ -3,15 +3,20 @@ use borrow.Author.Needs.{needs}
 use borrow.Author.Tests.{lt-ltb, le-ltb}
 use native.Mathlib.Omega.{arith}
 use mir.Facts.{toZ-pos, toZ-ofZ}
-use mathlib.Core.Path.{ap}
+use mathlib.Core.Path.{_≡_, refl, ap}
 use mir.Syntax.{w32}
 use mir.Val.{SFits}
-use lib.IntN.{negsuc}
-use Prim.Native.Nat.{_-_, _<_, _^_}
-use Rattle.basis.proofs.Signed.{less-one}
+use lib.IntN.{pos, negsuc, _-ℤ_}
+use Prim.Native.Nat.{ℕ, zero, suc, _-_, _<_, _^_}
+use native.Mathlib.Nat.{zero-add}
 use Rattle.basis.specs.Bytes.{signed32}
 use Rattle.basis.proofs.little_endian.to_signed.Statement.{statement}
 use Rattle.basis.proofs.little_endian.to_signed.Tie as tie
+
+-- -1 - k is negsuc k
+less-one : (k : ℕ) → negsuc 0 -ℤ pos k ≡ negsuc k
+less-one zero = refl
+less-one (suc k) = simp zero-add
 
 cast-result : tie.Need-cast-result
 cast-result c = search needs

@@ -1,0 +1,4 @@
+mod Turns
+pub mod Limits
+mod Fields
+pub mod Acceptance

@@ -1,0 +1,115 @@
+-- A refused run gives the empty stretch, a run that passed the table's, which ends inside the run.
+use mathlib.Core.Path.{_≡_, refl, ap, sym, _∙_}
+use mathlib.Core.List.{List, []}
+use Prim.Native.Nat.{ℕ, _+_, _-_, _≤_}
+use native.Mathlib.Nat.{zero-add}
+use native.Mathlib.Omega.{arith}
+use lib.ListN.{take, drop}
+use Rattle.basis.specs.declared.Refusal.{Refusal}
+use Rattle.basis.specs.declared.Check.{Check}
+use Rattle.basis.specs.declared.Check.the-variants.{Passed, Refused}
+use Rattle.run_check.specs.Run.{runCheck}
+use Rattle.run_check.proofs.Acceptance.{accepted}
+use Rattle.tables.specs.declared.Table.{Table}
+use Rattle.tables.specs.declared.Stretch.{Stretch}
+use Rattle.tables.specs.Tables.{stretchOf, handedBack, bytesOf, tableStart, tableOf}
+use Rattle.tables.proofs.Stretches.{inside}
+use borrow.Author.Needs.{needs}
+use Rattle.tables.proofs.table_of.Statement.{statement}
+use Rattle.tables.proofs.table_of.Tie as tie
+
+-- ---- what is handed back, by what the check says
+module _ (run : List ℕ) (table : Table) where
+  handed : {c : Check} → runCheck run ≡ c
+      → (tableOf run table ≡ bytesOf run (handedBack c table)) × (tableStart run table ≡ handedBack c table .0)
+  unfolding tableOf tableStart
+  handed h = (ap (λ (c : Check). bytesOf run (handedBack c table)) h, ap (λ (c : Check). handedBack c table .0) h)
+
+  refused-table : {r : Refusal} → runCheck run ≡ Refused r → (tableOf run table ≡ []) × (tableStart run table ≡ 0)
+  refused-table h = handed h
+
+  passed-table : {s : Stretch} → runCheck run ≡ Passed → s ≡ stretchOf table
+      → (take (s .0 + s .1 - s .0) (drop (s .0) run) ≡ tableOf run table) × (s .0 ≡ tableStart run table)
+  passed-table {s} h e =
+      let cut : s .0 + s .1 - s .0 ≡ s .1 = omega arith in
+      let k = handed h in
+      (rw cut (ap (bytesOf run) e ∙ sym (k .0)), ap (λ (x : Stretch). x .0) e ∙ sym (k .1))
+
+-- ---- a refused run
+check-run-requires : tie.Need-check-run-requires
+check-run-requires c κs = search needs
+
+enum-told : tie.Need-enum-told
+enum-told c = search needs
+
+sub-result : tie.Need-sub-result
+sub-result c = search needs
+
+part-result-start : tie.Need-part-result-start
+part-result-start c = search needs
+
+part-result-end : tie.Need-part-result-end
+part-result-end c = search needs
+
+returns : tie.Need-returns
+returns c =
+    let k = c .before .before .before in
+    let s = k .before .before .args in
+    let t = refused-table (s .run .now) (s .table) (sym (k .check-run .ensures) ∙ c .before .enum-told .given .1) in
+    (sym (t .0), rw (t .1, zero-add) refl)
+
+-- ---- a run that passed, and the table's stretch in it
+enum-told-2 : tie.Need-enum-told-2
+enum-told-2 c = search needs
+
+stretch-of-requires : tie.Need-stretch-of-requires
+stretch-of-requires c κs = search needs
+
+record Passing (c : tie.After-struct-known) : Type 0 where
+  passed : runCheck (c .before .before .before .before .before .before .args .run .now) ≡ Passed
+  in-run : c .before .stretch-of .result .0 + c .before .stretch-of .result .1 ≤ 4554
+
+passing : (c : tie.After-struct-known) → Passing c
+passing c =
+    let t = c .before .before in
+    record {
+      passed = sym (t .before .before .check-run .ensures) ∙ t .enum-told2 .given .1;
+      in-run = rw (c .before .stretch-of .ensures) (inside (t .before .before .before .before .args .table));
+    }
+
+add-end : tie.Need-add-end
+add-end c = omega (arith, passing c .in-run)
+
+sub-result-2 : tie.Need-sub-result-2
+sub-result-2 c = search needs
+
+part-result-start-2 : tie.Need-part-result-start-2
+part-result-start-2 c = search needs
+
+part-result-end-2 : tie.Need-part-result-end-2
+part-result-end-2 c = let p = passing c in omega (arith, accepted _ (p .passed) .size, p .in-run)
+
+returns-2 : tie.Need-returns-2
+returns-2 c =
+    let t = c .before .before in
+    let s = t .before .before .before .before .before .args in
+    let p = passed-table (s .run .now) (s .table) (passing (c .before) .passed) (t .stretch-of .ensures) in
+    (p .0, rw (← p .1) refl)
+
+pub table-of-spec : {M : Type 1} → statement M
+table-of-spec =
+    tie.close
+    (tie.spec
+    check-run-requires
+    enum-told
+    sub-result
+    part-result-start
+    part-result-end
+    returns
+    enum-told-2
+    stretch-of-requires
+    add-end
+    sub-result-2
+    part-result-start-2
+    part-result-end-2
+    returns-2)
