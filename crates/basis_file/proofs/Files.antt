@@ -11,8 +11,8 @@ use lib.Seq.{drop-drop}
 use Rattle.basis.specs.declared.Check.{Check}
 use Rattle.basis.specs.declared.Check.the-variants.{Passed, Refused}
 use Rattle.basis.specs.Outcome.{refusal, firstOf}
-use Rattle.basis.specs.Run.{runCheck}
-use Rattle.basis.proofs.Acceptance.{accepted}
+use Rattle.run_check.specs.Run.{runCheck}
+use Rattle.run_check.proofs.Acceptance.{accepted}
 use Rattle.basis_file.specs.Block.{blockCheck, blockOf}
 use Rattle.basis_file.specs.File.{blocksCheck, partsOf, runIn, fileCheck, blocksOf, fileOf}
 use Rattle.basis_file.proofs.Blocks.{length-block}

@@ -7,7 +7,7 @@ use lib.ListN.{length, take, drop, getD, length-take, length-drop, take-append-d
 use lib.Seq.{take-at, drop-at, take-take, take-add, getD-take, getD-drop, getD-append-add}
 use Rattle.basis.specs.declared.Check.the-variants.{Passed}
 use Rattle.basis.specs.Bytes.{u16At, u32At, u16Bytes, u32Bytes}
-use Rattle.basis.specs.Run.{runCheck}
+use Rattle.run_check.specs.Run.{runCheck}
 use Rattle.basis.proofs.Outcome.{both-passed}
 use Rattle.basis.proofs.Bytes.{u16-back, u32-back, bytes-of-u16, bytes-of-u32}
 use Rattle.basis_file.specs.Block.{blockCheckOf, blockCheck, blockOf}

@@ -6,7 +6,7 @@ use lib.Dec.{eqb}
 use Rattle.basis.specs.declared.Check.{Check}
 use Rattle.basis.specs.declared.Check.the-variants.{Passed}
 use Rattle.basis.specs.Outcome.{refusal, unless, firstOf}
-use Rattle.basis.specs.Run.{runCheck}
+use Rattle.run_check.specs.Run.{runCheck}
 use Rattle.basis_file.specs.Block.{blockCheck, blockOf}
 
 -- n blocks, ascending, the first of them at a place

@@ -10,7 +10,6 @@ use crate::block;
 use crate::copy;
 use basis::Check;
 use basis::Refusal;
-use basis::checks;
 
 // The nine blocks, ascending.
 fn check_blocks(file: &[u8]) -> Check
@@ -57,7 +56,7 @@ pub fn check_file(file: &[u8]) -> Check
         Check::Passed => {
             let mut run = [0u8; 4554];
             join_parts(file, &mut run);
-            checks::check_run(&run)
+            run_check::check_run(&run)
         }
         Check::Refused(_) => c,
     }

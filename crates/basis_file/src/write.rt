@@ -5,12 +5,11 @@ ghost use Prim.Native.Nat.{_≤_};
 ghost use lib.ListN.{length, drop};
 ghost use Rattle.basis.specs.Outcome.{firstOf};
 ghost use Rattle.basis.specs.Lent.{roomCheck, written};
-ghost use Rattle.basis.specs.Run.{runCheck};
+ghost use Rattle.run_check.specs.Run.{runCheck};
 ghost use Rattle.basis_file.specs.File.{fileOf};
 use crate::block;
 use basis::Check;
 use basis::Refusal;
-use basis::checks;
 
 // The nine blocks, in the front of `file`.
 fn write_blocks(run: &[u8], file: &mut [u8])
@@ -38,7 +37,7 @@ pub fn write_file(run: &[u8], file: &mut [u8]) -> Check
             second: 0,
         });
     }
-    let c = checks::check_run(run);
+    let c = run_check::check_run(run);
     if let Check::Passed = c {
         write_blocks(run, file);
     }

@@ -10,8 +10,8 @@ use Rattle.basis.specs.declared.Check.{Check}
 use Rattle.basis.specs.declared.Check.the-variants.{Passed, Refused}
 use Rattle.basis.specs.Basis.{Basis, basisOf, Accepted}
 use Rattle.basis.specs.Outcome.{refusal}
-use Rattle.basis.specs.Run.{runCheck}
-use Rattle.basis.proofs.Acceptance.{accepted}
+use Rattle.run_check.specs.Run.{runCheck}
+use Rattle.run_check.proofs.Acceptance.{accepted}
 use Rattle.basis.proofs.Outcome.{both-passed, unless-passed}
 use Rattle.model_points.specs.declared.Point.{Point}
 use Rattle.model_points.specs.Points.{answeredOf}

@@ -7,7 +7,7 @@ use Rattle.basis.specs.declared.Check.{Check}
 use Rattle.basis.specs.declared.Check.the-variants.{Passed, Refused}
 use Rattle.basis.specs.Lent.{roomCheck}
 use Rattle.basis.specs.Outcome.{Outcome, value, refused, refusal, firstOf, noRefusal}
-use Rattle.basis.specs.Run.{runCheck}
+use Rattle.run_check.specs.Run.{runCheck}
 use Rattle.basis_file.specs.File.{fileCheck}
 use Rattle.short_form.specs.ShortForm.{shortFormCheck}
 use Rattle.engine.specs.declared.CAnswer.{CAnswer}

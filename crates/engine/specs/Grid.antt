@@ -7,7 +7,7 @@ use Rattle.basis.specs.declared.Check.{Check}
 use Rattle.basis.specs.declared.Check.the-variants.{Passed, Refused}
 use Rattle.basis.specs.Basis.{Basis, basisOf}
 use Rattle.basis.specs.Outcome.{refusal, unless, firstOf}
-use Rattle.basis.specs.Run.{runCheck}
+use Rattle.run_check.specs.Run.{runCheck}
 use Rattle.model_points.specs.declared.Point.{Point}
 use Rattle.model_points.specs.Points.{answeredOf}
 use Rattle.engine.specs.declared.GridStart.{GridStart}

@@ -1,7 +1,7 @@
 // The basis: a data run checked, a basis file read and written, a short form made.
 ghost use mathlib.Core.Path.{_≡_};
 ghost use Rattle.basis.specs.Lent.{written};
-ghost use Rattle.basis.specs.Run.{runCheck};
+ghost use Rattle.run_check.specs.Run.{runCheck};
 ghost use Rattle.basis_file.specs.File.{runIn, fileOf};
 ghost use Rattle.short_form.specs.ShortForm.{shortFormOf};
 ghost use Rattle.engine.specs.Enquiry.{refusalOf, readCheck, writeCheck, shortCheck};
@@ -12,7 +12,7 @@ use basis::Refusal;
 pub extern "C" fn parvusek_check_basis(run: &[u8]) -> Refusal
     ensures { λ r. ⌜ r ≡ refusalOf (runCheck (now (run .entry))) ⌝ }
 {
-    answers::refusal_of(basis::checks::check_run(run))
+    answers::refusal_of(run_check::check_run(run))
 }
 
 // The data run of a basis file, into the front of `run`.

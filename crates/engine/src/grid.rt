@@ -15,7 +15,7 @@ fn check_grid(run: &[u8], count: usize) -> Check
     ensures { λ r. ⌜ r ≡ gridCheck (now (run .entry)) count ⌝ }
 {
     if 119 <= count {
-        basis::checks::check_run(run)
+        run_check::check_run(run)
     } else {
         Check::Refused(Refusal {
             number: 11,

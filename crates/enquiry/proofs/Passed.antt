@@ -9,10 +9,10 @@ use borrow.Author.Tests.{leb-true}
 use Rattle.basis.specs.declared.Check.{Check}
 use Rattle.basis.specs.declared.Check.the-variants.{Passed}
 use Rattle.basis.specs.Basis.{Basis, basisOf, Accepted}
-use Rattle.basis.specs.Run.{runCheck}
+use Rattle.run_check.specs.Run.{runCheck}
 use Rattle.basis.specs.Outcome.{refusal, firstOf}
 use Rattle.basis.proofs.Outcome.{unless-passed, both-passed}
-use Rattle.basis.proofs.Acceptance.{accepted}
+use Rattle.run_check.proofs.Acceptance.{accepted}
 use Rattle.enquiry.specs.Enquiry.{inRange, ageCheck, defermentCheck, yearCheck, cellCheck, questionCheck, valuationCheck}
 
 pub in-range : (low high n : ℕ) → inRange low high n ≡ true → (low ≤ n) × (n ≤ high)

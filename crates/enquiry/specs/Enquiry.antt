@@ -6,7 +6,7 @@ use lib.Dec.{leb}
 use lib.IntN.{ℤ}
 use Rattle.basis.specs.declared.Check.{Check}
 use Rattle.basis.specs.Basis.{Basis, basisOf}
-use Rattle.basis.specs.Run.{runCheck}
+use Rattle.run_check.specs.Run.{runCheck}
 use Rattle.basis.specs.Outcome.{Outcome, refusal, unless, firstOf, checked}
 use Rattle.projection.specs.Projection.{improvementOf, improvementNeeded, factorOf, rateOf}
 use Rattle.valuation.specs.declared.Kind.{Kind}

@@ -2,7 +2,7 @@
 ghost use mathlib.Core.Path.{_≡_};
 ghost use Rattle.basis.specs.Basis.{basisOf};
 ghost use Rattle.basis.specs.Outcome.{firstOf, meaning, signedMeaning};
-ghost use Rattle.basis.specs.Run.{runCheck};
+ghost use Rattle.run_check.specs.Run.{runCheck};
 ghost use Rattle.enquiry.specs.Enquiry.{cellCheck, improvementEnquiry, factorEnquiry, rateEnquiry};
 use crate::checks;
 use basis::Answer;
@@ -13,7 +13,7 @@ use basis::SignedAnswer;
 fn check_from_foundation(run: &[u8], age: u32, year: u32) -> Check
     ensures { λ r. ⌜ r ≡ firstOf (runCheck (now (run .entry))) (cellCheck (basisOf (now (run .entry)) .foundation) age year) ⌝ }
 {
-    match basis::checks::check_run(run) {
+    match run_check::check_run(run) {
         Check::Passed => checks::check_cell(basis::fields::foundation_year(run), age, year),
         Check::Refused(r) => Check::Refused(r),
     }
@@ -23,7 +23,7 @@ fn check_from_foundation(run: &[u8], age: u32, year: u32) -> Check
 fn check_from_base(run: &[u8], age: u32, year: u32) -> Check
     ensures { λ r. ⌜ r ≡ firstOf (runCheck (now (run .entry))) (cellCheck (basisOf (now (run .entry)) .base) age year) ⌝ }
 {
-    match basis::checks::check_run(run) {
+    match run_check::check_run(run) {
         Check::Passed => checks::check_cell(basis::fields::base_year(run), age, year),
         Check::Refused(r) => Check::Refused(r),
     }

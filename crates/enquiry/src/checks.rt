@@ -4,7 +4,6 @@ ghost use Rattle.basis.specs.Basis.{basisOf, Accepted};
 ghost use Rattle.enquiry.specs.Enquiry.{inRange, ageCheck, defermentCheck, yearCheck, cellCheck, questionCheck};
 use basis::Check;
 use basis::Refusal;
-use basis::checks;
 
 fn is_in_range(low: u32, high: u32, n: u32) -> bool
     ensures { λ r. ⌜ r ≡ inRange low high n ⌝ }
@@ -61,7 +60,7 @@ fn check_year(first: u32, year: u32) -> Check
 pub(crate) fn check_cell(first: u32, age: u32, year: u32) -> Check
     ensures { λ r. ⌜ r ≡ cellCheck first age year ⌝ }
 {
-    checks::first_of(check_age(age), check_year(first, year))
+    basis::first_of(check_age(age), check_year(first, year))
 }
 
 // 6, then 8, then 7, for years from B on.
@@ -70,8 +69,8 @@ pub fn check_question(run: &[u8], age: u32, deferment: u32, year: u32) -> Check
     ensures { λ r. ⌜ r ≡ questionCheck (basisOf (now (run .entry))) age deferment year ⌝ }
 {
     let of_year = check_year(basis::fields::base_year(run), year);
-    checks::first_of(
+    basis::first_of(
         check_age(age),
-        checks::first_of(check_deferment(age, deferment), of_year),
+        basis::first_of(check_deferment(age, deferment), of_year),
     )
 }

@@ -11,7 +11,7 @@ use valuation::Kind;
 pub fn check_valuation(run: &[u8], age: u32, deferment: u32, year: u32) -> Check
     ensures { λ r. ⌜ r ≡ valuationCheck (now (run .entry)) age deferment year ⌝ }
 {
-    match basis::checks::check_run(run) {
+    match run_check::check_run(run) {
         Check::Passed => checks::check_question(run, age, deferment, year),
         Check::Refused(r) => Check::Refused(r),
     }

@@ -10,7 +10,7 @@ use Rattle.basis.specs.declared.Check.the-variants.{Passed, Refused}
 use Rattle.basis.specs.declared.Refusal.{Refusal}
 use Rattle.basis.specs.Basis.{basisOf, Accepted}
 use Rattle.basis.specs.Lent.{written}
-use Rattle.basis.proofs.Acceptance.{accepted}
+use Rattle.run_check.proofs.Acceptance.{accepted}
 use Rattle.basis.proofs.Lent.{filled}
 use Rattle.basis_file.specs.File.{fileCheck, runIn}
 use Rattle.basis_file.proofs.RoundTrip.{run-accepted}

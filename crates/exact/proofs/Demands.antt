@@ -6,7 +6,7 @@ use native.Mathlib.Omega.{arith}
 use Rattle.arithmetic.proofs.Distance.{within-more}
 use Rattle.basis.specs.Basis.{basisOf}
 use Rattle.basis.specs.Outcome.{firstOf}
-use Rattle.basis.specs.Run.{runCheck}
+use Rattle.run_check.specs.Run.{runCheck}
 use Rattle.basis.proofs.Outcome.{checked-value}
 use Rattle.projection.specs.Projection.{factorOf, rateOf}
 use Rattle.valuation.specs.Valuation.{yearOn, survivorsOf, expectationOf, annuityOf}

@@ -12,8 +12,8 @@ use Rattle.basis.specs.declared.Refusal.{Refusal}
 use Rattle.basis.specs.Basis.{basisOf, Accepted}
 use Rattle.basis.specs.Outcome.{refusal, firstOf}
 use Rattle.basis.proofs.Outcome.{unless-passed, both-passed}
-use Rattle.basis.specs.Run.{runCheck}
-use Rattle.basis.proofs.Acceptance.{accepted}
+use Rattle.run_check.specs.Run.{runCheck}
+use Rattle.run_check.proofs.Acceptance.{accepted}
 use Rattle.enquiry.specs.Enquiry.{inRange, ageCheck, valuationCheck}
 use Rattle.enquiry.proofs.Passed.{in-range, age-passed}
 use Rattle.valuation.specs.Valuation.{survivorsAfterYear}

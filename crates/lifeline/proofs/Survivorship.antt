@@ -12,7 +12,7 @@ use Rattle.arithmetic.specs.Fraction.{U}
 use Rattle.basis.specs.declared.Check.{Check}
 use Rattle.basis.specs.declared.Check.the-variants.{Passed, Refused}
 use Rattle.basis.specs.Basis.{basisOf}
-use Rattle.basis.specs.Run.{runCheck}
+use Rattle.run_check.specs.Run.{runCheck}
 use Rattle.basis.specs.Outcome.{Outcome, value, refused}
 use Rattle.basis.proofs.Outcome.{both-passed, checked-value}
 use Rattle.valuation.specs.declared.Kind.the-variants.{Cohort}

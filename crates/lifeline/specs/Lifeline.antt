@@ -9,7 +9,7 @@ use Rattle.arithmetic.specs.Fraction.{U}
 use Rattle.basis.specs.declared.Check.{Check}
 use Rattle.basis.specs.declared.Check.the-variants.{Passed, Refused}
 use Rattle.basis.specs.Basis.{Basis, basisOf}
-use Rattle.basis.specs.Run.{runCheck}
+use Rattle.run_check.specs.Run.{runCheck}
 use Rattle.basis.specs.Outcome.{Outcome, value, refused, refusal, unless, firstOf}
 use Rattle.enquiry.specs.Enquiry.{inRange, ageCheck, valuationCheck}
 use Rattle.valuation.specs.Valuation.{survivorsAfterYear}

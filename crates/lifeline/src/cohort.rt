@@ -12,7 +12,6 @@ use crate::Status;
 use basis::Answer;
 use basis::Check;
 use basis::Refusal;
-use basis::checks;
 
 const UNIT: u64 = 1_000_000_000;
 
@@ -79,9 +78,9 @@ fn check_standing(run: &[u8], age: u32, year: u32, survivors: u64) -> Check
     ensures { λ r. ⌜ r ≡ standingCheck (basisOf (now (run .entry))) age year survivors ⌝ }
 {
     let of_year = check_standing_year(basis::fields::base_year(run), age, year);
-    checks::first_of(
+    basis::first_of(
         enquiry::checks::check_age(age),
-        checks::first_of(of_year, check_survivors(survivors)),
+        basis::first_of(of_year, check_survivors(survivors)),
     )
 }
 
@@ -89,7 +88,7 @@ fn check_standing(run: &[u8], age: u32, year: u32, survivors: u64) -> Check
 fn check_step(run: &[u8], age: u32, year: u32, survivors: u64) -> Check
     ensures { λ r. ⌜ r ≡ stepCheck (now (run .entry)) age year survivors ⌝ }
 {
-    match checks::check_run(run) {
+    match run_check::check_run(run) {
         Check::Passed => check_standing(run, age, year, survivors),
         Check::Refused(r) => Check::Refused(r),
     }

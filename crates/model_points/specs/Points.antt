@@ -7,7 +7,7 @@ use Rattle.basis.specs.declared.Check.{Check}
 use Rattle.basis.specs.declared.Check.the-variants.{Passed, Refused}
 use Rattle.basis.specs.Basis.{Basis, basisOf}
 use Rattle.basis.specs.Outcome.{Outcome, value, refused, checked, andThen, noRefusal}
-use Rattle.basis.specs.Run.{runCheck}
+use Rattle.run_check.specs.Run.{runCheck}
 use Rattle.enquiry.specs.Enquiry.{questionCheck}
 use Rattle.valuation.specs.declared.Kind.the-variants.{Period, Cohort}
 use Rattle.valuation.specs.Valuation.{expectationOf, annuityOf}

@@ -35,7 +35,7 @@ pub fn small_set(run: &[u8], questions: Questions) -> SmallSet
         first: 0,
         second: 0,
     };
-    match basis::checks::check_run(run) {
+    match run_check::check_run(run) {
         Check::Passed => {
             let asked = questions.points;
             let points = six(run, asked);

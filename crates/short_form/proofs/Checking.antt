@@ -9,9 +9,9 @@ use Rattle.basis.specs.declared.Refusal.{Refusal}
 use Rattle.basis.specs.declared.Check.{Check}
 use Rattle.basis.specs.declared.Check.the-variants.{Passed, Refused}
 use Rattle.basis.specs.Outcome.{refusal, unless}
-use Rattle.basis.specs.Run.{between, runCheck}
+use Rattle.run_check.specs.Run.{between, runCheck}
 use Rattle.basis.proofs.Outcome.{first-stands, both-passed}
-use Rattle.basis.proofs.Rows.{opened, size}
+use Rattle.run_check.proofs.Limits.{opened, size}
 use Rattle.short_form.specs.ShortForm.{shortFormCheck}
 
 module _ (run : List ℕ) (rate : ℤ) where

@@ -10,7 +10,7 @@ use Rattle.basis.specs.declared.Check.{Check}
 use Rattle.basis.specs.declared.Convergence.{Convergence}
 use Rattle.basis.specs.Bytes.{i32Bytes}
 use Rattle.basis.specs.Outcome.{refusal, unless, firstOf}
-use Rattle.basis.specs.Run.{between, runCheck}
+use Rattle.run_check.specs.Run.{between, runCheck}
 use Rattle.basis.specs.Basis.{Basis}
 
 -- ---- the rates by age

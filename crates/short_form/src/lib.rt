@@ -9,17 +9,16 @@ ghost use Rattle.basis.specs.Lent.{roomCheck, written};
 ghost use Rattle.short_form.specs.ShortForm.{shortFormOf, shortFormCheck};
 use basis::Check;
 use basis::Refusal;
-use basis::checks;
 
 // The run's own check, then S.
 fn check_short_form(run: &[u8], rate: i32) -> Check
     ensures { λ r. ⌜ r ≡ shortFormCheck (now (run .entry)) rate ⌝ }
 {
-    let c = checks::check_run(run);
+    let c = run_check::check_run(run);
     if let Check::Refused(_) = c {
         return c;
     }
-    if checks::in_limits(-200_000_000, 200_000_000, rate as i64) {
+    if run_check::in_limits(-200_000_000, 200_000_000, rate as i64) {
         Check::Passed
     } else {
         Check::Refused(Refusal {

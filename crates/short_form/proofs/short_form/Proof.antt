@@ -2,7 +2,7 @@
 use mathlib.Core.Path.{refl, sym, _∙_}
 use native.Mathlib.Omega.{arith}
 use Rattle.basis.proofs.Lent.{short, roomy, filled, kept}
-use Rattle.basis.proofs.Acceptance.{accepted}
+use Rattle.run_check.proofs.Acceptance.{accepted}
 use mir.Facts.{toZ-ofZ}
 use Rattle.short_form.proofs.Checking.{passed}
 use Rattle.short_form.proofs.Placing.{length-short-form, short-form-placed}

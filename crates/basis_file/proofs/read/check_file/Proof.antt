@@ -1,7 +1,7 @@
 -- The length and the blocks are checked as the definition has it, and the array that the parts fill whole is the run.
 use mathlib.Core.Path.{sym, ap, _∙_}
 use borrow.Author.Needs.{needs}
-use Rattle.basis.specs.Run.{runCheck}
+use Rattle.run_check.specs.Run.{runCheck}
 use Rattle.basis.proofs.Outcome.{first-stands, first-passed}
 use Rattle.basis_file.proofs.Files.{wrong-length, whole-file, all-filled}
 use Rattle.basis_file.proofs.read.check_file.Statement.{statement}

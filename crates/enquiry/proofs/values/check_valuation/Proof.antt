@@ -2,7 +2,7 @@
 use mathlib.Core.Path.{_∙_, sym}
 use borrow.Author.Needs.{needs}
 use Rattle.basis.proofs.Outcome.{first-passed, first-refused}
-use Rattle.basis.proofs.Acceptance.{accepted}
+use Rattle.run_check.proofs.Acceptance.{accepted}
 use Rattle.enquiry.proofs.values.check_valuation.Statement.{statement}
 use Rattle.enquiry.proofs.values.check_valuation.Tie as tie
 

@@ -1,7 +1,7 @@
 -- The run's check decides; an accepted run is what the six answers ask for.
 use mathlib.Core.Path.{_∙_, sym}
 use borrow.Author.Needs.{needs}
-use Rattle.basis.proofs.Acceptance.{accepted}
+use Rattle.run_check.proofs.Acceptance.{accepted}
 use Rattle.model_points.specs.Points.{smallSetOf}
 use Rattle.model_points.proofs.small_set.small_set.Statement.{statement}
 use Rattle.model_points.proofs.small_set.small_set.Tie as tie
