@@ -1,4 +1,3 @@
 pub mod Standing
 pub mod Survivorship
 mod After
-pub mod Walk

@@ -49,7 +49,7 @@ use Rattle.lifeline.specs.declared.Lifeline.{Lifeline}
 use Rattle.lifeline.specs.declared.Started.{Started}
 use Rattle.lifeline.specs.declared.Stepped.{Stepped}
 use Rattle.lifeline.proofs.After.{lineAfter, standOf, stand-is, after-none, after-one}
-use Rattle.lifeline.proofs.Walk.{tests}
+use Rattle.arithmetic.proofs.Walk.{tests}
 use Rattle.lifeline.proofs.Lifeline as L
 use Rattle.lifeline.proofs.Lifeline.Laws as L′
 use Rattle.lifeline.proofs.Started as Z

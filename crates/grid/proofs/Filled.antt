@@ -15,7 +15,7 @@ use Rattle.basis.proofs.Acceptance.{accepted}
 use Rattle.basis.proofs.Outcome.{both-passed, unless-passed}
 use Rattle.model_points.specs.declared.Point.{Point}
 use Rattle.model_points.specs.Points.{answeredOf}
-use Rattle.engine.specs.Grid.{countCheck, gridCheck, recordsOf, answers, gridOf}
+use Rattle.grid.specs.Grid.{countCheck, gridCheck, recordsOf, answers, gridOf}
 
 -- ---- the list with some records answered
 module _ (b : Basis) where

@@ -2,9 +2,9 @@
 use mathlib.Core.Path.{refl}
 use borrow.Author.Needs.{needs}
 use borrow.Author.Tests.{le-leb, lt-leb}
-use Rattle.engine.specs.Grid.{gridCheck}
-use Rattle.engine.proofs.grid.check_grid.Statement.{statement}
-use Rattle.engine.proofs.grid.check_grid.Tie as tie
+use Rattle.grid.specs.Grid.{gridCheck}
+use Rattle.grid.proofs.check_grid.Statement.{statement}
+use Rattle.grid.proofs.check_grid.Tie as tie
 
 check-run-requires : tie.Need-check-run-requires
 check-run-requires c κs = search needs

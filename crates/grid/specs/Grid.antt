@@ -10,8 +10,7 @@ use Rattle.basis.specs.Outcome.{refusal, unless, firstOf}
 use Rattle.basis.specs.Run.{runCheck}
 use Rattle.model_points.specs.declared.Point.{Point}
 use Rattle.model_points.specs.Points.{answeredOf}
-use Rattle.engine.specs.declared.GridStart.{GridStart}
-use Rattle.engine.specs.Enquiry.{refusalOf}
+use Rattle.grid.specs.declared.GridStart.{GridStart}
 
 -- a list shorter than 119 is refused as 11 with 119 for the bytes, before the basis is looked at
 abbrev pub countCheck : ℕ → Check
@@ -26,7 +25,7 @@ recordsOf Passed = 119
 recordsOf (Refused r) = 0
 
 abbrev pub gridStart : Check → GridStart
-gridStart check = record { refusal = refusalOf check; records = recordsOf check }
+gridStart check = record { check = check; records = recordsOf check }
 
 -- each of the first n records answered; further records are kept
 unfoldable pub answers : Basis → ℕ → List Point → List Point
