@@ -193,8 +193,8 @@ module _ {M : Type 1} (𝓤 : URA M) (H : Heap 𝓤) (A : Atoms 𝓤) (W : Given
   exits r w zs is room same e =
       qed W (‵ (Obs zs) ∷ ‵ (Bor zs) ∷ ‵ (flft κ₁ q₁) ∷ ‵ (flft κ₀ q₀) ∷ ‵ Own ∷ []) ∵
       suffices ! _ (ends-at 𝓤 H A fill.ended stayed (fill.clauses 𝓤 H A mem run) W bound w r (tt, (zs, tt)) (tt, (same, tt))) $
-      suffices ! _ (assoc∗ 𝓤 (onExit 𝓤 H A fill.ended stayed (κ₀, (κ₁, tt)) (q₀, (q₁, tt)) (v ∷ [], (u ∷ [], tt)) w r (s, (x xs, tt)) (tt, (zs, tt)))
-      (fact 𝓤 (r ≡ gridCheck (now s) (length xs))) (fact 𝓤 (zs ≡ gridOf (now s) xs))) $ says ! (e .1) $ says ! (e .0) $
+      suffices ! _ (assoc∗ 𝓤 (onExit 𝓤 H A fill.ended stayed (κ₀, (κ₁, tt)) (q₀, (q₁, tt)) (v ∷ [], (u ∷ [], tt)) w r (s, (x xs, tt)) (tt, (zs, tt))) (fact 𝓤 _) (fact 𝓤 _)) $
+      says ! (e .1) $ says ! (e .0) $
       fjoin ! $ pureI ! (at-slice P.the-row (x zs) (u ∷ [])) (tt, (tt, tt)) (ap (λ (m : ℕ). sliceVal (b, o) m ∷ []) (sym same), subst (Room P.the-row) (sym same) room) $ fjoin ! $
       nothing ! $ move ! (1 ∷ 0 ∷ []) $ fjoin ! $ move ! (3 ∷ 0 ∷ []) $ fjoin ! $
       nothing ! $ move ! (2 ∷ 0 ∷ []) $ join ! $ move ! (2 ∷ 0 ∷ []) $ join ! $ frame ! $ frame ! $

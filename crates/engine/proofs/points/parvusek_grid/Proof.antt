@@ -128,8 +128,7 @@ module _ {M : Type 1} (𝓤 : URA M) (H : Heap 𝓤) (A : Atoms 𝓤) (W : Given
   exits r w zs e f same =
       qed W ((‵ (flft κ₀ q₀) ⊛ ‵ (flft κ₁ q₁) ⊛ ‵ ftrue) ∷ ‵ Own ∷ ‵ (finally P.the-row γ zs) ∷ ‵ (F.the-row .own r (w ∷ [])) ∷ []) ∵
       suffices ! _ (ends-at 𝓤 H A grid.ended stayed (grid.clauses 𝓤 H A mem run) W bound w r (tt, (zs, tt)) (tt, (same, tt))) $
-      suffices ! _ (assoc∗ 𝓤 (onExit 𝓤 H A grid.ended stayed (κ₀, (κ₁, tt)) (q₀, (q₁, tt)) vals w r a (tt, (zs, tt))) (fact 𝓤 (r ≡ refusalOf (gridCheck (now s) (length xs))))
-      (fact 𝓤 (zs ≡ gridOf (now s) xs))) $
+      suffices ! _ (assoc∗ 𝓤 (onExit 𝓤 H A grid.ended stayed (κ₀, (κ₁, tt)) (q₀, (q₁, tt)) vals w r a (tt, (zs, tt))) (fact 𝓤 _) (fact 𝓤 _)) $
       says ! f $ says ! e $ frame ! $ nothing ! $ move ! (2 ∷ 0 ∷ []) $ fjoin ! $ move ! (1 ∷ 0 ∷ []) $ fjoin ! $ done !
 
   module _ (C : Calls 𝓤 H) (Λ : Loops 𝓤 H) (fm : FmC 𝓤 H (W .laws) C) (known-fill : Triple 𝓤 (C #grid·fill) (Fill 𝓤 H A mem run)) (known-refusal : Triple 𝓤 (C #engine·answers·refusal-of)
