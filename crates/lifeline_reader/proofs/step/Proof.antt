@@ -1,4 +1,4 @@
--- `lifeline::reader::step` meets its contract: a walk of its MIR, by hand. The struct is taken apart, `step_at` is called on its fields, and the two structs, one in the other, are made of the slice and what it returned.
+-- `lifeline_reader::step` meets its contract: a walk of its MIR, by hand. The struct is taken apart, `step_at` is called on its fields, and the two structs, one in the other, are made of the slice and what it returned.
 -- The struct is Copy: what it owns is had twice, one copy is kept whole for the exit, and the other, taken apart, is what the callee asks.
 -- Assumes nothing.
 use mathlib.Core.Path.{_≡_, refl, ap, subst}
@@ -41,27 +41,27 @@ use denote.Triple.Table.{entered, cited}
 use denote.Triple.Walked.{says, Stays, stay-none, walkOf, goes-none, Walks, ends-at, walked, walk-meets}
 use denote.Exit.{yes}
 use denote.Triple.Clauses.{ensured, lasts}
 use Rattle.lifeline.specs.Lifeline.{stepAt}
-use Rattle.lifeline.specs.Reader.{steppedTo}
+use Rattle.lifeline_reader.specs.Reader.{steppedTo}
 use Rattle.lifeline.specs.declared.Moved.{Moved}
-use Rattle.lifeline.specs.declared.Lifeline.{Lifeline}
-use Rattle.lifeline.specs.declared.Stepped.{Stepped}
+use Rattle.lifeline_reader.specs.declared.Lifeline.{Lifeline}
+use Rattle.lifeline_reader.specs.declared.Stepped.{Stepped}
 use Rattle.lifeline.proofs.Moved as B
 use Rattle.lifeline.proofs.Moved.Laws as B′
-use Rattle.lifeline.proofs.Lifeline as L
-use Rattle.lifeline.proofs.Lifeline.Laws as L′
+use Rattle.lifeline_reader.proofs.Lifeline as L
+use Rattle.lifeline_reader.proofs.Lifeline.Laws as L′
 use Rattle.lifeline.proofs.Status as F
 use Rattle.lifeline.proofs.Status.Laws as F′
-use Rattle.lifeline.proofs.Stepped as S
-use Rattle.lifeline.proofs.Stepped.Laws as S′
+use Rattle.lifeline_reader.proofs.Stepped as S
+use Rattle.lifeline_reader.proofs.Stepped.Laws as S′
 use Rattle.lifeline.proofs.cohort.step_at as step-at
 use Rattle.lifeline.proofs.cohort.step_at.Symbol as step-at-def
 use Rattle.lifeline.proofs.cohort.step_at.Symbol.{name as #lifeline·cohort·step-at}
 use Rattle.lifeline.proofs.cohort.step_at.Met as step-at-thm
-use Rattle.lifeline.proofs.reader.step.Key.{name as #lifeline·reader·step}
-use Rattle.lifeline.proofs.reader.step as step
-use Rattle.lifeline.proofs.reader.step.Statement as stated
-use Rattle.lifeline.proofs.reader.step.Code as code
+use Rattle.lifeline_reader.proofs.step.Key.{name as #lifeline-reader·step}
+use Rattle.lifeline_reader.proofs.step as step
+use Rattle.lifeline_reader.proofs.step.Statement as stated
+use Rattle.lifeline_reader.proofs.step.Code as code
 
 abbrev stayed : Stays (step.ended .signature .params) (step.ended .kept)
 stayed = (stay-none (λ κs. L.the-row (namedLft 1 0 tt κs)) yes, tt)
@@ -182,6 +182,6 @@ pub step-spec : {M : Type 1} → stated.statement M
 unfolding code.routine tablesOf
 step-spec 𝓤 H 𝓜 𝓖 𝓡 =
     entered 𝓤 H (tripleOf 𝓤 H (𝓖 .A) step.signature (step.spec 𝓤 H (𝓖 .A) (𝓜 .mem) (𝓡 .run)))
-    (tables 𝓤 H 𝓜 𝓡 code.env .C) (tables 𝓤 H 𝓜 𝓡 code.env .Λ) #lifeline·reader·step code.function (code.unfolded 𝓤 H 𝓜 𝓡)
+    (tables 𝓤 H 𝓜 𝓡 code.env .C) (tables 𝓤 H 𝓜 𝓡 code.env .Λ) #lifeline-reader·step code.function (code.unfolded 𝓤 H 𝓜 𝓡)
     (step-meets 𝓤 H (𝓖 .A) (givenOf 𝓤 H 𝓜 𝓖) (𝓜 .mem) (𝓡 .run) (tablesOf 𝓤 H 𝓜 (tables 𝓤 H 𝓜 𝓡 code.env))
     (cited 𝓤 H (StepAt 𝓤 H (𝓖 .A) (𝓜 .mem) (𝓡 .run)) 𝓜 𝓡 code.env #lifeline·cohort·step-at step-at-def.routine code.calls-lifeline·cohort·step-at (step-at-thm.met 𝓤 H 𝓜 𝓖 𝓡)))

@@ -1,4 +1,4 @@
--- `lifeline::reader::stand_after` meets its contract: a walk of its MIR, by hand, with a loop in it. A lifeline that `start` made is passed to `step` and taken out of its result, n times.
+-- `lifeline_reader::stand_after` meets its contract: a walk of its MIR, by hand, with a loop in it. A lifeline that `start` made is passed to `step` and taken out of its result, n times.
 -- The loop's invariant, at i: the local holds the line after i steps, and what a Lifeline owns is had of it. Assumes nothing.
 use mathlib.Core.Path.{_≡_, refl, sym, ap, _∙_, subst}
 use Prim.Native.Nat.{ℕ, _+_, _-_, _≤_, _<_, _^_, zero-le}
@@ -43,34 +43,34 @@ use denote.Triple.Table.{entered, cited}
 use denote.Triple.Walked.{says, Stays, stay-none, stay-none-slice, walkOf, goes-none, goes-none-slice, Walks, ends-at, walked, walk-meets}
 use denote.Exit.{yes}
 use denote.Triple.Clauses.{ensured, lasts}
 use Rattle.lifeline.specs.Lifeline.{standAfter}
-use Rattle.lifeline.specs.Reader.{started, stepped}
-use Rattle.lifeline.specs.declared.Lifeline.{Lifeline}
-use Rattle.lifeline.specs.declared.Started.{Started}
-use Rattle.lifeline.specs.declared.Stepped.{Stepped}
-use Rattle.lifeline.proofs.After.{lineAfter, standOf, stand-is, after-none, after-one}
+use Rattle.lifeline_reader.specs.Reader.{started, stepped}
+use Rattle.lifeline_reader.specs.declared.Lifeline.{Lifeline}
+use Rattle.lifeline_reader.specs.declared.Started.{Started}
+use Rattle.lifeline_reader.specs.declared.Stepped.{Stepped}
+use Rattle.lifeline_reader.proofs.After.{lineAfter, standOf, stand-is, after-none, after-one}
 use Rattle.arithmetic.proofs.Walk.{tests}
-use Rattle.lifeline.proofs.Lifeline as L
-use Rattle.lifeline.proofs.Lifeline.Laws as L′
-use Rattle.lifeline.proofs.Started as Z
-use Rattle.lifeline.proofs.Started.Laws as Z′
-use Rattle.lifeline.proofs.Stepped as S
-use Rattle.lifeline.proofs.Stepped.Laws as S′
+use Rattle.lifeline_reader.proofs.Lifeline as L
+use Rattle.lifeline_reader.proofs.Lifeline.Laws as L′
+use Rattle.lifeline_reader.proofs.Started as Z
+use Rattle.lifeline_reader.proofs.Started.Laws as Z′
+use Rattle.lifeline_reader.proofs.Stepped as S
+use Rattle.lifeline_reader.proofs.Stepped.Laws as S′
 use Rattle.lifeline.proofs.Stand as K
 use Rattle.lifeline.proofs.Stand.Laws as K′
-use Rattle.lifeline.proofs.reader.start as start
-use Rattle.lifeline.proofs.reader.start.Symbol as start-def
-use Rattle.lifeline.proofs.reader.start.Symbol.{name as #lifeline·reader·start}
-use Rattle.lifeline.proofs.reader.start.Met as start-thm
-use Rattle.lifeline.proofs.reader.step as step
-use Rattle.lifeline.proofs.reader.step.Symbol as step-def
-use Rattle.lifeline.proofs.reader.step.Symbol.{name as #lifeline·reader·step}
-use Rattle.lifeline.proofs.reader.step.Met as step-thm
-use Rattle.lifeline.proofs.reader.stand_after.Key.{name as #lifeline·reader·stand-after}
-use Rattle.lifeline.proofs.reader.stand_after as stand
-use Rattle.lifeline.proofs.reader.stand_after.Statement as stated
-use Rattle.lifeline.proofs.reader.stand_after.Code as code
-use Rattle.lifeline.proofs.reader.stand_after.Code.Mir as parts
+use Rattle.lifeline_reader.proofs.start as start
+use Rattle.lifeline_reader.proofs.start.Symbol as start-def
+use Rattle.lifeline_reader.proofs.start.Symbol.{name as #lifeline-reader·start}
+use Rattle.lifeline_reader.proofs.start.Met as start-thm
+use Rattle.lifeline_reader.proofs.step as step
+use Rattle.lifeline_reader.proofs.step.Symbol as step-def
+use Rattle.lifeline_reader.proofs.step.Symbol.{name as #lifeline-reader·step}
+use Rattle.lifeline_reader.proofs.step.Met as step-thm
+use Rattle.lifeline_reader.proofs.stand_after.Key.{name as #lifeline-reader·stand-after}
+use Rattle.lifeline_reader.proofs.stand_after as stand
+use Rattle.lifeline_reader.proofs.stand_after.Statement as stated
+use Rattle.lifeline_reader.proofs.stand_after.Code as code
+use Rattle.lifeline_reader.proofs.stand_after.Code.Mir as parts
 
 abbrev stayed : Stays (stand.ended .signature .params) (stand.ended .kept)
 stayed = (stay-none-slice (0 ∷ []) tt (plain (λ _. u8)) yes, (stay-none (λ _. u32) yes, (stay-none (λ _. u32) yes, (stay-none (λ _. u32) yes, tt))))
@@ -191,7 +191,7 @@ module _ {M : Type 1} (𝓤 : URA M) (H : Heap 𝓤) (A : Atoms 𝓤) (W : Given
       nothing ! $ owned ! u32 (Is u32) (uint-makes 𝓤 H A W w32) n _ (refl, n-fits) $ fjoin ! $ owned ! u32 (Is u32) (uint-makes 𝓤 H A W w32) t _ (refl, t-fits) $ fjoin ! $ owned ! u32 (Is u32) (uint-makes 𝓤 H A W w32) x _ (refl, x-fits) $ fjoin ! $ move ! (1 ∷ 0 ∷ []) $ fjoin ! $ frame ! $
       owned ! K.the-row (Is K.the-row) (LL.makes K.the-type K′.the-plain 𝓤 H A) (standOf d) _ (LL.owes K.the-type K′.the-laws (standOf d) (had .1 .0, (had .1 .1 .0, (had .1 .1 .1 .0, tt)))) $ done !
 
-  module _ (𝓣 : Tables 𝓤 H) (fm : FmC 𝓤 H (W .laws) (𝓣 .C)) (known-start : Triple 𝓤 (𝓣 .C #lifeline·reader·start) (Start 𝓤 H A mem run)) (known-step : Triple 𝓤 (𝓣 .C #lifeline·reader·step) (Step 𝓤 H A mem run))
+  module _ (𝓣 : Tables 𝓤 H) (fm : FmC 𝓤 H (W .laws) (𝓣 .C)) (known-start : Triple 𝓤 (𝓣 .C #lifeline-reader·start) (Start 𝓤 H A mem run)) (known-step : Triple 𝓤 (𝓣 .C #lifeline-reader·step) (Step 𝓤 H A mem run))
       (l₀ l₁ l₂ l₃ l₄ l₅ l₆ l₇ l₈ l₉ l₁₀ l₁₁ l₁₂ l₁₃ : ℕ) where
     abbrev C : Calls 𝓤 H
     C = 𝓣 .C
@@ -299,7 +299,7 @@ module _ {M : Type 1} (𝓤 : URA M) (H : Heap 𝓤) (A : Atoms 𝓤) (W : Given
         at-first r e = ap (λ (y : Started). y .line) e ∙ sym (after-none s x t)
 
   -- ---- the entry
-  walk : (𝓣 : Tables 𝓤 H) → FmC 𝓤 H (W .laws) (𝓣 .C) → Room u8 (length (s .now)) → Triple 𝓤 (𝓣 .C #lifeline·reader·start) (Start 𝓤 H A mem run) → Triple 𝓤 (𝓣 .C #lifeline·reader·step) (Step 𝓤 H A mem run)
+  walk : (𝓣 : Tables 𝓤 H) → FmC 𝓤 H (W .laws) (𝓣 .C) → Room u8 (length (s .now)) → Triple 𝓤 (𝓣 .C #lifeline-reader·start) (Start 𝓤 H A mem run) → Triple 𝓤 (𝓣 .C #lifeline-reader·step) (Step 𝓤 H A mem run)
       → ent 𝓤 (onEntry 𝓤 H A stand.signature (κ, tt) (q, tt) a at) (WpFn 𝓤 H (𝓣 .C) (𝓣 .Λ) function (v ∷ vint w32 x ∷ vint w32 t ∷ vint w32 n ∷ []) Post)
   walk 𝓣 fm room known-start known-step =
       qed W (Tok ∷ ‵ (owns (ShrSlice (named 0) κ u8 ∷ u32 ∷ u32 ∷ u32 ∷ []) a at) ∷ []) ∵ move ! (1 ∷ []) $ fsplit ! $ move ! (1 ∷ []) $ drop ! $ move ! (1 ∷ 0 ∷ []) $
@@ -309,11 +309,11 @@ module _ {M : Type 1} (𝓤 : URA M) (H : Heap 𝓤) (A : Atoms 𝓤) (W : Given
       move ! (28 ∷ 29 ∷ []) $ by ! (begins 𝓣 fm known-start known-step l₀ l₁ l₂ l₃ l₄ l₅ l₆ l₇ l₈ l₉ l₁₀ l₁₁ l₁₂ l₁₃)))))))))))))))
 
 module _ {M : Type 1} (𝓤 : URA M) (H : Heap 𝓤) (A : Atoms 𝓤) (W : Given 𝓤 H A) (mem : Memory → SProp 𝓤) (run : Routine → Fun 𝓤) (𝓣 : Tables 𝓤 H) where
-  stand-after-walks : Triple 𝓤 (𝓣 .C #lifeline·reader·start) (Start 𝓤 H A mem run) → Triple 𝓤 (𝓣 .C #lifeline·reader·step) (Step 𝓤 H A mem run) → Walks 𝓤 H A stand.ended stayed (WpFn 𝓤 H (𝓣 .C) (𝓣 .Λ) function) (stand.clauses 𝓤 H A mem run)
+  stand-after-walks : Triple 𝓤 (𝓣 .C #lifeline-reader·start) (Start 𝓤 H A mem run) → Triple 𝓤 (𝓣 .C #lifeline-reader·step) (Step 𝓤 H A mem run) → Walks 𝓤 H A stand.ended stayed (WpFn 𝓤 H (𝓣 .C) (𝓣 .Λ) function) (stand.clauses 𝓤 H A mem run)
   stand-after-walks known-start known-step = walked 𝓤 H A stand.ended stayed (stand.clauses 𝓤 H A mem run) (WpFn 𝓤 H (𝓣 .C) (𝓣 .Λ) function) (λ κs. (slice-vals, (uint-vals w32, (uint-vals w32, (uint-vals w32, tt))))) (λ κs. (shr-slice-tells (named 0) (κs .0) u8, (uint-tells w32, (uint-tells w32, (uint-tells w32, tt)))))
       (λ κs qs bounds a g are. via 𝓤 _ (fst∗ 𝓤 _ (emp 𝓤)) (walk 𝓤 H A W mem run (κs .0) (qs .0) (a .0) (a .1 .0) (a .1 .1 .0) (a .1 .1 .1 .0) (are .1 .0 .1) (are .1 .1 .0 .1) (are .1 .1 .1 .0 .1) 𝓣 (fmOf 𝓤 H (W .laws) 𝓣) (are .0 .0 .1) known-start known-step))
 
-  stand-after-meets : Triple 𝓤 (𝓣 .C #lifeline·reader·start) (Start 𝓤 H A mem run) → Triple 𝓤 (𝓣 .C #lifeline·reader·step) (Step 𝓤 H A mem run) → Meets 𝓤 H A stand.signature (WpFn 𝓤 H (𝓣 .C) (𝓣 .Λ) function) (stand.spec 𝓤 H A mem run)
+  stand-after-meets : Triple 𝓤 (𝓣 .C #lifeline-reader·start) (Start 𝓤 H A mem run) → Triple 𝓤 (𝓣 .C #lifeline-reader·step) (Step 𝓤 H A mem run) → Meets 𝓤 H A stand.signature (WpFn 𝓤 H (𝓣 .C) (𝓣 .Λ) function) (stand.spec 𝓤 H A mem run)
   stand-after-meets known-start known-step =
       walk-meets 𝓤 H A stand.ended stayed W (goes-none-slice 𝓤 H A W 1 (0 ∷ []) tt (plain (λ _. u8)) yes, (goes-none 𝓤 H A W 1 (λ _. u32) yes (λ κs x f. refl), (goes-none 𝓤 H A W 1 (λ _. u32) yes (λ κs x f. refl), (goes-none 𝓤 H A W 1 (λ _. u32) yes (λ κs x f. refl), tt))))
       (stand.clauses 𝓤 H A mem run) (WpFn 𝓤 H (𝓣 .C) (𝓣 .Λ) function) (WpFn-mono 𝓤 H (W .laws) 𝓣 function) (stand-after-walks known-start known-step)
@@ -322,7 +322,7 @@ pub stand-after-spec : {M : Type 1} → stated.statement M
 unfolding code.routine tablesOf
 stand-after-spec 𝓤 H 𝓜 𝓖 𝓡 =
     entered 𝓤 H (tripleOf 𝓤 H (𝓖 .A) stand.signature (stand.spec 𝓤 H (𝓖 .A) (𝓜 .mem) (𝓡 .run)))
-    (tables 𝓤 H 𝓜 𝓡 code.env .C) (tables 𝓤 H 𝓜 𝓡 code.env .Λ) #lifeline·reader·stand-after code.function (code.unfolded 𝓤 H 𝓜 𝓡)
+    (tables 𝓤 H 𝓜 𝓡 code.env .C) (tables 𝓤 H 𝓜 𝓡 code.env .Λ) #lifeline-reader·stand-after code.function (code.unfolded 𝓤 H 𝓜 𝓡)
     (stand-after-meets 𝓤 H (𝓖 .A) (givenOf 𝓤 H 𝓜 𝓖) (𝓜 .mem) (𝓡 .run) (tablesOf 𝓤 H 𝓜 (tables 𝓤 H 𝓜 𝓡 code.env))
-    (cited 𝓤 H (Start 𝓤 H (𝓖 .A) (𝓜 .mem) (𝓡 .run)) 𝓜 𝓡 code.env #lifeline·reader·start start-def.routine code.calls-lifeline·reader·start (start-thm.met 𝓤 H 𝓜 𝓖 𝓡))
-    (cited 𝓤 H (Step 𝓤 H (𝓖 .A) (𝓜 .mem) (𝓡 .run)) 𝓜 𝓡 code.env #lifeline·reader·step step-def.routine code.calls-lifeline·reader·step (step-thm.met 𝓤 H 𝓜 𝓖 𝓡)))
+    (cited 𝓤 H (Start 𝓤 H (𝓖 .A) (𝓜 .mem) (𝓡 .run)) 𝓜 𝓡 code.env #lifeline-reader·start start-def.routine code.calls-lifeline-reader·start (start-thm.met 𝓤 H 𝓜 𝓖 𝓡))
+    (cited 𝓤 H (Step 𝓤 H (𝓖 .A) (𝓜 .mem) (𝓡 .run)) 𝓜 𝓡 code.env #lifeline-reader·step step-def.routine code.calls-lifeline-reader·step (step-thm.met 𝓤 H 𝓜 𝓖 𝓡)))

@@ -1,13 +1,32 @@
-// The lifeline reader: a small struct that holds the lent data run itself. Its start and its step take it apart, have the work
-// done by the numbers, and hold the same run again.
+// The lifeline reader (the paper's words): a small struct that holds the lent data run itself. Its start and its step have the
+// work done by the numbers, and hold the same run again.
 ghost use mathlib.Core.Path.{_≡_};
 ghost use Rattle.lifeline.specs.Lifeline.{standAfter};
-ghost use Rattle.lifeline.specs.Reader.{started, stepped};
-use crate::Lifeline;
-use crate::Stand;
-use crate::Started;
-use crate::Stepped;
-use crate::cohort;
+ghost use Rattle.lifeline_reader.specs.Reader.{started, stepped};
+use basis::Check;
+use lifeline::Stand;
+use lifeline::Status;
+use lifeline::cohort;
+
+// A lifeline over the run that it was lent.
+pub struct Lifeline<'a> {
+    pub run: &'a [u8],
+    pub age: u32,
+    pub year: u32,
+    pub survivors: u64,
+}
+
+// Where it stands after its start, and whether that was refused.
+pub struct Started<'a> {
+    pub line: Lifeline<'a>,
+    pub check: Check,
+}
+
+// Where it stands after a step, and what the step did.
+pub struct Stepped<'a> {
+    pub line: Lifeline<'a>,
+    pub status: Status,
+}
 
 pub fn start<'a>(run: &'a [u8], age: u32, year: u32) -> Started<'a>
     ensures { λ r. ⌜ r ≡ started (run .entry) age year ⌝ }

@@ -1,4 +1,4 @@
--- `lifeline::reader::start` meets its contract: a walk of its MIR, by hand. `start_at` is called on the slice and the numbers, and the two structs, one in the other, are made of the slice and what it returned.
+-- `lifeline_reader::start` meets its contract: a walk of its MIR, by hand. `start_at` is called on the slice and the numbers, and the two structs, one in the other, are made of the slice and what it returned.
 -- Assumes nothing.
 use mathlib.Core.Path.{_≡_, refl, ap, subst}
 use Prim.Native.Nat.{ℕ, _<_, _^_}
@@ -39,26 +39,26 @@ use denote.Triple.Table.{entered, cited}
 use denote.Triple.Walked.{says, Stays, stay-none, stay-none-slice, walkOf, goes-none, goes-none-slice, Walks, ends-at, walked, walk-meets}
 use denote.Exit.{yes}
 use denote.Triple.Clauses.{ensured, lasts}
 use Rattle.lifeline.specs.Lifeline.{startAt}
-use Rattle.lifeline.specs.Reader.{startedAt}
+use Rattle.lifeline_reader.specs.Reader.{startedAt}
 use Rattle.lifeline.specs.declared.Begun.{Begun}
-use Rattle.lifeline.specs.declared.Started.{Started}
+use Rattle.lifeline_reader.specs.declared.Started.{Started}
 use Rattle.lifeline.proofs.Begun as B
 use Rattle.lifeline.proofs.Begun.Laws as B′
-use Rattle.lifeline.proofs.Lifeline as L
-use Rattle.lifeline.proofs.Lifeline.Laws as L′
+use Rattle.lifeline_reader.proofs.Lifeline as L
+use Rattle.lifeline_reader.proofs.Lifeline.Laws as L′
 use Rattle.basis.proofs.Check as F
 use Rattle.basis.proofs.Check.Laws as F′
-use Rattle.lifeline.proofs.Started as S
-use Rattle.lifeline.proofs.Started.Laws as S′
+use Rattle.lifeline_reader.proofs.Started as S
+use Rattle.lifeline_reader.proofs.Started.Laws as S′
 use Rattle.lifeline.proofs.cohort.start_at as start-at
 use Rattle.lifeline.proofs.cohort.start_at.Symbol as start-at-def
 use Rattle.lifeline.proofs.cohort.start_at.Symbol.{name as #lifeline·cohort·start-at}
 use Rattle.lifeline.proofs.cohort.start_at.Met as start-at-thm
-use Rattle.lifeline.proofs.reader.start.Key.{name as #lifeline·reader·start}
-use Rattle.lifeline.proofs.reader.start as start
-use Rattle.lifeline.proofs.reader.start.Statement as stated
-use Rattle.lifeline.proofs.reader.start.Code as code
+use Rattle.lifeline_reader.proofs.start.Key.{name as #lifeline-reader·start}
+use Rattle.lifeline_reader.proofs.start as start
+use Rattle.lifeline_reader.proofs.start.Statement as stated
+use Rattle.lifeline_reader.proofs.start.Code as code
 
 abbrev stayed : Stays (start.ended .signature .params) (start.ended .kept)
 stayed = (stay-none-slice (0 ∷ []) tt (plain (λ _. u8)) yes, (stay-none (λ _. u32) yes, (stay-none (λ _. u32) yes, tt)))
@@ -169,6 +169,6 @@ pub start-spec : {M : Type 1} → stated.statement M
 unfolding code.routine tablesOf
 start-spec 𝓤 H 𝓜 𝓖 𝓡 =
     entered 𝓤 H (tripleOf 𝓤 H (𝓖 .A) start.signature (start.spec 𝓤 H (𝓖 .A) (𝓜 .mem) (𝓡 .run)))
-    (tables 𝓤 H 𝓜 𝓡 code.env .C) (tables 𝓤 H 𝓜 𝓡 code.env .Λ) #lifeline·reader·start code.function (code.unfolded 𝓤 H 𝓜 𝓡)
+    (tables 𝓤 H 𝓜 𝓡 code.env .C) (tables 𝓤 H 𝓜 𝓡 code.env .Λ) #lifeline-reader·start code.function (code.unfolded 𝓤 H 𝓜 𝓡)
     (start-meets 𝓤 H (𝓖 .A) (givenOf 𝓤 H 𝓜 𝓖) (𝓜 .mem) (𝓡 .run) (tablesOf 𝓤 H 𝓜 (tables 𝓤 H 𝓜 𝓡 code.env))
     (cited 𝓤 H (StartAt 𝓤 H (𝓖 .A) (𝓜 .mem) (𝓡 .run)) 𝓜 𝓡 code.env #lifeline·cohort·start-at start-at-def.routine code.calls-lifeline·cohort·start-at (start-at-thm.met 𝓤 H 𝓜 𝓖 𝓡)))

@@ -3,12 +3,12 @@
 use Prim.Native.Nat.{ℕ}
 use mathlib.Core.List.{List}
 use denote.Ref.{RefT, now}
 use Rattle.lifeline.specs.declared.Begun.{Begun}
 use Rattle.lifeline.specs.declared.Moved.{Moved}
-use Rattle.lifeline.specs.declared.Lifeline.{Lifeline}
-use Rattle.lifeline.specs.declared.Started.{Started}
-use Rattle.lifeline.specs.declared.Stepped.{Stepped}
+use Rattle.lifeline_reader.specs.declared.Lifeline.{Lifeline}
+use Rattle.lifeline_reader.specs.declared.Started.{Started}
+use Rattle.lifeline_reader.specs.declared.Stepped.{Stepped}
 use Rattle.lifeline.specs.Lifeline.{startAt, stepAt}
 
 abbrev pub lineAt : RefT (List ℕ) → ℕ → ℕ → ℕ → Lifeline
 lineAt run age year survivors = record { run = run; age = age; year = year; survivors = survivors }

@@ -3,10 +3,10 @@ use mathlib.Core.Path.{_≡_, refl}
 use mathlib.Core.List.{List}
 use Prim.Native.Nat.{ℕ, suc}
 use denote.Ref.{RefT, now}
-use Rattle.lifeline.specs.declared.Lifeline.{Lifeline}
+use Rattle.lifeline_reader.specs.declared.Lifeline.{Lifeline}
 use Rattle.lifeline.specs.declared.Stand.{Stand}
 use Rattle.lifeline.specs.Lifeline.{standAt, standAfter}
-use Rattle.lifeline.specs.Reader.{lineAt, started, stepped}
+use Rattle.lifeline_reader.specs.Reader.{lineAt, started, stepped}
 
 abbrev pub lineOver : RefT (List ℕ) → Stand → Lifeline
 lineOver run s = lineAt run (s .age) (s .year) (s .survivors)
