@@ -1,5 +1,6 @@
 pub mod Difference
 pub mod Machine
+pub mod Walk
 pub mod Rounding
 pub mod Distance
 pub mod Above

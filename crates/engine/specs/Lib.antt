@@ -1,3 +1,2 @@
 pub mod Enquiry
-pub mod Grid
 pub mod Lifelines

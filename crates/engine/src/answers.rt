@@ -1,6 +1,6 @@
 // Checks and answers as C takes them: structs in the place of enums, with refusal number 0 for none.
 ghost use mathlib.Core.Path.{_≡_};
-ghost use Rattle.basis.specs.Outcome.{meaning, signedMeaning, noRefusal};
+ghost use Rattle.basis.specs.Outcome.{meaning, signedMeaning};
 ghost use Rattle.engine.specs.Enquiry.{refusalOf, answerOf, signedAnswerOf};
 use crate::CAnswer;
 use crate::CSignedAnswer;
@@ -9,21 +9,17 @@ use basis::Check;
 use basis::Refusal;
 use basis::SignedAnswer;
 
-fn no_refusal() -> Refusal
-    ensures { λ r. ⌜ r ≡ noRefusal ⌝ }
-{
-    Refusal {
-        number: 0,
-        first: 0,
-        second: 0,
-    }
-}
+pub const NO_REFUSAL: Refusal = Refusal {
+    number: 0,
+    first: 0,
+    second: 0,
+};
 
 pub fn refusal_of(check: Check) -> Refusal
     ensures { λ r. ⌜ r ≡ refusalOf check ⌝ }
 {
     match check {
-        Check::Passed => no_refusal(),
+        Check::Passed => NO_REFUSAL,
         Check::Refused(r) => r,
     }
 }
@@ -33,7 +29,7 @@ pub fn answer_of(answer: Answer) -> CAnswer
 {
     match answer {
         Answer::Value(value) => CAnswer {
-            refusal: no_refusal(),
+            refusal: NO_REFUSAL,
             value,
         },
         Answer::Refused(refusal) => CAnswer { refusal, value: 0 },
@@ -45,7 +41,7 @@ pub fn signed_answer_of(answer: SignedAnswer) -> CSignedAnswer
 {
     match answer {
         SignedAnswer::Value(value) => CSignedAnswer {
-            refusal: no_refusal(),
+            refusal: NO_REFUSAL,
             value,
         },
         SignedAnswer::Refused(refusal) => CSignedAnswer { refusal, value: 0 },

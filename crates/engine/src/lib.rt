@@ -3,7 +3,6 @@
 pub mod answers;
 pub mod cells;
 pub mod files;
-pub mod grid;
 pub mod lifelines;
 pub mod points;
 pub mod values;
@@ -22,12 +21,6 @@ pub struct CAnswer {
 pub struct CSignedAnswer {
     pub refusal: Refusal,
     pub value: i64,
-}
-
-// What the grid's checks let it do: its refusal, and how many records it answers.
-pub struct GridStart {
-    pub refusal: Refusal,
-    pub records: usize,
 }
 
 // Where a lifeline stands after a start or a step, and whether it has ended (1).

@@ -1,11 +1,9 @@
 // Lifelines as C keeps them: the host holds age, year and survivors between the calls, and lends the data run to each.
 ghost use mathlib.Core.Path.{_≡_};
 ghost use Rattle.lifeline.specs.Lifeline.{startAt, stepAt};
-ghost use Rattle.engine.specs.Lifelines.{lifelineBegun, stepRefusal, stepEnded, lifelineMoved};
+ghost use Rattle.engine.specs.Lifelines.{lifelineBegun, lifelineMoved};
 use crate::CLifeline;
 use crate::answers;
-use basis::Check;
-use basis::Refusal;
 use lifeline::Begun;
 use lifeline::Moved;
 use lifeline::Status;
@@ -24,36 +22,32 @@ fn begun(b: Begun) -> CLifeline
     }
 }
 
-fn step_refusal(status: Status) -> Refusal
-    ensures { λ r. ⌜ r ≡ stepRefusal status ⌝ }
-{
-    match status {
-        Status::Advanced => answers::refusal_of(Check::Passed),
-        Status::Ended => answers::refusal_of(Check::Passed),
-        Status::Refused(r) => r,
-    }
-}
-
-fn step_ended(status: Status) -> u32
-    ensures { λ r. ⌜ r ≡ stepEnded status ⌝ }
-{
-    match status {
-        Status::Advanced => 0,
-        Status::Ended => 1,
-        Status::Refused(_) => 0,
-    }
-}
-
 fn moved(m: Moved) -> CLifeline
     ensures { λ r. ⌜ r ≡ lifelineMoved m ⌝ }
 {
     let status = m.status;
-    CLifeline {
-        refusal: step_refusal(status),
-        survivors: m.survivors,
-        age: m.age,
-        year: m.year,
-        ended: step_ended(status),
+    match status {
+        Status::Advanced => CLifeline {
+            refusal: answers::NO_REFUSAL,
+            survivors: m.survivors,
+            age: m.age,
+            year: m.year,
+            ended: 0,
+        },
+        Status::Ended => CLifeline {
+            refusal: answers::NO_REFUSAL,
+            survivors: m.survivors,
+            age: m.age,
+            year: m.year,
+            ended: 1,
+        },
+        Status::Refused(refusal) => CLifeline {
+            refusal,
+            survivors: m.survivors,
+            age: m.age,
+            year: m.year,
+            ended: 0,
+        },
     }
 }
 

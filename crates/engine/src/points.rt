@@ -1,6 +1,12 @@
-// Sets of model points: the small set.
+// Sets of model points: the small set by value, the grid in place.
 ghost use mathlib.Core.Path.{_≡_};
+ghost use lib.ListN.{length};
 ghost use Rattle.model_points.specs.Points.{smallSetOf};
+ghost use Rattle.grid.specs.Grid.{gridCheck, gridOf};
+ghost use Rattle.engine.specs.Enquiry.{refusalOf};
+use crate::answers;
+use basis::Refusal;
+use model_points::Point;
 use model_points::Questions;
 use model_points::SmallSet;
 
@@ -9,4 +15,12 @@ pub extern "C" fn parvusek_small_set(run: &[u8], questions: Questions) -> SmallS
     ensures { λ r. ⌜ r ≡ smallSetOf (now (run .entry)) questions ⌝ }
 {
     model_points::small_set::small_set(run, questions)
+}
+
+#[no_mangle]
+pub extern "C" fn parvusek_grid(run: &[u8], points: &mut [Point]) -> Refusal
+    ensures { λ r. ⌜ r ≡ refusalOf (gridCheck (now (run .entry)) (length (now (points .entry)))) ⌝ }
+    ensures { λ _. ⌜ now (points .exit) ≡ gridOf (now (run .entry)) (now (points .entry)) ⌝ }
+{
+    answers::refusal_of(grid::fill(run, points))
 }

@@ -1,4 +1,2 @@
 pub mod Standing
 pub mod Survivorship
-mod After
-pub mod Walk

@@ -1,2 +1,1 @@
 pub mod Lifeline
-pub mod Reader

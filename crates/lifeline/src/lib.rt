@@ -1,6 +1,5 @@
 // A lifeline (the paper's word): the survivors of one cohort, year by year, each year checked anew.
 pub mod cohort;
-pub mod reader;
 
 use basis::Check;
 use basis::Refusal;
@@ -32,23 +31,5 @@ pub struct Moved {
     pub age: u32,
     pub year: u32,
     pub survivors: u64,
-    pub status: Status,
-}
-
-// The lifeline reader: it holds the lent data run with an age, a year and the survivors.
-pub struct Lifeline<'a> {
-    pub run: &'a [u8],
-    pub age: u32,
-    pub year: u32,
-    pub survivors: u64,
-}
-
-pub struct Started<'a> {
-    pub line: Lifeline<'a>,
-    pub check: Check,
-}
-
-pub struct Stepped<'a> {
-    pub line: Lifeline<'a>,
     pub status: Status,
 }

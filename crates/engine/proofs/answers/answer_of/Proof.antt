@@ -6,14 +6,11 @@ use Rattle.engine.proofs.answers.answer_of.Tie as tie
 enum-known-answer : tie.Need-enum-known-answer
 enum-known-answer c = search needs
 
-no-refusal-requires : tie.Need-no-refusal-requires
-no-refusal-requires c κs = search needs
-
 enum-known-answer-2 : tie.Need-enum-known-answer-2
 enum-known-answer-2 c = search needs
 
 returns : tie.Need-returns
-returns c = simp (c .before .before .answer .given .1, c .no-refusal .ensures)
+returns c = simp (c .before .answer .given .1)
 
 returns-2 : tie.Need-returns-2
 returns-2 c = simp (c .before .answer2 .given .1)
@@ -21,4 +18,4 @@ returns-2 c = simp (c .before .answer2 .given .1)
 pub answer-of-spec : {M : Type 1} → statement M
 answer-of-spec =
     tie.close
-    (tie.spec enum-known-answer no-refusal-requires enum-known-answer-2 returns returns-2)
+    (tie.spec enum-known-answer enum-known-answer-2 returns returns-2)

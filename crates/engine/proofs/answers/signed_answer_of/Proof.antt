@@ -4,7 +4,6 @@ use lib.IntN.{ℤ}
 use mir.Syntax.{w64}
 use mir.Facts.{toZ-ofZ}
 use borrow.Author.Needs.{needs}
-use Rattle.basis.specs.declared.Refusal.{Refusal}
 use Rattle.basis.specs.declared.SignedAnswer.{SignedAnswer}
 use Rattle.basis.specs.declared.SignedAnswer.the-variants.{Value}
 use Rattle.basis.specs.Outcome.{signedMeaning, noRefusal}
@@ -13,26 +12,22 @@ use Rattle.engine.specs.Enquiry.{signedAnswerOf}
 use Rattle.engine.proofs.answers.signed_answer_of.Statement.{statement}
 use Rattle.engine.proofs.answers.signed_answer_of.Tie as tie
 
-abbrev signedAnswer : Refusal → ℤ → CSignedAnswer
-signedAnswer r z = record { refusal = r; value = z }
+abbrev unrefused : ℤ → CSignedAnswer
+unrefused z = record { refusal = noRefusal; value = z }
 
-answered : (answer : SignedAnswer) (r : Refusal) (z i : ℤ) → answer ≡ Value i → r ≡ noRefusal → z ≡ i
-    → signedAnswer r z ≡ signedAnswerOf (signedMeaning answer)
-answered answer r z i e none same = rw (e, none, same) refl
+answered : (answer : SignedAnswer) (z i : ℤ) → answer ≡ Value i → z ≡ i → unrefused z ≡ signedAnswerOf (signedMeaning answer)
+answered answer z i e same = rw (e, same) refl
 
 enum-known-answer : tie.Need-enum-known-answer
 enum-known-answer c = search needs
-
-no-refusal-requires : tie.Need-no-refusal-requires
-no-refusal-requires c κs = search needs
 
 enum-known-answer-2 : tie.Need-enum-known-answer-2
 enum-known-answer-2 c = search needs
 
 returns : tie.Need-returns
 returns c =
-    let known = c .before .before .answer .given in
-    answered _ _ _ (known .0 .0) (known .1) (c .no-refusal .ensures) (toZ-ofZ {w = w64} {z = known .0 .0} (search needs))
+    let known = c .before .answer .given in
+    answered _ _ (known .0 .0) (known .1) (toZ-ofZ {w = w64} {z = known .0 .0} (search needs))
 
 returns-2 : tie.Need-returns-2
 returns-2 c = simp (c .before .answer2 .given .1)
@@ -40,4 +35,4 @@ returns-2 c = simp (c .before .answer2 .given .1)
 pub signed-answer-of-spec : {M : Type 1} → statement M
 signed-answer-of-spec =
     tie.close
-    (tie.spec enum-known-answer no-refusal-requires enum-known-answer-2 returns returns-2)
+    (tie.spec enum-known-answer enum-known-answer-2 returns returns-2)

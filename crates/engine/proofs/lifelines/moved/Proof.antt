@@ -1,17 +1,26 @@
--- Field by field; the refusal and the end are the status's.
-use mathlib.Core.Path.{refl}
+-- By cases: the arm says what the step did.
 use borrow.Author.Needs.{needs}
 use Rattle.engine.proofs.lifelines.moved.Statement.{statement}
 use Rattle.engine.proofs.lifelines.moved.Tie as tie
 
-step-refusal-requires : tie.Need-step-refusal-requires
-step-refusal-requires c κs = search needs
+enum-told : tie.Need-enum-told
+enum-told c = search needs
 
-step-ended-requires : tie.Need-step-ended-requires
-step-ended-requires c κs = search needs
+enum-told-2 : tie.Need-enum-told-2
+enum-told-2 c = search needs
+
+enum-known-status : tie.Need-enum-known-status
+enum-known-status c = search needs
 
 returns : tie.Need-returns
-returns c = rw (c .before .step-refusal .ensures, c .step-ended .ensures) refl
+returns c = simp (c .enum-told .given .1)
+
+returns-2 : tie.Need-returns-2
+returns-2 c = simp (c .enum-told2 .given .1)
+
+returns-3 : tie.Need-returns-3
+returns-3 c = simp (c .before .status .given .1)
 
 pub moved-spec : {M : Type 1} → statement M
-moved-spec = tie.close (tie.spec step-refusal-requires step-ended-requires returns)
+moved-spec =
+    tie.close (tie.spec enum-told enum-told-2 enum-known-status returns returns-2 returns-3)

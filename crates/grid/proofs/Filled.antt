@@ -1,0 +1,62 @@
+-- The list of the grid record by record, and what a turn of its loop knows. Nothing here is about the machine.
+use mathlib.Core.Path.{_≡_, refl, ap}
+use mathlib.Core.List.{List, [], _∷_}
+use Prim.Native.Nat.{ℕ, zero, suc, _≤_, _<_, zero-le}
+use native.Mathlib.Nat.{not-suc-le-zero, le-of-suc-le-suc}
+use lib.Dec.{leb}
+use lib.ListN.{length, getD, set}
+use borrow.Author.Tests.{leb-true}
+use Rattle.basis.specs.declared.Check.{Check}
+use Rattle.basis.specs.declared.Check.the-variants.{Passed, Refused}
+use Rattle.basis.specs.Basis.{Basis, basisOf, Accepted}
+use Rattle.basis.specs.Outcome.{refusal}
+use Rattle.run_check.specs.Run.{runCheck}
+use Rattle.run_check.proofs.Acceptance.{accepted}
+use Rattle.basis.proofs.Outcome.{both-passed, unless-passed}
+use Rattle.model_points.specs.declared.Point.{Point}
+use Rattle.model_points.specs.Points.{answeredOf}
+use Rattle.grid.specs.Grid.{countCheck, gridCheck, recordsOf, answers, gridOf}
+
+-- ---- the list with some records answered
+module _ (b : Basis) where
+  pub answers-none : (points : List Point) → answers b 0 points ≡ points
+  unfolding answers
+  answers-none points = refl
+
+  pub answers-length : (i : ℕ) (points : List Point) → length (answers b i points) ≡ length points
+  unfolding answers
+  answers-length zero points = refl
+  answers-length (suc i) [] = refl
+  answers-length (suc i) (p ∷ points) = ap suc (answers-length i points)
+
+  -- one more record is answered
+  pub answers-set : (i : ℕ) (points : List Point) (past : Point) → i < length points → set (answers b i points) i (answeredOf b (getD (answers b i points) i past)) ≡ answers b (suc i) points
+  unfolding answers
+  answers-set i [] past h = absurd (not-suc-le-zero h)
+  answers-set zero (p ∷ points) past h = refl
+  answers-set (suc i) (p ∷ points) past h = ap (λ (rest : List Point). answeredOf b p ∷ rest) (answers-set i points past (le-of-suc-le-suc h))
+
+-- the list after the grid is that with as many records answered as its checks say
+pub grid-is : (run : List ℕ) (points : List Point) → answers (basisOf run) (recordsOf (gridCheck run (length points))) points ≡ gridOf run points
+unfolding gridOf
+grid-is run points = refl
+
+-- ---- the count: a record is answered only where the checks have passed
+passes : (check : Check) (i : ℕ) → i < recordsOf check → check ≡ Passed
+passes Passed i h = refl
+passes (Refused r) i h = absurd (not-suc-le-zero h)
+
+module _ (run : List ℕ) (count : ℕ) where
+  -- no more records are answered than there are
+  pub records-fit : recordsOf (gridCheck run count) ≤ count
+  unfolding gridCheck
+  records-fit = by (gridCheck run count) refl
+    where
+      by : (check : Check) → gridCheck run count ≡ check → recordsOf check ≤ count
+      by Passed h = leb-true 119 count (unless-passed (leb 119 count) (refusal 11 119 0) (both-passed (countCheck count) (runCheck run) h .0))
+      by (Refused r) h = zero-le
+
+  -- and the run is accepted
+  pub turn-accepted : (i : ℕ) → i < recordsOf (gridCheck run count) → Accepted run
+  unfolding gridCheck
+  turn-accepted i h = accepted run (both-passed (countCheck count) (runCheck run) (passes (gridCheck run count) i h) .1)

@@ -1,0 +1,24 @@
+-- By cases: the arm says whether the checks passed, and so how many records are answered.
+use mathlib.Core.Path.{_∙_, ap, sym}
+use borrow.Author.Needs.{needs}
+use Rattle.grid.specs.Grid.{gridStart}
+use Rattle.grid.proofs.start_grid.Statement.{statement}
+use Rattle.grid.proofs.start_grid.Tie as tie
+
+check-grid-requires : tie.Need-check-grid-requires
+check-grid-requires c κs = search needs
+
+enum-told : tie.Need-enum-told
+enum-told c = search needs
+
+enum-known-r : tie.Need-enum-known-r
+enum-known-r c = search needs
+
+returns : tie.Need-returns
+returns c = ap gridStart (sym (c .enum-told .given .1) ∙ c .before .before .check-grid .ensures)
+
+returns-2 : tie.Need-returns-2
+returns-2 c = ap gridStart (sym (c .before .r .given .1) ∙ c .before .before .before .check-grid .ensures)
+
+pub start-grid-spec : {M : Type 1} → statement M
+start-grid-spec = tie.close (tie.spec check-grid-requires enum-told enum-known-r returns returns-2)

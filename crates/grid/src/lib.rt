@@ -1,0 +1,60 @@
+// The grid (the paper's word): a lent list of 119 point records whose results are filled in place.
+ghost use mathlib.Core.Path.{_≡_};
+ghost use lib.ListN.{length};
+ghost use Rattle.grid.specs.Grid.{gridCheck, gridStart, gridOf};
+use basis::Check;
+use basis::Refusal;
+use model_points::Point;
+use model_points::grid_record;
+
+// What the grid's checks let it do: their answer, and how many records are answered.
+pub struct GridStart {
+    pub check: Check,
+    pub records: usize,
+}
+
+// 11 before the basis is looked at.
+fn check_grid(run: &[u8], count: usize) -> Check
+    ensures { λ r. ⌜ r ≡ gridCheck (now (run .entry)) count ⌝ }
+{
+    if 119 <= count {
+        run_check::check_run(run)
+    } else {
+        Check::Refused(Refusal {
+            number: 11,
+            first: 119,
+            second: 0,
+        })
+    }
+}
+
+// The run is checked here, once for the whole list.
+fn start_grid(run: &[u8], count: usize) -> GridStart
+    ensures { λ r. ⌜ r ≡ gridStart (gridCheck (now (run .entry)) count) ⌝ }
+{
+    match check_grid(run, count) {
+        Check::Passed => GridStart {
+            check: Check::Passed,
+            records: 119,
+        },
+        Check::Refused(r) => GridStart {
+            check: Check::Refused(r),
+            records: 0,
+        },
+    }
+}
+
+// Each record's results or its own refusal, in its place.
+pub fn fill(run: &[u8], points: &mut [Point]) -> Check
+    ensures { λ r. ⌜ r ≡ gridCheck (now (run .entry)) (length (now (points .entry))) ⌝ }
+    ensures { λ _. ⌜ now (points .exit) ≡ gridOf (now (run .entry)) (now (points .entry)) ⌝ }
+{
+    let start = start_grid(run, points.len());
+    let n = start.records;
+    let mut i: usize = 0;
+    while i < n {
+        points[i] = grid_record::answered(run, points[i]);
+        i = i + 1;
+    }
+    start.check
+}

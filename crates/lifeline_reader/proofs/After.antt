@@ -1,0 +1,30 @@
+-- The line that holds a run after some steps, opened: what the walk of `stand_after` cites. Assumes nothing.
+use mathlib.Core.Path.{_≡_, refl}
+use mathlib.Core.List.{List}
+use Prim.Native.Nat.{ℕ, suc}
+use denote.Ref.{RefT, now}
+use Rattle.lifeline_reader.specs.declared.Lifeline.{Lifeline}
+use Rattle.lifeline.specs.declared.Stand.{Stand}
+use Rattle.lifeline.specs.Lifeline.{standAt, standAfter}
+use Rattle.lifeline_reader.specs.Reader.{lineAt, started, stepped}
+
+abbrev pub lineOver : RefT (List ℕ) → Stand → Lifeline
+lineOver run s = lineAt run (s .age) (s .year) (s .survivors)
+
+abbrev pub lineAfter : RefT (List ℕ) → ℕ → ℕ → ℕ → Lifeline
+lineAfter run age year n = lineOver run (standAfter (now run) age year n)
+
+abbrev pub standOf : Lifeline → Stand
+standOf l = standAt (l .age) (l .year) (l .survivors)
+
+module _ (run : RefT (List ℕ)) (age year : ℕ) where
+  pub stand-is : (n : ℕ) → standOf (lineAfter run age year n) ≡ standAfter (now run) age year n
+  stand-is n = refl
+
+  pub after-none : lineAfter run age year 0 ≡ started run age year .line
+  unfolding standAfter
+  after-none = refl
+
+  pub after-one : (n : ℕ) → stepped (lineAfter run age year n) .line ≡ lineAfter run age year (suc n)
+  unfolding standAfter
+  after-one n = refl

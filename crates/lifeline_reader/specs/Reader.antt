@@ -1,0 +1,28 @@
+-- The lifeline reader (01, "holds the lent data run with an age"): the start and the step by their numbers, over one lent run that is
+-- held throughout.
+use Prim.Native.Nat.{ℕ}
+use mathlib.Core.List.{List}
+use denote.Ref.{RefT, now}
+use Rattle.lifeline.specs.declared.Begun.{Begun}
+use Rattle.lifeline.specs.declared.Moved.{Moved}
+use Rattle.lifeline_reader.specs.declared.Lifeline.{Lifeline}
+use Rattle.lifeline_reader.specs.declared.Started.{Started}
+use Rattle.lifeline_reader.specs.declared.Stepped.{Stepped}
+use Rattle.lifeline.specs.Lifeline.{startAt, stepAt}
+
+abbrev pub lineAt : RefT (List ℕ) → ℕ → ℕ → ℕ → Lifeline
+lineAt run age year survivors = record { run = run; age = age; year = year; survivors = survivors }
+
+-- a line at its start, over the run lent
+abbrev pub startedAt : RefT (List ℕ) → Begun → Started
+startedAt run b = record { line = lineAt run (b .age) (b .year) (b .survivors); check = b .check }
+
+abbrev pub started : RefT (List ℕ) → ℕ → ℕ → Started
+started run age year = startedAt run (startAt (now run) age year)
+
+-- a line after a step, over the same run
+abbrev pub steppedTo : Lifeline → Moved → Stepped
+steppedTo l m = record { line = lineAt (l .run) (m .age) (m .year) (m .survivors); status = m .status }
+
+abbrev pub stepped : Lifeline → Stepped
+stepped l = steppedTo l (stepAt (now (l .run)) (l .age) (l .year) (l .survivors))

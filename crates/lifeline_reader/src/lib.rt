@@ -1,0 +1,78 @@
+// The lifeline reader (the paper's words): a small struct that holds the lent data run itself. Its start and its step have the
+// work done by the numbers, and hold the same run again.
+ghost use mathlib.Core.Path.{_≡_};
+ghost use Rattle.lifeline.specs.Lifeline.{standAfter};
+ghost use Rattle.lifeline_reader.specs.Reader.{started, stepped};
+use basis::Check;
+use lifeline::Stand;
+use lifeline::Status;
+use lifeline::cohort;
+
+// A lifeline over the run that it was lent.
+pub struct Lifeline<'a> {
+    pub run: &'a [u8],
+    pub age: u32,
+    pub year: u32,
+    pub survivors: u64,
+}
+
+// Where it stands after its start, and whether that was refused.
+pub struct Started<'a> {
+    pub line: Lifeline<'a>,
+    pub check: Check,
+}
+
+// Where it stands after a step, and what the step did.
+pub struct Stepped<'a> {
+    pub line: Lifeline<'a>,
+    pub status: Status,
+}
+
+pub fn start<'a>(run: &'a [u8], age: u32, year: u32) -> Started<'a>
+    ensures { λ r. ⌜ r ≡ started (run .entry) age year ⌝ }
+{
+    let b = cohort::start_at(run, age, year);
+    Started {
+        line: Lifeline {
+            run,
+            age: b.age,
+            year: b.year,
+            survivors: b.survivors,
+        },
+        check: b.check,
+    }
+}
+
+pub fn step<'a>(l: Lifeline<'a>) -> Stepped<'a>
+    ensures { λ r. ⌜ r ≡ stepped (l .entry) ⌝ }
+{
+    let m = cohort::step_at(l.run, l.age, l.year, l.survivors);
+    Stepped {
+        line: Lifeline {
+            run: l.run,
+            age: m.age,
+            year: m.year,
+            survivors: m.survivors,
+        },
+        status: m.status,
+    }
+}
+
+// For callers that hold no lifeline: where one stands from its start, n steps on.
+pub fn stand_after(run: &[u8], age: u32, year: u32, n: u32) -> Stand
+    ensures { λ r. ⌜ r ≡ standAfter (now (run .entry)) age year n ⌝ }
+{
+    let s = start(run, age, year);
+    let mut l = s.line;
+    let mut i: u32 = 0;
+    while i < n {
+        let t = step(l);
+        l = t.line;
+        i = i + 1;
+    }
+    Stand {
+        age: l.age,
+        year: l.year,
+        survivors: l.survivors,
+    }
+}
