@@ -1,4 +1,5 @@
--- `lifeline_reader::stand_after` meets its contract: a walk of its MIR, by hand, with a loop in it. A lifeline that `start` made is passed to `step` and taken out of its result, n times.
+-- `lifeline_reader::stand_after` meets its contract: a walk of its MIR, by hand, with a loop in it. A lifeline that `start` made is passed to `step`
+-- and taken out of its result, n times.
 -- The loop's invariant, at i: the local holds the line after i steps, and what a Lifeline owns is had of it. Assumes nothing.
 use mathlib.Core.Path.{_≡_, refl, sym, ap, _∙_, subst}
 use Prim.Native.Nat.{ℕ, _+_, _-_, _≤_, _<_, _^_, zero-le}
@@ -21,9 +22,11 @@ use prog.Wp.{Heap, Out, Env, afterSeq, afterBlock, afterTurn, Calls, Loops, Wp, 
 use ghost.Atoms.{Atoms, sem}
 use contract.Monad.{Fun, fact}
 use contract.Running.{givenOf, tables, tablesOf}
-use types.Kit.{Given, Item, ‵, raw, given, _⊛_, ⋆, some, later, runs, anyQ, atRet, Sq, _$_, _∵_, !, qed, by, move, drop, use1, use2, split, join, pick, learn, rewrite, fsplit, fjoin, suffices, frame, await, done}
+use types.Kit.{Given, Item, ‵, raw, given, _⊛_, ⋆, some, later, runs, anyQ, atRet, Sq, _$_, _∵_, !, qed}
+use types.Kit.{by, move, drop, use1, use2, split, join, pick, learn, rewrite, fsplit, fjoin, suffices, frame, await, done}
 use types.Part.{whole, sub, look-in, agg}
-use types.Run.{look, init, store, forget, stop, fld, from, load, lit, of-opd, bin, and-then, no-more, assigns, assigns-last, land, first, blocks, returns, enter, alloc1, alloc0, params1, pass1, pass0, free1, free0, exec, Below, again, loops}
+use types.Run.{look, init, store, forget, stop, fld, from, load, lit, of-opd, bin, and-then, no-more, assigns, assigns-last, land}
+use types.Run.{first, blocks, returns, enter, alloc1, alloc0, params1, pass1, pass0, free1, free0, exec, Below, again, loops}
 use sound.WpLaws.{FmC, fmOf, WpFn-mono}
 use denote.RattleType.{owns}
 use denote.Laws.{Is, shows}
@@ -92,7 +95,8 @@ function = record {
   outlives = [];
   params = 4;
   locals = local K′.mir valueLocal ∷ local run-ty valueLocal ∷ local half valueLocal ∷ local half valueLocal ∷ local half valueLocal ∷ local (Z′.mir erased) valueLocal ∷ local line-ty valueLocal
-      ∷ local half valueLocal ∷ local (S′.mir erased) valueLocal ∷ local tyBool valueLocal ∷ local line-ty valueLocal ∷ local half valueLocal ∷ local half valueLocal ∷ local (tyInt w64) valueLocal ∷ [];
+      ∷ local half valueLocal ∷ local (S′.mir erased) valueLocal ∷ local tyBool valueLocal ∷ local line-ty valueLocal ∷ local half valueLocal ∷ local half valueLocal
+      ∷ local (tyInt w64) valueLocal ∷ [];
   body = parts.t-1;
 }
 
@@ -107,7 +111,8 @@ module _ {M : Type 1} (𝓤 : URA M) (H : Heap 𝓤) (A : Atoms 𝓤) (mem : Mem
   abbrev Step : Contract 𝓤
   Step = tripleOf 𝓤 H A step.signature (step.spec 𝓤 H A mem run)
 
-module _ {M : Type 1} (𝓤 : URA M) (H : Heap 𝓤) (A : Atoms 𝓤) (W : Given 𝓤 H A) (mem : Memory → SProp 𝓤) (run : Routine → Fun 𝓤) (κ : Lft) (q : Share) (s : RefT (List ℕ)) (x t n : ℕ) (x-fits : x < 2 ^ 32) (t-fits : t < 2 ^ 32) (n-fits : n < 2 ^ 32) where
+module _ {M : Type 1} (𝓤 : URA M) (H : Heap 𝓤) (A : Atoms 𝓤) (W : Given 𝓤 H A) (mem : Memory → SProp 𝓤) (run : Routine → Fun 𝓤) (κ : Lft) (q : Share) (s : RefT (List ℕ)) (x t n : ℕ)
+    (x-fits : x < 2 ^ 32) (t-fits : t < 2 ^ 32) (n-fits : n < 2 ^ 32) where
   -- the struct's lifetime in a signature, and in a local of a body
   abbrev α : NamedLft
   α = record { mir = named 0; lft = κ }
@@ -150,8 +155,10 @@ module _ {M : Type 1} (𝓤 : URA M) (H : Heap 𝓤) (A : Atoms 𝓤) (W : Given
   goes-start : ent 𝓤 (⋆ 𝓤 H A (Tok ∷ ‵ Own ∷ [])) (sep 𝓤 (Start 𝓤 H A mem run .pre to-start) (sem 𝓤 H A Own))
   goes-start =
       qed W (Tok ∷ ‵ Own ∷ []) ∵ move ! (1 ∷ []) $ use1 W (‵ Own ⊛ ‵ Own) (shr-slice-copy 𝓤 H A W (named 0) κ u8 .twice s (v ∷ [])) $ split ! $
-      nothing ! $ owned ! u32 (Is u32) (uint-makes 𝓤 H A W w32) t _ (refl, t-fits) $ fjoin ! $ owned ! u32 (Is u32) (uint-makes 𝓤 H A W w32) x _ (refl, x-fits) $ fjoin ! $ move ! (1 ∷ 0 ∷ []) $ fjoin ! $
-      move ! (2 ∷ 0 ∷ []) $ use2 W (raw (Start 𝓤 H A mem run .pre to-start)) (qed W (Tok ∷ ‵ (owns (ShrSlice (named 0) κ u8 ∷ u32 ∷ u32 ∷ []) (s, (x, (t, tt))) (v ∷ [], (vint w32 x ∷ [], (vint w32 t ∷ [], tt)))) ∷ []) ∵ join ! $ frame ! $ done !) $ frame ! $ done !
+      nothing ! $ owned ! u32 (Is u32) (uint-makes 𝓤 H A W w32) t _ (refl, t-fits) $ fjoin ! $ owned ! u32 (Is u32) (uint-makes 𝓤 H A W w32) x _ (refl, x-fits) $ fjoin ! $ move ! (1 ∷ 0 ∷ []) $
+      fjoin ! $
+      move ! (2 ∷ 0 ∷ []) $ use2 W (raw (Start 𝓤 H A mem run .pre to-start))
+      (qed W (Tok ∷ ‵ (owns (ShrSlice (named 0) κ u8 ∷ u32 ∷ u32 ∷ []) (s, (x, (t, tt))) (v ∷ [], (vint w32 x ∷ [], (vint w32 t ∷ [], tt)))) ∷ []) ∵ join ! $ frame ! $ done !) $ frame ! $ done !
 
   start-said : (r : Started) → ent 𝓤 (ensured 𝓤 H A start.ended (start.clauses 𝓤 H A mem run) (κ, tt) (s, (x, (t, tt))) tt r) (fact 𝓤 (r ≡ started s x t))
   start-said r = exE 𝓤 _ (λ ws. snd∗ 𝓤 (sem 𝓤 H A (lasts start.ended (κ, tt) (s, (x, (t, tt))) ws)) (fact 𝓤 (r ≡ started s x t)))
@@ -171,7 +178,9 @@ module _ {M : Type 1} (𝓤 : URA M) (H : Heap 𝓤) (A : Atoms 𝓤) (W : Given
 
   started-line : (r : Started) → ent 𝓤 (sem 𝓤 H A (Z.the-row α .own r (started-val r ∷ []))) (sem 𝓤 H A (LOwn (r .line)))
   started-line r =
-      qed W (‵ (Z.the-row α .own r (started-val r ∷ [])) ∷ []) ∵ use1 W (given (started-val r ∷ [] ≡ started-val r ∷ []) (‵ (all-own (Z.the-type α .parts) (Z′.the-laws α) (r .line, (r .check, tt))))) (own-open 𝓤 H A W (Z.the-type α) (Z′.the-laws α) (r .line, (r .check, tt)) (started-val r)) $ learn ! (λ _.
+      qed W (‵ (Z.the-row α .own r (started-val r ∷ [])) ∷ []) ∵
+      use1 W (given (started-val r ∷ [] ≡ started-val r ∷ []) (‵
+      (all-own (Z.the-type α .parts) (Z′.the-laws α) (r .line, (r .check, tt))))) (own-open 𝓤 H A W (Z.the-type α) (Z′.the-laws α) (r .line, (r .check, tt)) (started-val r)) $ learn ! (λ _.
       fsplit ! $ move ! (1 ∷ []) $ drop ! $ done !)
 
   abbrev stepped-val : Stepped → Val
@@ -179,7 +188,9 @@ module _ {M : Type 1} (𝓤 : URA M) (H : Heap 𝓤) (A : Atoms 𝓤) (W : Given
 
   stepped-line : (r : Stepped) → ent 𝓤 (sem 𝓤 H A (S.the-row α .own r (stepped-val r ∷ []))) (sem 𝓤 H A (LOwn (r .line)))
   stepped-line r =
-      qed W (‵ (S.the-row α .own r (stepped-val r ∷ [])) ∷ []) ∵ use1 W (given (stepped-val r ∷ [] ≡ stepped-val r ∷ []) (‵ (all-own (S.the-type α .parts) (S′.the-laws α) (r .line, (r .status, tt))))) (own-open 𝓤 H A W (S.the-type α) (S′.the-laws α) (r .line, (r .status, tt)) (stepped-val r)) $ learn ! (λ _.
+      qed W (‵ (S.the-row α .own r (stepped-val r ∷ [])) ∷ []) ∵
+      use1 W (given (stepped-val r ∷ [] ≡ stepped-val r ∷ []) (‵
+      (all-own (S.the-type α .parts) (S′.the-laws α) (r .line, (r .status, tt))))) (own-open 𝓤 H A W (S.the-type α) (S′.the-laws α) (r .line, (r .status, tt)) (stepped-val r)) $ learn ! (λ _.
       fsplit ! $ move ! (1 ∷ []) $ drop ! $ done !)
 
   -- ---- the exit, at the line d
@@ -187,12 +198,14 @@ module _ {M : Type 1} (𝓤 : URA M) (H : Heap 𝓤) (A : Atoms 𝓤) (W : Given
   exits d g e =
       let had = LL.owed (L.the-type α) (L′.the-laws α) d _ g in
       qed W (‵ (LOwn d) ∷ Tok ∷ ‵ Own ∷ []) ∵ drop ! $
-      suffices ! _ (ends-at 𝓤 H A stand.ended stayed (stand.clauses 𝓤 H A mem run) W (((κ, tt), (q, tt), tt, a, at), tt) (K′.lowered (standOf d)) (standOf d) (tt, (tt, (tt, (tt, tt)))) (tt, (tt, (tt, (tt, tt))))) $ says ! e $ frame ! $
-      nothing ! $ owned ! u32 (Is u32) (uint-makes 𝓤 H A W w32) n _ (refl, n-fits) $ fjoin ! $ owned ! u32 (Is u32) (uint-makes 𝓤 H A W w32) t _ (refl, t-fits) $ fjoin ! $ owned ! u32 (Is u32) (uint-makes 𝓤 H A W w32) x _ (refl, x-fits) $ fjoin ! $ move ! (1 ∷ 0 ∷ []) $ fjoin ! $ frame ! $
+      suffices ! _ (ends-at 𝓤 H A stand.ended stayed (stand.clauses 𝓤 H A mem run) W (((κ, tt), (q, tt), tt, a, at), tt) (K′.lowered (standOf d)) (standOf d) (tt, (tt, (tt, (tt, tt))))
+      (tt, (tt, (tt, (tt, tt))))) $ says ! e $ frame ! $
+      nothing ! $ owned ! u32 (Is u32) (uint-makes 𝓤 H A W w32) n _ (refl, n-fits) $ fjoin ! $ owned ! u32 (Is u32) (uint-makes 𝓤 H A W w32) t _ (refl, t-fits) $ fjoin ! $
+      owned ! u32 (Is u32) (uint-makes 𝓤 H A W w32) x _ (refl, x-fits) $ fjoin ! $ move ! (1 ∷ 0 ∷ []) $ fjoin ! $ frame ! $
       owned ! K.the-row (Is K.the-row) (LL.makes K.the-type K′.the-plain 𝓤 H A) (standOf d) _ (LL.owes K.the-type K′.the-laws (standOf d) (had .1 .0, (had .1 .1 .0, (had .1 .1 .1 .0, tt)))) $ done !
 
-  module _ (𝓣 : Tables 𝓤 H) (fm : FmC 𝓤 H (W .laws) (𝓣 .C)) (known-start : Triple 𝓤 (𝓣 .C #lifeline-reader·start) (Start 𝓤 H A mem run)) (known-step : Triple 𝓤 (𝓣 .C #lifeline-reader·step) (Step 𝓤 H A mem run))
-      (l₀ l₁ l₂ l₃ l₄ l₅ l₆ l₇ l₈ l₉ l₁₀ l₁₁ l₁₂ l₁₃ : ℕ) where
+  module _ (𝓣 : Tables 𝓤 H) (fm : FmC 𝓤 H (W .laws) (𝓣 .C)) (known-start : Triple 𝓤 (𝓣 .C #lifeline-reader·start) (Start 𝓤 H A mem run))
+      (known-step : Triple 𝓤 (𝓣 .C #lifeline-reader·step) (Step 𝓤 H A mem run)) (l₀ l₁ l₂ l₃ l₄ l₅ l₆ l₇ l₈ l₉ l₁₀ l₁₁ l₁₂ l₁₃ : ℕ) where
     abbrev C : Calls 𝓤 H
     C = 𝓣 .C
 
@@ -200,13 +213,17 @@ module _ {M : Type 1} (𝓤 : URA M) (H : Heap 𝓤) (A : Atoms 𝓤) (W : Given
     Λ = 𝓣 .Λ
 
     abbrev En : Env 𝓤 H
-    En = (K′.mir, l₀) ∷ (run-ty, l₁) ∷ (half, l₂) ∷ (half, l₃) ∷ (half, l₄) ∷ (Z′.mir erased, l₅) ∷ (line-ty, l₆) ∷ (half, l₇) ∷ (S′.mir erased, l₈) ∷ (tyBool, l₉) ∷ (line-ty, l₁₀) ∷ (half, l₁₁) ∷ (half, l₁₂) ∷ (tyInt w64, l₁₃) ∷ []
+    En = (K′.mir, l₀) ∷ (run-ty, l₁) ∷ (half, l₂) ∷ (half, l₃) ∷ (half, l₄) ∷ (Z′.mir erased, l₅) ∷ (line-ty, l₆) ∷ (half, l₇) ∷ (S′.mir erased, l₈) ∷ (tyBool, l₉)
+        ∷ (line-ty, l₁₀) ∷ (half, l₁₁) ∷ (half, l₁₂) ∷ (tyInt w64, l₁₃) ∷ []
 
     -- the locals between statements, with what _7 and _6 hold: [_13; …; _0; …]. Every other local of the body is empty
     abbrev Locals : Fml → Fml → List (Item 𝓤)
-    Locals at₇ at₆ = ‵ (froom (tyInt w64) l₁₃ 0) ∷ ‵ (fdies (tyInt w64) l₁₃) ∷ ‵ (froom half l₁₂ 0) ∷ ‵ (fdies half l₁₂) ∷ ‵ (froom half l₁₁ 0) ∷ ‵ (fdies half l₁₁) ∷ ‵ (froom line-ty l₁₀ 0) ∷ ‵ (fdies line-ty l₁₀)
-        ∷ ‵ (froom tyBool l₉ 0) ∷ ‵ (fdies tyBool l₉) ∷ ‵ (froom (S′.mir erased) l₈ 0) ∷ ‵ (fdies (S′.mir erased) l₈) ∷ ‵ at₇ ∷ ‵ (fdies half l₇) ∷ ‵ at₆ ∷ ‵ (fdies line-ty l₆) ∷ ‵ (froom (Z′.mir erased) l₅ 0) ∷ ‵ (fdies (Z′.mir erased) l₅)
-        ∷ ‵ (fat fullShare half l₄ 0 (vint w32 n)) ∷ ‵ (fdies half l₄) ∷ ‵ (fat fullShare half l₃ 0 (vint w32 t)) ∷ ‵ (fdies half l₃) ∷ ‵ (fat fullShare half l₂ 0 (vint w32 x)) ∷ ‵ (fdies half l₂) ∷ ‵ (fat fullShare run-ty l₁ 0 v) ∷ ‵ (fdies run-ty l₁) ∷ ‵ (froom K′.mir l₀ 0) ∷ ‵ (fdies K′.mir l₀) ∷ []
+    Locals at₇ at₆ = ‵ (froom (tyInt w64) l₁₃ 0) ∷ ‵ (fdies (tyInt w64) l₁₃) ∷ ‵ (froom half l₁₂ 0) ∷ ‵ (fdies half l₁₂) ∷ ‵ (froom half l₁₁ 0) ∷ ‵ (fdies half l₁₁) ∷ ‵ (froom line-ty l₁₀ 0)
+        ∷ ‵ (fdies line-ty l₁₀)
+        ∷ ‵ (froom tyBool l₉ 0) ∷ ‵ (fdies tyBool l₉) ∷ ‵ (froom (S′.mir erased) l₈ 0) ∷ ‵ (fdies (S′.mir erased) l₈) ∷ ‵ at₇ ∷ ‵ (fdies half l₇) ∷ ‵ at₆ ∷ ‵ (fdies line-ty l₆)
+        ∷ ‵ (froom (Z′.mir erased) l₅ 0) ∷ ‵ (fdies (Z′.mir erased) l₅)
+        ∷ ‵ (fat fullShare half l₄ 0 (vint w32 n)) ∷ ‵ (fdies half l₄) ∷ ‵ (fat fullShare half l₃ 0 (vint w32 t)) ∷ ‵ (fdies half l₃) ∷ ‵ (fat fullShare half l₂ 0 (vint w32 x))
+        ∷ ‵ (fdies half l₂) ∷ ‵ (fat fullShare run-ty l₁ 0 v) ∷ ‵ (fdies run-ty l₁) ∷ ‵ (froom K′.mir l₀ 0) ∷ ‵ (fdies K′.mir l₀) ∷ []
 
     abbrev Upto : Type 0
     Upto = (i : ℕ) × (i ≤ n)
@@ -240,7 +257,8 @@ module _ {M : Type 1} (𝓤 : URA M) (H : Heap 𝓤) (A : Atoms 𝓤) (W : Given
         assigns ! (of-opd ! (load ! (from ! (stop !)) (look ! 17 refl))) (from ! (stop !)) (init ! 9 refl (typed (line (i .0)) g)) $
         use2 W (raw (Step 𝓤 H A mem run .pre (to-step (line (i .0))))) (goes-step (line (i .0))) $
         calls-at ! fm (Step 𝓤 H A mem run) known-step (to-step (line (i .0))) (and-then ! (load ! (from ! (stop !)) (look ! 8 refl)) (no-more !)) (λ u.
-        use1 W (later (some (λ (r : Stepped). (Tok ⊛ ‵ (S.the-row α .own r (u ∷ []))) ⊛ raw (ensured 𝓤 H A step.ended (step.clauses 𝓤 H A mem run) (κ, tt) (line (i .0), tt) tt r)))) (id⊢ 𝓤 _) $ await ! tt $ pick ! (λ r.
+        use1 W (later (some (λ (r : Stepped). (Tok ⊛ ‵ (S.the-row α .own r (u ∷ []))) ⊛ raw (ensured 𝓤 H A step.ended (step.clauses 𝓤 H A mem run) (κ, tt) (line (i .0), tt) tt r)))) (id⊢ 𝓤 _) $
+        await ! tt $ pick ! (λ r.
         split ! $ move ! (1 ∷ []) $ use1 W (raw (fact 𝓤 (r ≡ stepped (line (i .0))))) (step-said (line (i .0)) r) $ heard ! (r ≡ stepped (line (i .0))) (λ e. split ! $ move ! (1 ∷ []) $
         -- [what the result owns; the token; what the run owns; _13; …]
         peeks ! (S.the-row α) (Is (S.the-row α)) (shows 𝓤 H A (S.the-row α)) r (u ∷ []) (λ isu.
@@ -248,9 +266,11 @@ module _ {M : Type 1} (𝓤 : URA M) (H : Heap 𝓤) (A : Atoms 𝓤) (W : Given
         land ! (from ! (stop !)) (init ! 13 refl (LL.lawful (S.the-type αᵉ) (S′.the-laws αᵉ) 𝓤 H A W .typed r _ isu .0)) $
         rewrite ! 13 (λ (w : Val). ‵ (fat fullShare (S′.mir erased) l₈ 0 w)) (ap only same) refl $
         rewrite ! 0 (λ (ws : List Val). ‵ (S.the-row α .own r ws)) same refl $
-        assigns ! (of-opd ! (load ! (from ! (fld ! refl (stop !))) (look-in ! 13 (sub ! 0 refl (whole !))))) (from ! (stop !)) (store ! 17 refl (tt, LL.lawful (S.the-type αᵉ) (S′.the-laws αᵉ) 𝓤 H A W .typed r _ (subst (Is (S.the-row α) r) same isu) .0 .1 .0)) $
+        assigns ! (of-opd ! (load ! (from ! (fld ! refl (stop !))) (look-in ! 13 (sub ! 0 refl (whole !)))))
+        (from ! (stop !)) (store ! 17 refl (tt, LL.lawful (S.the-type αᵉ) (S′.the-laws αᵉ) 𝓤 H A W .typed r _ (subst (Is (S.the-row α) r) same isu) .0 .1 .0)) $
         use1 W (‵ (LOwn (r .line))) (stepped-line r) $
-        assigns-last ! (bin ! (load ! (from ! (stop !)) (look ! 15 refl)) (lit ! tt) (record { fits = fits (next less) })) (from ! (stop !)) (store ! 15 refl (tt, record { fits = fits (next less) })) $
+        assigns-last ! (bin ! (load ! (from ! (stop !)) (look ! 15 refl)) (lit ! tt) (record { fits = fits (next less) }))
+        (from ! (stop !)) (store ! 15 refl (tt, record { fits = fits (next less) })) $
         forget ! 9 refl $ forget ! 11 refl $ forget ! 13 refl $
         rewrite ! 0 (λ (d : Lifeline). ‵ (LOwn d)) (one-more r e) refl $ rewrite ! 17 (λ (d : Lifeline). ‵ (fat fullShare line-ty l₆ 0 (L′.lowered d))) (one-more r e) refl $
         again ! Nearer At i (next less) (add-one-dec n (i .0) (ltb→lt (i .0) n less)))))))
@@ -259,10 +279,14 @@ module _ {M : Type 1} (𝓤 : URA M) (H : Heap 𝓤) (A : Atoms 𝓤) (W : Given
         assigns ! (of-opd ! (load ! (from ! (fld ! refl (stop !))) (look-in ! 17 (sub ! 1 refl (whole !))))) (from ! (stop !)) (init ! 7 refl (tt, wt .1 .1 .0)) $
         assigns ! (of-opd ! (load ! (from ! (fld ! refl (stop !))) (look-in ! 17 (sub ! 2 refl (whole !))))) (from ! (stop !)) (init ! 5 refl (tt, wt .1 .1 .1 .0)) $
         assigns ! (of-opd ! (load ! (from ! (fld ! refl (stop !))) (look-in ! 17 (sub ! 3 refl (whole !))))) (from ! (stop !)) (init ! 3 refl (tt, wt .1 .1 .1 .1 .0)) $
-        assigns ! (agg ! (and-then ! (load ! (from ! (stop !)) (look ! 7 refl)) (and-then ! (load ! (from ! (stop !)) (look ! 5 refl)) (and-then ! (load ! (from ! (stop !)) (look ! 3 refl)) (no-more !))))) (from ! (stop !)) (init ! 29 refl (tt, (wt .1 .1 .0, (wt .1 .1 .1 .0, (wt .1 .1 .1 .1 .0, tt))))) $
-        returns ! (look ! 29 refl) $ forget ! 3 refl $ forget ! 5 refl $ forget ! 7 refl $ forget ! 11 refl $ forget ! 15 refl $ forget ! 17 refl $ forget ! 21 refl $ forget ! 23 refl $ forget ! 25 refl $ forget ! 27 refl $ forget ! 29 refl $
-        move ! (29 ∷ 30 ∷ []) $ free1 ! $ move ! (27 ∷ 28 ∷ []) $ free1 ! $ move ! (25 ∷ 26 ∷ []) $ free1 ! $ move ! (23 ∷ 24 ∷ []) $ free1 ! $ move ! (21 ∷ 22 ∷ []) $ free1 ! $ move ! (19 ∷ 20 ∷ []) $ free1 ! $ move ! (17 ∷ 18 ∷ []) $ free1 ! $
-        move ! (15 ∷ 16 ∷ []) $ free1 ! $ move ! (13 ∷ 14 ∷ []) $ free1 ! $ move ! (11 ∷ 12 ∷ []) $ free1 ! $ move ! (9 ∷ 10 ∷ []) $ free1 ! $ move ! (7 ∷ 8 ∷ []) $ free1 ! $ move ! (5 ∷ 6 ∷ []) $ free1 ! $ move ! (3 ∷ 4 ∷ []) $ free1 ! $ free0 ! $
+        assigns ! (agg ! (and-then ! (load ! (from ! (stop !)) (look ! 7 refl)) (and-then ! (load ! (from ! (stop !)) (look ! 5 refl))
+        (and-then ! (load ! (from ! (stop !)) (look ! 3 refl)) (no-more !))))) (from ! (stop !)) (init ! 29 refl (tt, (wt .1 .1 .0, (wt .1 .1 .1 .0, (wt .1 .1 .1 .1 .0, tt))))) $
+        returns ! (look ! 29 refl) $ forget ! 3 refl $ forget ! 5 refl $ forget ! 7 refl $ forget ! 11 refl $ forget ! 15 refl $ forget ! 17 refl $ forget ! 21 refl $ forget ! 23 refl $
+        forget ! 25 refl $ forget ! 27 refl $ forget ! 29 refl $
+        move ! (29 ∷ 30 ∷ []) $ free1 ! $ move ! (27 ∷ 28 ∷ []) $ free1 ! $ move ! (25 ∷ 26 ∷ []) $ free1 ! $ move ! (23 ∷ 24 ∷ []) $ free1 ! $ move ! (21 ∷ 22 ∷ []) $ free1 ! $
+        move ! (19 ∷ 20 ∷ []) $ free1 ! $ move ! (17 ∷ 18 ∷ []) $ free1 ! $
+        move ! (15 ∷ 16 ∷ []) $ free1 ! $ move ! (13 ∷ 14 ∷ []) $ free1 ! $ move ! (11 ∷ 12 ∷ []) $ free1 ! $ move ! (9 ∷ 10 ∷ []) $ free1 ! $ move ! (7 ∷ 8 ∷ []) $ free1 ! $ move ! (5 ∷ 6 ∷ []) $
+        free1 ! $ move ! (3 ∷ 4 ∷ []) $ free1 ! $ free0 ! $
         by ! (exits (line (i .0)) g (stand-is s x t (i .0) ∙ ap (standAfter (s .now) x t) (le-antisymm (i .1) (nltb→le (i .0) n over))))))
       where
         fits : (j : Upto) → j .0 < 2 ^ 32
@@ -281,15 +305,18 @@ module _ {M : Type 1} (𝓤 : URA M) (H : Heap 𝓤) (A : Atoms 𝓤) (W : Given
     begins =
         qed W (Tok ∷ ‵ Own ∷ Locals (froom half l₇ 0) (froom line-ty l₆ 0)) ∵ exec ! C Λ En parts.t-1 (atRet En Post) $
         use2 W (raw (Start 𝓤 H A mem run .pre to-start) ⊛ ‵ Own) goes-start $ split ! $
-        calls-at ! fm (Start 𝓤 H A mem run) known-start to-start (and-then ! (load ! (from ! (stop !)) (look ! 26 refl)) (and-then ! (load ! (from ! (stop !)) (look ! 24 refl)) (and-then ! (load ! (from ! (stop !)) (look ! 22 refl)) (no-more !)))) (λ u.
-        use1 W (later (some (λ (r : Started). (Tok ⊛ ‵ (Z.the-row α .own r (u ∷ []))) ⊛ raw (ensured 𝓤 H A start.ended (start.clauses 𝓤 H A mem run) (κ, tt) (s, (x, (t, tt))) tt r)))) (id⊢ 𝓤 _) $ await ! tt $ pick ! (λ r.
+        calls-at ! fm (Start 𝓤 H A mem run) known-start to-start (and-then ! (load ! (from ! (stop !)) (look ! 26 refl)) (and-then ! (load ! (from ! (stop !)) (look ! 24 refl))
+        (and-then ! (load ! (from ! (stop !)) (look ! 22 refl)) (no-more !)))) (λ u.
+        use1 W (later (some (λ (r : Started). (Tok ⊛ ‵ (Z.the-row α .own r (u ∷ []))) ⊛ raw (ensured 𝓤 H A start.ended (start.clauses 𝓤 H A mem run) (κ, tt) (s, (x, (t, tt))) tt r)))) (id⊢ 𝓤 _) $
+        await ! tt $ pick ! (λ r.
         split ! $ move ! (1 ∷ []) $ use1 W (raw (fact 𝓤 (r ≡ started s x t))) (start-said r) $ heard ! (r ≡ started s x t) (λ e. split ! $ move ! (1 ∷ []) $
         peeks ! (Z.the-row α) (Is (Z.the-row α)) (shows 𝓤 H A (Z.the-row α)) r (u ∷ []) (λ isu.
         let same = LL.tells (Z.the-type α) (Z′.the-laws α) r (u ∷ []) isu in
         land ! (from ! (stop !)) (init ! 19 refl (LL.lawful (Z.the-type αᵉ) (Z′.the-laws αᵉ) 𝓤 H A W .typed r _ isu .0)) $
         rewrite ! 19 (λ (w : Val). ‵ (fat fullShare (Z′.mir erased) l₅ 0 w)) (ap only same) refl $
         rewrite ! 0 (λ (ws : List Val). ‵ (Z.the-row α .own r ws)) same refl $
-        assigns ! (of-opd ! (load ! (from ! (fld ! refl (stop !))) (look-in ! 19 (sub ! 0 refl (whole !))))) (from ! (stop !)) (init ! 17 refl (tt, LL.lawful (Z.the-type αᵉ) (Z′.the-laws αᵉ) 𝓤 H A W .typed r _ (subst (Is (Z.the-row α) r) same isu) .0 .1 .0)) $
+        assigns ! (of-opd ! (load ! (from ! (fld ! refl (stop !))) (look-in ! 19 (sub ! 0 refl (whole !)))))
+        (from ! (stop !)) (init ! 17 refl (tt, LL.lawful (Z.the-type αᵉ) (Z′.the-laws αᵉ) 𝓤 H A W .typed r _ (subst (Is (Z.the-row α) r) same isu) .0 .1 .0)) $
         use1 W (‵ (LOwn (r .line))) (started-line r) $
         assigns ! (of-opd ! (lit ! tt)) (from ! (stop !)) (init ! 15 refl (tt, record { fits = lit< tt })) $ forget ! 19 refl $
         rewrite ! 0 (λ (d : Lifeline). ‵ (LOwn d)) (at-first r e) refl $ rewrite ! 17 (λ (d : Lifeline). ‵ (fat fullShare line-ty l₆ 0 (L′.lowered d))) (at-first r e) refl $
@@ -299,23 +326,36 @@ module _ {M : Type 1} (𝓤 : URA M) (H : Heap 𝓤) (A : Atoms 𝓤) (W : Given
         at-first r e = ap (λ (y : Started). y .line) e ∙ sym (after-none s x t)
 
   -- ---- the entry
-  walk : (𝓣 : Tables 𝓤 H) → FmC 𝓤 H (W .laws) (𝓣 .C) → Room u8 (length (s .now)) → Triple 𝓤 (𝓣 .C #lifeline-reader·start) (Start 𝓤 H A mem run) → Triple 𝓤 (𝓣 .C #lifeline-reader·step) (Step 𝓤 H A mem run)
+  walk : (𝓣 : Tables 𝓤 H) → FmC 𝓤 H (W .laws) (𝓣 .C) → Room u8 (length (s .now)) → Triple 𝓤 (𝓣 .C #lifeline-reader·start) (Start 𝓤 H A mem run)
+      → Triple 𝓤 (𝓣 .C #lifeline-reader·step) (Step 𝓤 H A mem run)
       → ent 𝓤 (onEntry 𝓤 H A stand.signature (κ, tt) (q, tt) a at) (WpFn 𝓤 H (𝓣 .C) (𝓣 .Λ) function (v ∷ vint w32 x ∷ vint w32 t ∷ vint w32 n ∷ []) Post)
   walk 𝓣 fm room known-start known-step =
       qed W (Tok ∷ ‵ (owns (ShrSlice (named 0) κ u8 ∷ u32 ∷ u32 ∷ u32 ∷ []) a at) ∷ []) ∵ move ! (1 ∷ []) $ fsplit ! $ move ! (1 ∷ []) $ drop ! $ move ! (1 ∷ 0 ∷ []) $
       enter ! (𝓣 .C) (𝓣 .Λ) function (v ∷ vint w32 x ∷ vint w32 t ∷ vint w32 n ∷ []) _ $
-      alloc1 ! (λ l₀. alloc1 ! (λ l₁. alloc1 ! (λ l₂. alloc1 ! (λ l₃. alloc1 ! (λ l₄. alloc1 ! (λ l₅. alloc1 ! (λ l₆. alloc1 ! (λ l₇. alloc1 ! (λ l₈. alloc1 ! (λ l₉. alloc1 ! (λ l₁₀. alloc1 ! (λ l₁₁. alloc1 ! (λ l₁₂. alloc1 ! (λ l₁₃. alloc0 ! $ params1 ! $
-      pass1 ! (init ! 24 refl (tt, (tt, (record { fits = room .0 }, tt)))) $ pass1 ! (init ! 22 refl (tt, record { fits = x-fits })) $ pass1 ! (init ! 20 refl (tt, record { fits = t-fits })) $ pass1 ! (init ! 18 refl (tt, record { fits = n-fits })) $ pass0 ! $
+      alloc1 ! (λ l₀. alloc1 ! (λ l₁. alloc1 ! (λ l₂. alloc1 ! (λ l₃. alloc1 ! (λ l₄. alloc1 ! (λ l₅. alloc1 ! (λ l₆. alloc1 ! (λ l₇. alloc1 ! (λ l₈. alloc1 ! (λ l₉. alloc1 ! (λ l₁₀.
+      alloc1 ! (λ l₁₁. alloc1 ! (λ l₁₂. alloc1 ! (λ l₁₃. alloc0 ! $ params1 ! $
+      pass1 ! (init ! 24 refl (tt, (tt, (record { fits = room .0 }, tt)))) $ pass1 ! (init ! 22 refl (tt, record { fits = x-fits })) $ pass1 ! (init ! 20 refl (tt, record { fits = t-fits })) $
+      pass1 ! (init ! 18 refl (tt, record { fits = n-fits })) $ pass0 ! $
       move ! (28 ∷ 29 ∷ []) $ by ! (begins 𝓣 fm known-start known-step l₀ l₁ l₂ l₃ l₄ l₅ l₆ l₇ l₈ l₉ l₁₀ l₁₁ l₁₂ l₁₃)))))))))))))))
 
 module _ {M : Type 1} (𝓤 : URA M) (H : Heap 𝓤) (A : Atoms 𝓤) (W : Given 𝓤 H A) (mem : Memory → SProp 𝓤) (run : Routine → Fun 𝓤) (𝓣 : Tables 𝓤 H) where
-  stand-after-walks : Triple 𝓤 (𝓣 .C #lifeline-reader·start) (Start 𝓤 H A mem run) → Triple 𝓤 (𝓣 .C #lifeline-reader·step) (Step 𝓤 H A mem run) → Walks 𝓤 H A stand.ended stayed (WpFn 𝓤 H (𝓣 .C) (𝓣 .Λ) function) (stand.clauses 𝓤 H A mem run)
-  stand-after-walks known-start known-step = walked 𝓤 H A stand.ended stayed (stand.clauses 𝓤 H A mem run) (WpFn 𝓤 H (𝓣 .C) (𝓣 .Λ) function) (λ κs. (slice-vals, (uint-vals w32, (uint-vals w32, (uint-vals w32, tt))))) (λ κs. (shr-slice-tells (named 0) (κs .0) u8, (uint-tells w32, (uint-tells w32, (uint-tells w32, tt)))))
-      (λ κs qs bounds a g are. via 𝓤 _ (fst∗ 𝓤 _ (emp 𝓤)) (walk 𝓤 H A W mem run (κs .0) (qs .0) (a .0) (a .1 .0) (a .1 .1 .0) (a .1 .1 .1 .0) (are .1 .0 .1) (are .1 .1 .0 .1) (are .1 .1 .1 .0 .1) 𝓣 (fmOf 𝓤 H (W .laws) 𝓣) (are .0 .0 .1) known-start known-step))
+  stand-after-walks : Triple 𝓤 (𝓣 .C #lifeline-reader·start) (Start 𝓤 H A mem run) → Triple 𝓤 (𝓣 .C #lifeline-reader·step) (Step 𝓤 H A mem run)
+      → Walks 𝓤 H A stand.ended stayed (WpFn 𝓤 H (𝓣 .C) (𝓣 .Λ) function) (stand.clauses 𝓤 H A mem run)
+  stand-after-walks known-start known-step = walked 𝓤 H A stand.ended stayed (stand.clauses 𝓤 H A mem run) (WpFn 𝓤 H (𝓣 .C) (𝓣 .Λ) function)
+      (λ κs. (slice-vals, (uint-vals w32, (uint-vals w32, (uint-vals w32, tt))))) (λ κs. (shr-slice-tells (named 0) (κs .0) u8, (uint-tells w32, (uint-tells w32, (uint-tells w32, tt)))))
+      (λ κs qs bounds a g are. via 𝓤 _ (fst∗ 𝓤 _ (emp 𝓤)) (walk 𝓤 H A W mem run (κs .0) (qs .0) (a .0) (a .1 .0) (a .1 .1 .0) (a .1 .1 .1 .0) (are .1 .0 .1) (are .1 .1 .0 .1)
+      (are .1 .1 .1 .0 .1) 𝓣 (fmOf 𝓤 H (W .laws) 𝓣) (are .0 .0 .1) known-start known-step))
 
-  stand-after-meets : Triple 𝓤 (𝓣 .C #lifeline-reader·start) (Start 𝓤 H A mem run) → Triple 𝓤 (𝓣 .C #lifeline-reader·step) (Step 𝓤 H A mem run) → Meets 𝓤 H A stand.signature (WpFn 𝓤 H (𝓣 .C) (𝓣 .Λ) function) (stand.spec 𝓤 H A mem run)
+  stand-after-meets : Triple 𝓤 (𝓣 .C #lifeline-reader·start) (Start 𝓤 H A mem run) → Triple 𝓤 (𝓣 .C #lifeline-reader·step) (Step 𝓤 H A mem run)
+      → Meets 𝓤 H A stand.signature (WpFn 𝓤 H (𝓣 .C) (𝓣 .Λ) function) (stand.spec 𝓤 H A mem run)
   stand-after-meets known-start known-step =
-      walk-meets 𝓤 H A stand.ended stayed W (goes-none-slice 𝓤 H A W 1 (0 ∷ []) tt (plain (λ _. u8)) yes, (goes-none 𝓤 H A W 1 (λ _. u32) yes (λ κs x f. refl), (goes-none 𝓤 H A W 1 (λ _. u32) yes (λ κs x f. refl), (goes-none 𝓤 H A W 1 (λ _. u32) yes (λ κs x f. refl), tt))))
+      walk-meets 𝓤 H A stand.ended stayed W (
+        goes-none-slice 𝓤 H A W 1 (0 ∷ []) tt (plain (λ _. u8)) yes,
+        (
+          goes-none 𝓤 H A W 1 (λ _. u32) yes (λ κs x f. refl),
+          (goes-none 𝓤 H A W 1 (λ _. u32) yes (λ κs x f. refl), (goes-none 𝓤 H A W 1 (λ _. u32) yes (λ κs x f. refl), tt)),
+        ),
+      )
       (stand.clauses 𝓤 H A mem run) (WpFn 𝓤 H (𝓣 .C) (𝓣 .Λ) function) (WpFn-mono 𝓤 H (W .laws) 𝓣 function) (stand-after-walks known-start known-step)
 
 pub stand-after-spec : {M : Type 1} → stated.statement M

@@ -1,4 +1,5 @@
--- `lifeline_reader::step` meets its contract: a walk of its MIR, by hand. The struct is taken apart, `step_at` is called on its fields, and the two structs, one in the other, are made of the slice and what it returned.
+-- `lifeline_reader::step` meets its contract: a walk of its MIR, by hand. The struct is taken apart, `step_at` is called on its fields, and the two
+-- structs, one in the other, are made of the slice and what it returned.
 -- The struct is Copy: what it owns is had twice, one copy is kept whole for the exit, and the other, taken apart, is what the callee asks.
 -- Assumes nothing.
 use mathlib.Core.Path.{_≡_, refl, ap, subst}
@@ -110,7 +111,8 @@ module _ {M : Type 1} (𝓤 : URA M) (H : Heap 𝓤) (A : Atoms 𝓤) (W : Given
       move ! (1 ∷ []) $ fsplit ! $ move ! (1 ∷ []) $ drop ! $ use1 W (‵ Own ⊛ ‵ Own) (LL.copy (L.the-type α) (L′.the-copy α) 𝓤 H A W .twice d (mach ∷ [])) $ split ! $
       use1 W (given (mach ∷ [] ≡ mach ∷ []) (‵ (all-own (L.the-type α .parts) (L′.the-laws α) fields))) (own-open 𝓤 H A W (L.the-type α) (L′.the-laws α) fields mach) $ learn ! (λ _.
       -- [what the fields own together; what the struct owns; the token]
-      move ! (2 ∷ 0 ∷ []) $ use2 W (raw (StepAt 𝓤 H A mem run .pre to)) (qed W ((‵ (flft κ q) ⊛ ‵ ftrue) ∷ ‵ (owns (ShrSlice (named 0) κ u8 ∷ u32 ∷ u32 ∷ u64 ∷ []) fields passed) ∷ []) ∵ join ! $ frame ! $ done !) $ frame ! $ done !)
+      move ! (2 ∷ 0 ∷ []) $ use2 W (raw (StepAt 𝓤 H A mem run .pre to)) (qed W ((‵ (flft κ q) ⊛ ‵ ftrue) ∷ ‵ (owns (ShrSlice (named 0) κ u8 ∷ u32 ∷ u32 ∷ u64 ∷ []) fields passed) ∷ []) ∵ join ! $
+      frame ! $ done !) $ frame ! $ done !)
 
   abbrev found : Moved
   found = stepAt (now (d .run)) (d .age) (d .year) (d .survivors)
@@ -127,7 +129,8 @@ module _ {M : Type 1} (𝓤 : URA M) (H : Heap 𝓤) (A : Atoms 𝓤) (W : Given
     makes : ent 𝓤 (sem 𝓤 H A Own) (sem 𝓤 H A (S.the-row α .own made (stepped-val made ∷ [])))
     makes =
         let had = LL.owed B.the-type B′.the-laws r _ is in
-        qed W (‵ Own ∷ []) ∵ use1 W (given (mach ∷ [] ≡ mach ∷ []) (‵ (all-own (L.the-type α .parts) (L′.the-laws α) fields))) (own-open 𝓤 H A W (L.the-type α) (L′.the-laws α) fields mach) $ learn ! (λ _. fsplit ! $ move ! (1 ∷ []) $ drop ! $
+        qed W (‵ Own ∷ []) ∵ use1 W (given (mach ∷ [] ≡ mach ∷ []) (‵ (all-own (L.the-type α .parts) (L′.the-laws α) fields))) (own-open 𝓤 H A W (L.the-type α) (L′.the-laws α) fields mach) $
+        learn ! (λ _. fsplit ! $ move ! (1 ∷ []) $ drop ! $
         nothing ! $ owned ! u64 (Is u64) (uint-makes 𝓤 H A W w64) (r .survivors) _ (had .1 .1 .0) $ fjoin ! $
         owned ! u32 (Is u32) (uint-makes 𝓤 H A W w32) (r .year) _ (had .1 .0) $ fjoin ! $ owned ! u32 (Is u32) (uint-makes 𝓤 H A W w32) (r .age) _ (had .0) $ fjoin ! $ move ! (1 ∷ 0 ∷ []) $ fjoin ! $
         use1 W (‵ (L.the-row α .own (made .line) (L′.lowered (made .line) ∷ []))) (own-shut 𝓤 H A W (L.the-type α) (L′.the-laws α) (d .run, (r .age, (r .year, (r .survivors, tt))))) $
@@ -137,22 +140,26 @@ module _ {M : Type 1} (𝓤 : URA M) (H : Heap 𝓤) (A : Atoms 𝓤) (W : Given
     exits : r ≡ found → ent 𝓤 (⋆ 𝓤 H A ((‵ (flft κ q) ⊛ ‵ ftrue) ∷ ‵ Own ∷ [])) (Post (stepped-val made))
     exits e =
         qed W ((‵ (flft κ q) ⊛ ‵ ftrue) ∷ ‵ Own ∷ []) ∵
-        suffices ! _ (ends-at 𝓤 H A step.ended stayed (step.clauses 𝓤 H A mem run) W (((κ, tt), (q, tt), tt, (d, tt), (mach ∷ [], tt)), tt) (stepped-val made) made (tt, tt) (tt, tt)) $ says ! (ap (steppedTo d) e) $
+        suffices ! _ (ends-at 𝓤 H A step.ended stayed (step.clauses 𝓤 H A mem run) W (((κ, tt), (q, tt), tt, (d, tt), (mach ∷ [], tt)), tt) (stepped-val made) made (tt, tt) (tt, tt)) $
+        says ! (ap (steppedTo d) e) $
         frame ! $ use1 W (‵ Own ⊛ ‵ Own) (LL.copy (L.the-type α) (L′.the-copy α) 𝓤 H A W .twice d (mach ∷ [])) $ split ! $ nothing ! $ move ! (1 ∷ 0 ∷ []) $ fjoin ! $ frame ! $ by ! makes
 
   module _ (C : Calls 𝓤 H) (Λ : Loops 𝓤 H) (fm : FmC 𝓤 H (W .laws) C) (known : Triple 𝓤 (C #lifeline·cohort·step-at) (StepAt 𝓤 H A mem run)) where
     walk : Holds (hasTy (L′.mir (named 0)) mach) × WT mach → ent 𝓤 (onEntry 𝓤 H A step.signature (κ, tt) (q, tt) (d, tt) (mach ∷ [], tt)) (WpFn 𝓤 H C Λ code.function (mach ∷ []) Post)
     walk wt =
         qed W (raw (onEntry 𝓤 H A step.signature (κ, tt) (q, tt) (d, tt) (mach ∷ [], tt)) ∷ []) ∵ enter ! C Λ code.function (mach ∷ []) _ $
-        alloc1 ! (λ l₀. alloc1 ! (λ l₁. alloc1 ! (λ l₂. alloc1 ! (λ l₃. alloc1 ! (λ l₄. alloc1 ! (λ l₅. alloc1 ! (λ l₆. alloc1 ! (λ l₇. alloc1 ! (λ l₈. alloc0 ! $ params1 ! $ pass1 ! (init ! 14 refl wt) $ pass0 ! $
+        alloc1 ! (λ l₀. alloc1 ! (λ l₁. alloc1 ! (λ l₂. alloc1 ! (λ l₃. alloc1 ! (λ l₄. alloc1 ! (λ l₅. alloc1 ! (λ l₆. alloc1 ! (λ l₇. alloc1 ! (λ l₈. alloc0 ! $ params1 ! $
+        pass1 ! (init ! 14 refl wt) $ pass0 ! $
         assigns ! (of-opd ! (load ! (from ! (fld ! refl (stop !))) (look-in ! 14 (sub ! 0 refl (whole !))))) (from ! (stop !)) (init ! 10 refl (tt, wt .1 .0)) $
         assigns ! (of-opd ! (load ! (from ! (fld ! refl (stop !))) (look-in ! 14 (sub ! 1 refl (whole !))))) (from ! (stop !)) (init ! 8 refl (tt, wt .1 .1 .0)) $
         assigns ! (of-opd ! (load ! (from ! (fld ! refl (stop !))) (look-in ! 14 (sub ! 2 refl (whole !))))) (from ! (stop !)) (init ! 6 refl (tt, wt .1 .1 .1 .0)) $
         assigns ! (of-opd ! (load ! (from ! (fld ! refl (stop !))) (look-in ! 14 (sub ! 3 refl (whole !))))) (from ! (stop !)) (init ! 4 refl (tt, wt .1 .1 .1 .1 .0)) $
         move ! (18 ∷ []) $ use1 W (raw (StepAt 𝓤 H A mem run .pre to) ⊛ ‵ Own) apart $ split ! $
         -- [what `step_at` asks; what the struct owns; _8; …; _0; …]
-        calls-at ! fm (StepAt 𝓤 H A mem run) known to (and-then ! (load ! (from ! (stop !)) (look ! 12 refl)) (and-then ! (load ! (from ! (stop !)) (look ! 10 refl)) (and-then ! (load ! (from ! (stop !)) (look ! 8 refl)) (and-then ! (load ! (from ! (stop !)) (look ! 6 refl)) (no-more !))))) (λ u.
-        use1 W (later (some (λ (r : Moved). ((‵ (flft κ q) ⊛ ‵ ftrue) ⊛ ‵ (B.the-row .own r (u ∷ []))) ⊛ raw (ensured 𝓤 H A step-at.ended (step-at.clauses 𝓤 H A mem run) (κ, tt) fields tt r)))) (id⊢ 𝓤 _) $ await ! tt $ pick ! (λ r.
+        calls-at ! fm (StepAt 𝓤 H A mem run) known to (and-then ! (load ! (from ! (stop !)) (look ! 12 refl)) (and-then ! (load ! (from ! (stop !)) (look ! 10 refl))
+        (and-then ! (load ! (from ! (stop !)) (look ! 8 refl)) (and-then ! (load ! (from ! (stop !)) (look ! 6 refl)) (no-more !))))) (λ u.
+        use1 W (later (some (λ (r : Moved). ((‵ (flft κ q) ⊛ ‵ ftrue) ⊛ ‵ (B.the-row .own r (u ∷ []))) ⊛ raw (ensured 𝓤 H A step-at.ended (step-at.clauses 𝓤 H A mem run) (κ, tt) fields tt r))))
+        (id⊢ 𝓤 _) $ await ! tt $ pick ! (λ r.
         split ! $ move ! (1 ∷ []) $ use1 W (raw (fact 𝓤 (r ≡ found))) (said r) $ heard ! (r ≡ found) (λ e. split ! $ move ! (1 ∷ []) $
         facts ! B.the-row (Is B.the-row) (shows 𝓤 H A B.the-row) r (u ∷ []) (λ isu.
         -- [the token; what the struct owns; _8; …]
@@ -161,18 +168,25 @@ module _ {M : Type 1} (𝓤 : URA M) (H : Heap 𝓤) (A : Atoms 𝓤) (W : Given
         let is = subst (Is B.the-row r) (LL.tells B.the-type B′.the-laws r (u ∷ []) isu) isu in
         let got = LL.lawful B.the-type B′.the-laws 𝓤 H A W .typed r _ is .0 in
         assigns ! (of-opd ! (load ! (from ! (fld ! refl (stop !))) (look-in ! 16 (sub ! 0 refl (whole !))))) (from ! (stop !)) (init ! 4 refl (tt, wt .1 .0)) $
-        assigns ! (agg ! (and-then ! (load ! (from ! (stop !)) (look ! 4 refl)) (and-then ! (load ! (from ! (fld ! refl (stop !))) (look-in ! 14 (sub ! 0 refl (whole !)))) (and-then ! (load ! (from ! (fld ! refl (stop !))) (look-in ! 14 (sub ! 1 refl (whole !))))
-        (and-then ! (load ! (from ! (fld ! refl (stop !))) (look-in ! 14 (sub ! 2 refl (whole !)))) (no-more !)))))) (from ! (stop !)) (init ! 2 refl (tt, (wt .1 .0, (got .1 .0, (got .1 .1 .0, (got .1 .1 .1 .0, tt)))))) $
-        assigns ! (agg ! (and-then ! (load ! (from ! (stop !)) (look ! 2 refl)) (and-then ! (load ! (from ! (fld ! refl (stop !))) (look-in ! 14 (sub ! 3 refl (whole !)))) (no-more !)))) (from ! (stop !))
+        assigns ! (agg ! (and-then ! (load ! (from ! (stop !)) (look ! 4 refl)) (and-then ! (load ! (from ! (fld ! refl (stop !))) (look-in ! 14 (sub ! 0 refl (whole !))))
+        (and-then ! (load ! (from ! (fld ! refl (stop !))) (look-in ! 14 (sub ! 1 refl (whole !))))
+        (and-then ! (load ! (from ! (fld ! refl (stop !))) (look-in ! 14 (sub ! 2 refl (whole !)))) (no-more !))))))
+        (from ! (stop !)) (init ! 2 refl (tt, (wt .1 .0, (got .1 .0, (got .1 .1 .0, (got .1 .1 .1 .0, tt)))))) $
+        assigns ! (agg ! (and-then ! (load ! (from ! (stop !)) (look ! 2 refl))
+        (and-then ! (load ! (from ! (fld ! refl (stop !))) (look-in ! 14 (sub ! 3 refl (whole !)))) (no-more !)))) (from ! (stop !))
         (init ! 18 refl (got .0, ((wt .1 .0, (got .1 .0, (got .1 .1 .0, (got .1 .1 .1 .0, tt)))), (got .1 .1 .1 .1 .0, tt)))) $
-        returns ! (look ! 18 refl) $ forget ! 2 refl $ forget ! 4 refl $ forget ! 6 refl $ forget ! 8 refl $ forget ! 10 refl $ forget ! 12 refl $ forget ! 14 refl $ forget ! 16 refl $ forget ! 18 refl $
-        move ! (18 ∷ 19 ∷ []) $ free1 ! $ move ! (16 ∷ 17 ∷ []) $ free1 ! $ move ! (14 ∷ 15 ∷ []) $ free1 ! $ move ! (12 ∷ 13 ∷ []) $ free1 ! $ move ! (10 ∷ 11 ∷ []) $ free1 ! $ move ! (8 ∷ 9 ∷ []) $ free1 ! $ move ! (6 ∷ 7 ∷ []) $ free1 ! $
+        returns ! (look ! 18 refl) $ forget ! 2 refl $ forget ! 4 refl $ forget ! 6 refl $ forget ! 8 refl $ forget ! 10 refl $ forget ! 12 refl $ forget ! 14 refl $ forget ! 16 refl $
+        forget ! 18 refl $
+        move ! (18 ∷ 19 ∷ []) $ free1 ! $ move ! (16 ∷ 17 ∷ []) $ free1 ! $ move ! (14 ∷ 15 ∷ []) $ free1 ! $ move ! (12 ∷ 13 ∷ []) $ free1 ! $ move ! (10 ∷ 11 ∷ []) $ free1 ! $ move ! (8 ∷ 9 ∷ []) $
+        free1 ! $ move ! (6 ∷ 7 ∷ []) $ free1 ! $
         move ! (4 ∷ 5 ∷ []) $ free1 ! $ move ! (2 ∷ 3 ∷ []) $ free1 ! $ free0 ! $ by ! (exits r is e))))))))))))))
 
 module _ {M : Type 1} (𝓤 : URA M) (H : Heap 𝓤) (A : Atoms 𝓤) (W : Given 𝓤 H A) (mem : Memory → SProp 𝓤) (run : Routine → Fun 𝓤) (𝓣 : Tables 𝓤 H) where
   step-walks : Triple 𝓤 (𝓣 .C #lifeline·cohort·step-at) (StepAt 𝓤 H A mem run) → Walks 𝓤 H A step.ended stayed (WpFn 𝓤 H (𝓣 .C) (𝓣 .Λ) code.function) (step.clauses 𝓤 H A mem run)
-  step-walks known = walked 𝓤 H A step.ended stayed (step.clauses 𝓤 H A mem run) (WpFn 𝓤 H (𝓣 .C) (𝓣 .Λ) code.function) (λ κs. (LL.vals (L.the-type (namedLft 1 0 tt κs)) (L′.the-laws (namedLft 1 0 tt κs)), tt)) (λ κs. (LL.tells (L.the-type (namedLft 1 0 tt κs)) (L′.the-laws (namedLft 1 0 tt κs)), tt))
-      (λ κs qs bounds a g are. via 𝓤 _ (fst∗ 𝓤 _ (emp 𝓤)) (walk 𝓤 H A W mem run (κs .0) (qs .0) (a .0) (𝓣 .C) (𝓣 .Λ) (fmOf 𝓤 H (W .laws) 𝓣) known (LL.lawful (L.the-type (namedLft 1 0 tt κs)) (L′.the-laws (namedLft 1 0 tt κs)) 𝓤 H A W .typed (a .0) _ (are .0) .0)))
+  step-walks known = walked 𝓤 H A step.ended stayed (step.clauses 𝓤 H A mem run) (WpFn 𝓤 H (𝓣 .C) (𝓣 .Λ) code.function)
+      (λ κs. (LL.vals (L.the-type (namedLft 1 0 tt κs)) (L′.the-laws (namedLft 1 0 tt κs)), tt)) (λ κs. (LL.tells (L.the-type (namedLft 1 0 tt κs)) (L′.the-laws (namedLft 1 0 tt κs)), tt))
+      (λ κs qs bounds a g are. via 𝓤 _ (fst∗ 𝓤 _ (emp 𝓤)) (walk 𝓤 H A W mem run (κs .0) (qs .0) (a .0) (𝓣 .C) (𝓣 .Λ) (fmOf 𝓤 H (W .laws) 𝓣)
+      known (LL.lawful (L.the-type (namedLft 1 0 tt κs)) (L′.the-laws (namedLft 1 0 tt κs)) 𝓤 H A W .typed (a .0) _ (are .0) .0)))
 
   step-meets : Triple 𝓤 (𝓣 .C #lifeline·cohort·step-at) (StepAt 𝓤 H A mem run) → Meets 𝓤 H A step.signature (WpFn 𝓤 H (𝓣 .C) (𝓣 .Λ) code.function) (step.spec 𝓤 H A mem run)
   step-meets known = walk-meets 𝓤 H A step.ended stayed W (goes-none 𝓤 H A W 1 (λ κs. L.the-row (namedLft 1 0 tt κs)) yes (λ κs x f. refl), tt)

@@ -131,8 +131,8 @@ module _ {M : Type 1} (𝓤 : URA M) (H : Heap 𝓤) (A : Atoms 𝓤) (W : Given
       suffices ! _ (assoc∗ 𝓤 (onExit 𝓤 H A grid.ended stayed (κ₀, (κ₁, tt)) (q₀, (q₁, tt)) vals w r a (tt, (zs, tt))) (fact 𝓤 _) (fact 𝓤 _)) $
       says ! f $ says ! e $ frame ! $ nothing ! $ move ! (2 ∷ 0 ∷ []) $ fjoin ! $ move ! (1 ∷ 0 ∷ []) $ fjoin ! $ done !
 
-  module _ (C : Calls 𝓤 H) (Λ : Loops 𝓤 H) (fm : FmC 𝓤 H (W .laws) C) (known-fill : Triple 𝓤 (C #grid·fill) (Fill 𝓤 H A mem run)) (known-refusal : Triple 𝓤 (C #engine·answers·refusal-of)
-      (RefusalOf 𝓤 H A mem run)) where
+  module _ (C : Calls 𝓤 H) (Λ : Loops 𝓤 H) (fm : FmC 𝓤 H (W .laws) C) (known-fill : Triple 𝓤 (C #grid·fill) (Fill 𝓤 H A mem run))
+      (known-refusal : Triple 𝓤 (C #engine·answers·refusal-of) (RefusalOf 𝓤 H A mem run)) where
     walk : Room u8 (length (s .now)) → Room P.the-row (length xs) → ent 𝓤 (onEntry 𝓤 H A grid.signature (κ₀, (κ₁, tt)) (q₀, (q₁, tt)) a vals) (WpFn 𝓤 H C Λ code.function (v ∷ u ∷ []) Post)
     walk room₀ room =
         qed W (raw (onEntry 𝓤 H A grid.signature (κ₀, (κ₁, tt)) (q₀, (q₁, tt)) a vals) ∷ []) ∵ enter ! C Λ code.function (v ∷ u ∷ []) _ $
