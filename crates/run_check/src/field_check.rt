@@ -54,7 +54,7 @@ fn entry_ok(run: &[u8], kind: Number, low: i64, high: i64, at: usize) -> bool
 }
 
 // The first number of a field that is outside its limits.
-pub fn check_field(run: &[u8], f: Field) -> Check
+pub(crate) fn check_field(run: &[u8], f: Field) -> Check
     requires { ⌜ (f .4 + f .5 * widthOf (f .1) ≤ length (now run)) × (length (now run) ≡ 4554) ⌝ }
     ensures { λ r. ⌜ r ≡ fieldCheck (now (run .entry)) f ⌝ }
 {

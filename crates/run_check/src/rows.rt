@@ -11,7 +11,7 @@ use basis::Check;
 use basis::first_of;
 
 // The letters MPB1 and the zero bytes (4).
-pub fn check_mark(run: &[u8]) -> Check
+pub(crate) fn check_mark(run: &[u8]) -> Check
     requires { ⌜ length (now run) ≡ 4554 ⌝ }
     ensures { λ r. ⌜ r ≡ fieldsCheck (now (run .entry)) (take 5 runFields) ⌝ }
 {
@@ -30,7 +30,7 @@ pub fn check_mark(run: &[u8]) -> Check
 }
 
 // F, B, the addition and the rate of discount (5).
-pub fn check_single_fields(run: &[u8]) -> Check
+pub(crate) fn check_single_fields(run: &[u8]) -> Check
     requires { ⌜ length (now run) ≡ 4554 ⌝ }
     ensures { λ r. ⌜ r ≡ fieldsCheck (now (run .entry)) (take 4 (drop 5 runFields)) ⌝ }
 {
@@ -61,7 +61,7 @@ pub fn check_single_fields(run: &[u8]) -> Check
 }
 
 // The tables by age (5).
-pub fn check_ages(run: &[u8]) -> Check
+pub(crate) fn check_ages(run: &[u8]) -> Check
     requires { ⌜ length (now run) ≡ 4554 ⌝ }
     ensures { λ r. ⌜ r ≡ fieldsCheck (now (run .entry)) (take 5 (drop 9 runFields)) ⌝ }
 {
@@ -103,7 +103,7 @@ pub fn check_ages(run: &[u8]) -> Check
 }
 
 // The tables by birth year (5).
-pub fn check_birth_years(run: &[u8]) -> Check
+pub(crate) fn check_birth_years(run: &[u8]) -> Check
     requires { ⌜ length (now run) ≡ 4554 ⌝ }
     ensures { λ r. ⌜ r ≡ fieldsCheck (now (run .entry)) (take 4 (drop 14 runFields)) ⌝ }
 {
