@@ -1,7 +1,6 @@
 pub mod Signed
 pub mod Outcome
 pub mod Bytes
-pub mod Lent
 pub mod Accumulation
 mod Turns
 mod Stretches

@@ -3,13 +3,16 @@ use Prim.Native.Nat.{ℕ, _+_}
 use mathlib.Core.List.{List, _++_}
 use lib.ListN.{length, take, drop}
 use lib.Dec.{leb}
 use Rattle.basis.specs.declared.Check.{Check}
 use Rattle.basis.specs.declared.Check.the-variants.{Passed, Refused}
 use Rattle.basis.specs.Outcome.{refusal, unless}
 
--- an output shorter than what is needed (11)
-unfoldable pub roomCheck : {A : Type 0} → ℕ → List A → Check
-roomCheck need out = unless (leb need (length out)) (refusal 11 need 0)
+-- too short (11): fewer elements are lent than are needed
+unfoldable pub countCheck : ℕ → ℕ → Check
+countCheck needed lent = unless (leb needed lent) (refusal 11 needed 0)
+
+abbrev pub roomCheck : {A : Type 0} → ℕ → List A → Check
+roomCheck needed out = countCheck needed (length out)
 
 -- what stands in an output after the check: the new elements in front of its further ones, or what stood there
 abbrev pub written : {A : Type 0} → Check → List A → List A → List A

@@ -1,0 +1,16 @@
+-- The test is the definition's.
+use borrow.Author.Tests.{le-leb, lt-leb}
+use Rattle.lent.specs.Lent.{countCheck}
+use Rattle.lent.proofs.check_room.Statement.{statement}
+use Rattle.lent.proofs.check_room.Tie as tie
+
+returns : tie.Need-returns
+unfolding countCheck
+returns c = simp (le-leb _ _ (c .if1 .taken))
+
+returns-2 : tie.Need-returns-2
+unfolding countCheck
+returns-2 c = simp (lt-leb _ _ (c .if1 .left))
+
+pub check-room-spec : {M : Type 1} → statement M
+check-room-spec = tie.close (tie.spec returns returns-2)
