@@ -3,10 +3,10 @@ use mathlib.Core.Path.{_≡_, ap, _∙_}
 use Prim.Native.Nat.{ℕ, _-_, _≤_, _%_}
 use native.Mathlib.Omega.{arith}
 use borrow.Author.Needs.{needs}
-use Rattle.basis_file.specs.Block.{wordSum, blockCheckOf}
-use Rattle.basis_file.proofs.WordSums.{turn}
-use Rattle.basis_file.proofs.block.check_of.Statement.{statement}
-use Rattle.basis_file.proofs.block.check_of.Tie as tie
+use Rattle.block.specs.Block.{wordSum, checkOf}
+use Rattle.block.proofs.WordSums.{turn}
+use Rattle.block.proofs.check_of.Statement.{statement}
+use Rattle.block.proofs.check_of.Tie as tie
 
 abbrev Inv-loop : tie.InvT-loop
 Inv-loop block sum₀ i₀ sum i = (i ≤ 127) × (sum ≡ wordSum block i % 4_294_967_296)
@@ -48,7 +48,7 @@ loop-again c =
     (omega arith, cc (turn (l .before .before .args .block .now) (l .loop .i)))
 
 returns : tie.Need-returns Inv-loop μ-loop
-unfolding blockCheckOf
+unfolding checkOf
 returns c =
     let done : c .before .loop .i ≡ 127 = omega arith in
     c .before .loop .inv .1 ∙ ap (λ (n : ℕ). wordSum (c .before .before .before .args .block .now) n % 4_294_967_296) done

@@ -1,8 +1,8 @@
 -- The product of two numbers of 32 bits fits in 64, and its remainder in 32.
-use Rattle.basis_file.proofs.Product.{below}
+use Rattle.block.proofs.Product.{below}
 use borrow.Author.Needs.{needs}
-use Rattle.basis_file.proofs.block.wrapping_product.Statement.{statement}
-use Rattle.basis_file.proofs.block.wrapping_product.Tie as tie
+use Rattle.block.proofs.wrapping_product.Statement.{statement}
+use Rattle.block.proofs.wrapping_product.Tie as tie
 
 mul-result : tie.Need-mul-result
 mul-result c = record { fits = below 32 (search needs) (search needs) }

@@ -1,9 +1,9 @@
-// One block: its number in 2 bytes, 506 data bytes, and its check in 4.
+// One block of a basis file: its number in 2 bytes, 506 data bytes, and its check in 4.
 ghost use mathlib.Core.Path.{_≡_};
-ghost use Prim.Native.Nat.{_*_, _%_, _≤_, _<_};
+ghost use Prim.Native.Nat.{_+_, _*_, _%_, _≤_, _<_};
 ghost use lib.ListN.{length};
-ghost use Rattle.basis_file.specs.Block.{blockCheckOf, blockCheck, blockOf};
-use crate::copy;
+ghost use Rattle.lent.specs.Lent.{placed};
+ghost use Rattle.block.specs.Block.{checkOf, blockCheck, blockOf};
 use basis::Check;
 use basis::Refusal;
 use basis::little_endian;
@@ -16,9 +16,9 @@ fn wrapping_product(a: u32, b: u32) -> u32
 }
 
 // The check that a block ought to have: its first 127 words, each times its place 1 to 127.
-pub(crate) fn check_of(block: &[u8]) -> u32
+fn check_of(block: &[u8]) -> u32
     requires { ⌜ 508 ≤ length (now block) ⌝ }
-    ensures { λ r. ⌜ r ≡ blockCheckOf (now (block .entry)) ⌝ }
+    ensures { λ r. ⌜ r ≡ checkOf (now (block .entry)) ⌝ }
 {
     let mut sum: u32 = 0;
     let mut i: usize = 0;
@@ -32,7 +32,7 @@ pub(crate) fn check_of(block: &[u8]) -> u32
 }
 
 // Whether a block has its check, and then whether its number is its place.
-pub(crate) fn check_block(block: &[u8], place: usize) -> Check
+pub fn check_block(block: &[u8], place: usize) -> Check
     requires { ⌜ (length (now block) ≡ 512) × (place < 9) ⌝ }
     ensures { λ r. ⌜ r ≡ blockCheck place (now (block .entry)) ⌝ }
 {
@@ -53,14 +53,14 @@ pub(crate) fn check_block(block: &[u8], place: usize) -> Check
     Check::Passed
 }
 
-// The block of 506 data bytes at a place.
-pub(crate) fn write_block(part: &[u8], place: usize, block: &mut [u8])
-    requires { ⌜ (length (now part) ≡ 506) × (place < 9) × (length (now block) ≡ 512) ⌝ }
-    ensures { λ _. ⌜ now (block .exit) ≡ blockOf place (now (part .entry)) ⌝ }
+// Puts the block of 506 data bytes into an output: its number, the data, and the check of what then stands there.
+pub fn put_block(part: &[u8], place: usize, out: &mut [u8], at: usize)
+    requires { ⌜ (length (now part) ≡ 506) × (place < 9) × (at + 512 ≤ length (now out)) ⌝ }
+    ensures { λ _. ⌜ now (out .exit) ≡ placed (now (out .entry)) at (blockOf place (now (part .entry))) ⌝ }
 {
     let number = little_endian::u16_bytes(place as u32);
-    copy::copy_part(&number, 0, block, 0, 2);
-    copy::copy_part(part, 0, block, 2, 506);
-    let check = little_endian::u32_bytes(check_of(block));
-    copy::copy_part(&check, 0, block, 508, 4);
+    lent::put(&number, out, at);
+    lent::put(part, out, at + 2);
+    let check = little_endian::u32_bytes(check_of(&out[at..at + 508]));
+    lent::put(&check, out, at + 508);
 }

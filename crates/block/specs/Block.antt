@@ -12,20 +12,14 @@ wordSum block zero = 0
 wordSum block (suc n) = wordSum block n + u32At block (4 * n) * suc n
 
 -- the check that a block ought to have: its first 127 words
-unfoldable pub blockCheckOf : List ℕ → ℕ
-blockCheckOf block = wordSum block 127 % 4_294_967_296
+unfoldable pub checkOf : List ℕ → ℕ
+checkOf block = wordSum block 127 % 4_294_967_296
 
--- whether it has it (2)
-abbrev pub rightCheck : ℕ → List ℕ → Check
-rightCheck place block = unless (eqb (u32At block 508) (blockCheckOf block)) (refusal 2 place 0)
-
--- whether its number is its place (3)
-abbrev pub rightNumber : ℕ → List ℕ → Check
-rightNumber place block = unless (eqb (u16At block 0) place) (refusal 3 place 0)
-
+-- its check is wrong (2), or its number is not its place (3)
 unfoldable pub blockCheck : ℕ → List ℕ → Check
-blockCheck place block = firstOf (rightCheck place block) (rightNumber place block)
+blockCheck place block =
+    firstOf (unless (eqb (u32At block 508) (checkOf block)) (refusal 2 place 0)) (unless (eqb (u16At block 0) place) (refusal 3 place 0))
 
 -- the block of 506 data bytes at a place
 unfoldable pub blockOf : ℕ → List ℕ → List ℕ
-blockOf place part = (u16Bytes place ++ part) ++ u32Bytes (blockCheckOf (u16Bytes place ++ part))
+blockOf place part = let body = u16Bytes place ++ part in body ++ u32Bytes (checkOf body)

@@ -8,7 +8,7 @@ use native.Mathlib.Omega.{arith}
 use lib.Dec.{lit<}
 use lib.ListN.{length, List·getD-append}
 use Rattle.basis.specs.Bytes.{u32At}
-use Rattle.basis_file.specs.Block.{wordSum, blockCheckOf}
+use Rattle.block.specs.Block.{wordSum, checkOf}
 
 pub turn : (block : List ℕ) (n : ℕ)
     → wordSum block (n + 1) % 4_294_967_296 ≡ (wordSum block n % 4_294_967_296 + u32At block (4 * n) * (n + 1) % 4_294_967_296) % 4_294_967_296
@@ -29,10 +29,10 @@ unfolding wordSum
 sum-local s t zero h = refl
 sum-local s t (suc n) h = simp (sum-local s t n (omega arith), word-local s t (4 * n) (omega arith))
 
-pub check-local : (s t : List ℕ) → 508 ≤ length s → blockCheckOf (s ++ t) ≡ blockCheckOf s
-unfolding blockCheckOf
+pub check-local : (s t : List ℕ) → 508 ≤ length s → checkOf (s ++ t) ≡ checkOf s
+unfolding checkOf
 check-local s t h = simp (sum-local s t 127 h)
 
-pub check-fits : (s : List ℕ) → blockCheckOf s < 4_294_967_296
-unfolding blockCheckOf
+pub check-fits : (s : List ℕ) → checkOf s < 4_294_967_296
+unfolding checkOf
 check-fits s = mod-lt _ (lit< tt)

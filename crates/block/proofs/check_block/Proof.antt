@@ -1,9 +1,9 @@
 -- The two tests are those of the definition, in its order.
 use mathlib.Core.Path.{sym, _∙_}
-use Rattle.basis_file.proofs.Blocks.{wrong-check, wrong-number, sound}
+use Rattle.block.proofs.Turns.{wrong-check, wrong-number, sound}
 use borrow.Author.Needs.{needs}
-use Rattle.basis_file.proofs.block.check_block.Statement.{statement}
-use Rattle.basis_file.proofs.block.check_block.Tie as tie
+use Rattle.block.proofs.check_block.Statement.{statement}
+use Rattle.block.proofs.check_block.Tie as tie
 
 read-u32-requires : tie.Need-read-u32-requires
 read-u32-requires c κs = search needs
@@ -21,10 +21,16 @@ cast-if2 : tie.Need-cast-if2
 cast-if2 c = search needs
 
 returns-2 : tie.Need-returns-2
-returns-2 c = sym (wrong-number _ _ (sym (c .before .before .before .before .read-u32 .ensures) ∙ c .before .before .if1 .left ∙ c .before .before .before .check-of .ensures) (λ e. c .if2 .taken (c .before .read-u16 .ensures ∙ e)))
+returns-2 c =
+    let t = c .before .before in
+    let right = sym (t .before .before .read-u32 .ensures) ∙ t .if1 .left ∙ t .before .check-of .ensures in
+    sym (wrong-number _ _ right (λ e. c .if2 .taken (c .before .read-u16 .ensures ∙ e)))
 
 returns-3 : tie.Need-returns-3
-returns-3 c = sym (sound _ _ (sym (c .before .before .before .before .read-u32 .ensures) ∙ c .before .before .if1 .left ∙ c .before .before .before .check-of .ensures) (sym (c .before .read-u16 .ensures) ∙ c .if2 .left))
+returns-3 c =
+    let t = c .before .before in
+    let right = sym (t .before .before .read-u32 .ensures) ∙ t .if1 .left ∙ t .before .check-of .ensures in
+    sym (sound _ _ right (sym (c .before .read-u16 .ensures) ∙ c .if2 .left))
 
 pub check-block-spec : {M : Type 1} → statement M
 check-block-spec =
