@@ -1,4 +1,3 @@
 pub mod Outcome
 pub mod Bytes
-pub mod Lent
 pub mod Accumulation

@@ -1,94 +1,86 @@
--- The checks and the parts of a file, a block a turn, the lengths, and the ways through a file's check. Assumes nothing.
-use mathlib.Core.Path.{_≡_, refl, ap, _∙_}
-use mathlib.Core.Bool.{Bool, true, false}
-use mathlib.Core.List.{List, _++_, append-nil}
-use Prim.Native.Nat.{ℕ, zero, suc, _+_, _*_, _-_, _<_}
+-- The lengths of a file and of its run, and the ways through a file's check. Assumes nothing.
+use mathlib.Core.Path.{_≡_, refl, sym, _∙_}
+use mathlib.Core.List.{List}
+use Prim.Native.Nat.{ℕ, zero, suc, _+_, _*_, _≤_}
 use native.Mathlib.Omega.{arith}
-use lib.ListN.{length, take, drop, length-take, length-drop, length-append, replicate, length-replicate, drop-of-length-le}
-use lib.Dec.{eqb}
+use lib.ListN.{length, take, drop, length-take, length-drop, length-append}
 use borrow.Author.Tests.{eqb-true, eq-eqb, ne-eqb}
-use lib.Seq.{drop-drop}
+use Rattle.basis.specs.declared.Refusal.{Refusal}
 use Rattle.basis.specs.declared.Check.{Check}
 use Rattle.basis.specs.declared.Check.the-variants.{Passed, Refused}
 use Rattle.basis.specs.Outcome.{refusal, firstOf}
 use Rattle.run_check.specs.Run.{runCheck}
+use Rattle.basis.proofs.Outcome.{unless-passed, both-passed, first-stands, first-passed}
 use Rattle.run_check.proofs.Acceptance.{accepted}
-use Rattle.basis_file.specs.Block.{blockCheck, blockOf}
-use Rattle.basis_file.specs.File.{blocksCheck, partsOf, runIn, fileCheck, blocksOf, fileOf}
-use Rattle.basis_file.proofs.Blocks.{length-block}
-
--- ---- one block more
-left : (b : ℕ) → b < 9 → 9 - b ≡ suc (9 - (b + 1))
-left b h = omega arith
-
-module _ (file : List ℕ) (b : ℕ) (h : b < 9) where
-  after : 512 * (b + 1) ≡ 512 * b + 512
-  after = omega arith
-
-  pub blocks-step : (r : Check) → r ≡ blockCheck b (take 512 (drop (512 * b) file))
-      → blocksCheck b (9 - b) (drop (512 * b) file) ≡ firstOf r (blocksCheck (b + 1) (9 - (b + 1)) (drop (512 * (b + 1)) file))
-  unfolding blocksCheck
-  blocks-step r e = rw (e, left b h, after, ← drop-drop 512 (512 * b) file)
-
-  pub parts-step : partsOf (9 - b) (drop (512 * b) file)
-      ≡ take 506 (drop (512 * b + 2) file) ++ partsOf (9 - (b + 1)) (drop (512 * (b + 1)) file)
-  unfolding partsOf
-  parts-step = rw (left b h, after, ← drop-drop 512 (512 * b) file, ← drop-drop 2 (512 * b) file)
-
-pub blocks-of-step : (run : List ℕ) (b : ℕ) → b < 9
-    → blocksOf b (9 - b) (drop (506 * b) run) ≡ blockOf b (take 506 (drop (506 * b) run)) ++ blocksOf (b + 1) (9 - (b + 1)) (drop (506 * (b + 1)) run)
-unfolding blocksOf
-blocks-of-step run b h =
-    let d : 506 * (b + 1) ≡ 506 * b + 506 = omega arith in
-    rw (left b h, d, ← drop-drop 506 (506 * b) run)
+use Rattle.lent.specs.Lent.{roomCheck}
+use Rattle.lent.proofs.Lent.{room-passed}
+use Rattle.block.proofs.Blocks.{block-length}
+use Rattle.basis_file.specs.File.{partsOf, runIn, blocksOf, fileOf, blocksCheck, outerCheck, fileCheck}
 
 -- ---- lengths
-length-blocks : (n place : ℕ) (run : List ℕ) → length run ≡ 506 * n → length (blocksOf place n run) ≡ 512 * n
+blocks-length : (n place : ℕ) (run : List ℕ) → length run ≡ 506 * n → length (blocksOf place n run) ≡ 512 * n
 unfolding blocksOf
-length-blocks zero place run h = refl
-length-blocks (suc n) place run h =
+blocks-length zero place run h = refl
+blocks-length (suc n) place run h =
     let p : length (take 506 run) ≡ 506 = simp length-take (omega arith) in
-    let r = length-blocks n (place + 1) (drop 506 run) (simp length-drop (omega arith)) in
-    simp (length-append, length-block place (take 506 run) p, r) (omega arith)
+    let r = blocks-length n (place + 1) (drop 506 run) (simp length-drop (omega arith)) in
+    simp (length-append, block-length place (take 506 run) p, r) (omega arith)
 
-pub length-fileOf : (run : List ℕ) → length run ≡ 4554 → length (fileOf run) ≡ 4608
+pub file-length : (run : List ℕ) → length run ≡ 4554 → length (fileOf run) ≡ 4608
 unfolding fileOf
-length-fileOf run h = length-blocks 9 0 run h
+file-length run h = blocks-length 9 0 run h
 
-length-parts : (n : ℕ) (blocks : List ℕ) → length blocks ≡ 512 * n → length (partsOf n blocks) ≡ 506 * n
+parts-length : (n : ℕ) (blocks : List ℕ) → length blocks ≡ 512 * n → length (partsOf n blocks) ≡ 506 * n
 unfolding partsOf
-length-parts zero blocks h = refl
-length-parts (suc n) blocks h =
-    let r = length-parts n (drop 512 blocks) (simp length-drop (omega arith)) in
+parts-length zero blocks h = refl
+parts-length (suc n) blocks h =
+    let r = parts-length n (drop 512 blocks) (simp length-drop (omega arith)) in
     simp (length-append, length-take, length-drop, r) (omega arith)
 
-pub length-runIn : (file : List ℕ) → length file ≡ 4608 → length (runIn file) ≡ 4554
+pub run-length : (file : List ℕ) → length file ≡ 4608 → length (runIn file) ≡ 4554
 unfolding runIn
-length-runIn file h = length-parts 9 file h
+run-length file h = parts-length 9 file h
 
 -- ---- the ways through a file's check
-pub wrong-length : (file : List ℕ) → (length file ≡ 4608 → ⊥) → fileCheck file ≡ Refused (refusal 1 0 0)
-unfolding fileCheck
-wrong-length file h = simp (ne-eqb (length file) 4608 h)
+module _ (file : List ℕ) where
+  pub wrong-size : (length file ≡ 4608 → ⊥) → outerCheck file ≡ Refused (refusal 1 0 0)
+  unfolding outerCheck
+  wrong-size h = simp (ne-eqb (length file) 4608 h)
 
-pub whole-file : (file : List ℕ) (c : Check) → length file ≡ 4608 → c ≡ blocksCheck 0 9 file → fileCheck file ≡ firstOf c (runCheck (runIn file))
-unfolding fileCheck
-whole-file file c h e = simp (eq-eqb (length file) 4608 h, e)
+  pub right-size : length file ≡ 4608 → outerCheck file ≡ blocksCheck 0 9 file
+  unfolding outerCheck
+  right-size h = simp (eq-eqb (length file) 4608 h)
 
--- a file and a run that are not refused have their length
-pub accepted-length : (file : List ℕ) → fileCheck file ≡ Passed → length file ≡ 4608
-unfolding fileCheck
-accepted-length file h = by (eqb (length file) 4608) refl
-  where
-    by : (t : Bool) → eqb (length file) 4608 ≡ t → length file ≡ 4608
-    by true e = eqb-true (length file) 4608 e
-    by false e = let g : Refused (refusal 1 0 0) ≡ Passed = simp e at h in let z : _≡_ {A = ℕ} 0 1 = cc in omega arith
+  pub outer-passed : outerCheck file ≡ Passed → (length file ≡ 4608) × (blocksCheck 0 9 file ≡ Passed)
+  unfolding outerCheck
+  outer-passed h = let e = both-passed _ _ h in (eqb-true _ _ (unless-passed _ _ (e .0)), e .1)
 
+  pub file-passed : fileCheck file ≡ Passed → (outerCheck file ≡ Passed) × (runCheck (runIn file) ≡ Passed)
+  unfolding fileCheck
+  file-passed h = both-passed _ _ h
+
+  -- an accepted file has its length
+  pub accepted-file : fileCheck file ≡ Passed → length file ≡ 4608
+  accepted-file h = outer-passed (file-passed h .0) .0
+
+-- and so has an accepted run
 pub accepted-run : (run : List ℕ) → runCheck run ≡ Passed → length run ≡ 4554
 accepted-run run h = accepted run h .size
 
--- an array of zeros as long as a run is filled whole
-pub all-filled : (file : List ℕ) → runIn file ++ drop 4554 (replicate 4554 0) ≡ runIn file
-all-filled file =
-    ap (λ (l : List ℕ). runIn file ++ l) (drop-of-length-le (replicate 4554 0) {i = 4554} (omega (arith, length-replicate {A = ℕ} 4554 0)))
-    ∙ append-nil (runIn file)
+-- ---- reading: the room and the outer check, then the run's own
+module _ (file out : List ℕ) (outer : Check) (e : outer ≡ firstOf (roomCheck 4554 out) (outerCheck file)) where
+  together : (a b c : Check) → firstOf (firstOf a b) c ≡ firstOf a (firstOf b c)
+  together Passed b c = refl
+  together (Refused r) b c = refl
+
+  then-run : firstOf outer (runCheck (runIn file)) ≡ firstOf (roomCheck 4554 out) (fileCheck file)
+  unfolding fileCheck
+  then-run = rw e (together (roomCheck 4554 out) (outerCheck file) (runCheck (runIn file)))
+
+  pub outer-refuses : (r : Refusal) → outer ≡ Refused r → outer ≡ firstOf (roomCheck 4554 out) (fileCheck file)
+  outer-refuses r h = sym (first-stands outer _ h) ∙ then-run
+
+  pub outer-lets : outer ≡ Passed → (4554 ≤ length out) × (length file ≡ 4608) × (runCheck (runIn file) ≡ firstOf (roomCheck 4554 out) (fileCheck file))
+  outer-lets h =
+      let p = room-passed 4554 out (outerCheck file) (sym e ∙ h) in
+      (p .0, outer-passed file (p .1) .0, sym (first-passed outer _ h) ∙ then-run)

@@ -1,6 +1,3 @@
-mod Product
-mod WordSums
-mod Parts
-mod Blocks
 mod Files
+mod Turns
 pub mod RoundTrip

@@ -7,12 +7,7 @@ use Rattle.basis.specs.declared.Check.{Check}
 use Rattle.basis.specs.declared.Check.the-variants.{Passed}
 use Rattle.basis.specs.Outcome.{refusal, unless, firstOf}
 use Rattle.run_check.specs.Run.{runCheck}
-use Rattle.basis_file.specs.Block.{blockCheck, blockOf}
-
--- n blocks, ascending, the first of them at a place
-unfoldable pub blocksCheck : ℕ → ℕ → List ℕ → Check
-blocksCheck place zero blocks = Passed
-blocksCheck place (suc n) blocks = firstOf (blockCheck place (take 512 blocks)) (blocksCheck (place + 1) n (drop 512 blocks))
+use Rattle.block.specs.Block.{blockCheck, blockOf}
 
 -- the data parts of n blocks, joined
 unfoldable pub partsOf : ℕ → List ℕ → List ℕ
@@ -23,11 +18,6 @@ partsOf (suc n) blocks = take 506 (drop 2 blocks) ++ partsOf n (drop 512 blocks)
 unfoldable pub runIn : List ℕ → List ℕ
 runIn file = partsOf 9 file
 
--- the length (1), the blocks (2, 3), then the data run (4, 5)
-unfoldable pub fileCheck : List ℕ → Check
-fileCheck file =
-    firstOf (unless (eqb (length file) 4608) (refusal 1 0 0)) (firstOf (blocksCheck 0 9 file) (runCheck (runIn file)))
-
 -- n blocks of data, the first of them at a place
 unfoldable pub blocksOf : ℕ → ℕ → List ℕ → List ℕ
 blocksOf place zero run = []
@@ -36,3 +26,17 @@ blocksOf place (suc n) run = blockOf place (take 506 run) ++ blocksOf (place + 1
 -- the file of a data run
 unfoldable pub fileOf : List ℕ → List ℕ
 fileOf run = blocksOf 0 9 run
+
+-- ---- the check
+-- n blocks, ascending, the first of them at a place (2, 3)
+unfoldable pub blocksCheck : ℕ → ℕ → List ℕ → Check
+blocksCheck place zero blocks = Passed
+blocksCheck place (suc n) blocks = firstOf (blockCheck place (take 512 blocks)) (blocksCheck (place + 1) n (drop 512 blocks))
+
+-- not 4,608 bytes (1), then the nine blocks
+unfoldable pub outerCheck : List ℕ → Check
+outerCheck file = firstOf (unless (eqb (length file) 4608) (refusal 1 0 0)) (blocksCheck 0 9 file)
+
+-- then the data run (4, 5)
+unfoldable pub fileCheck : List ℕ → Check
+fileCheck file = firstOf (outerCheck file) (runCheck (runIn file))

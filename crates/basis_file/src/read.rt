@@ -1,21 +1,23 @@
 // Reading: the data run of a basis file, given out only when nothing refuses the file.
 ghost use mathlib.Core.Path.{_≡_};
-ghost use mathlib.Core.List.{_++_};
-ghost use Prim.Native.Nat.{_≤_};
-ghost use lib.ListN.{length, drop};
+ghost use lib.ListN.{length};
 ghost use Rattle.basis.specs.Outcome.{firstOf};
-ghost use Rattle.basis.specs.Lent.{roomCheck, written};
-ghost use Rattle.basis_file.specs.File.{blocksCheck, runIn, fileCheck};
-use crate::block;
-use crate::copy;
+ghost use Rattle.lent.specs.Lent.{roomCheck, written};
+ghost use Rattle.basis_file.specs.File.{runIn, outerCheck, fileCheck};
 use basis::Check;
 use basis::Refusal;
 
-// The nine blocks, ascending.
+// The length, then the nine blocks, ascending.
 fn check_blocks(file: &[u8]) -> Check
-    requires { ⌜ length (now file) ≡ 4608 ⌝ }
-    ensures { λ r. ⌜ r ≡ blocksCheck 0 9 (now (file .entry)) ⌝ }
+    ensures { λ r. ⌜ r ≡ outerCheck (now (file .entry)) ⌝ }
 {
+    if file.len() != 4608 {
+        return Check::Refused(Refusal {
+            number: 1,
+            first: 0,
+            second: 0,
+        });
+    }
     let mut b: usize = 0;
     while b < 9 {
         let from = 512 * b;
@@ -28,55 +30,34 @@ fn check_blocks(file: &[u8]) -> Check
     Check::Passed
 }
 
-// The nine data parts, joined in the front of `run`.
+// The nine data parts, joined.
 fn join_parts(file: &[u8], run: &mut [u8])
-    requires { ⌜ (length (now file) ≡ 4608) × (4554 ≤ length (now run)) ⌝ }
-    ensures { λ _. ⌜ now (run .exit) ≡ runIn (now (file .entry)) ++ drop 4554 (now (run .entry)) ⌝ }
+    requires { ⌜ (length (now file) ≡ 4608) × (length (now run) ≡ 4554) ⌝ }
+    ensures { λ _. ⌜ now (run .exit) ≡ runIn (now (file .entry)) ⌝ }
 {
     let mut b: usize = 0;
     while b < 9 {
-        copy::copy_part(file, 512 * b + 2, run, 506 * b, 506);
+        let from = 512 * b + 2;
+        lent::put(&file[from..from + 506], run, 506 * b);
         b += 1;
     }
 }
 
-// The first refusal of a file. Its run is checked in a copy, since the check goes over one stretch.
-pub fn check_file(file: &[u8]) -> Check
-    ensures { λ r. ⌜ r ≡ fileCheck (now (file .entry)) ⌝ }
-{
-    if file.len() != 4608 {
-        return Check::Refused(Refusal {
-            number: 1,
-            first: 0,
-            second: 0,
-        });
-    }
-    let c = check_blocks(file);
-    match c {
-        Check::Passed => {
-            let mut run = [0u8; 4554];
-            join_parts(file, &mut run);
-            run_check::check_run(&run)
-        }
-        Check::Refused(_) => c,
-    }
-}
-
-// The data run of an accepted file, into the front of `run`.
+// The data run of an accepted file, into the front of `run`. It is joined in an array of its own first, since the check
+// goes over one stretch, and a refused file leaves the output alone.
 pub fn read_file(file: &[u8], run: &mut [u8]) -> Check
     ensures { λ r. ⌜ r ≡ firstOf (roomCheck 4554 (now (run .entry))) (fileCheck (now (file .entry))) ⌝ }
     ensures { λ r. ⌜ now (run .exit) ≡ written r (runIn (now (file .entry))) (now (run .entry)) ⌝ }
 {
-    if run.len() < 4554 {
-        return Check::Refused(Refusal {
-            number: 11,
-            first: 4554,
-            second: 0,
-        });
+    let outer = basis::first_of(lent::check_room(4554, run.len()), check_blocks(file));
+    if let Check::Refused(_) = outer {
+        return outer;
     }
-    let c = check_file(file);
+    let mut joined = [0u8; 4554];
+    join_parts(file, &mut joined);
+    let c = run_check::check_run(&joined);
     if let Check::Passed = c {
-        join_parts(file, run);
+        lent::put(&joined, run, 0);
     }
     c
 }

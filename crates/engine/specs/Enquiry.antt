@@ -5,7 +5,7 @@ use lib.IntN.{ℤ, pos, natAbs}
 use Rattle.basis.specs.declared.Refusal.{Refusal}
 use Rattle.basis.specs.declared.Check.{Check}
 use Rattle.basis.specs.declared.Check.the-variants.{Passed, Refused}
-use Rattle.basis.specs.Lent.{roomCheck}
+use Rattle.lent.specs.Lent.{roomCheck}
 use Rattle.basis.specs.Outcome.{Outcome, value, refused, refusal, firstOf, noRefusal}
 use Rattle.run_check.specs.Run.{runCheck}
 use Rattle.basis_file.specs.File.{fileCheck}

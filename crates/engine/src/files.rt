@@ -1,6 +1,6 @@
 // The basis: a data run checked, a basis file read and written, a short form made.
 ghost use mathlib.Core.Path.{_≡_};
-ghost use Rattle.basis.specs.Lent.{written};
+ghost use Rattle.lent.specs.Lent.{written};
 ghost use Rattle.run_check.specs.Run.{runCheck};
 ghost use Rattle.basis_file.specs.File.{runIn, fileOf};
 ghost use Rattle.short_form.specs.ShortForm.{shortFormOf};

@@ -9,9 +9,9 @@ use Rattle.basis.specs.declared.Check.{Check}
 use Rattle.basis.specs.declared.Check.the-variants.{Passed, Refused}
 use Rattle.basis.specs.declared.Refusal.{Refusal}
 use Rattle.basis.specs.Basis.{basisOf, Accepted}
-use Rattle.basis.specs.Lent.{written}
+use Rattle.lent.specs.Lent.{written}
 use Rattle.run_check.proofs.Acceptance.{accepted}
-use Rattle.basis.proofs.Lent.{filled}
+use Rattle.lent.proofs.Lent.{filled}
 use Rattle.basis_file.specs.File.{fileCheck, runIn}
 use Rattle.basis_file.proofs.RoundTrip.{run-accepted}
 use Rattle.enquiry_lines.specs.Lines.{replies}

@@ -2,7 +2,7 @@
 ghost use mathlib.Core.Path.{_≡_};
 ghost use Prim.Native.Nat.{_≤_};
 ghost use lib.ListN.{length};
-ghost use Rattle.basis.specs.Lent.{written};
+ghost use Rattle.lent.specs.Lent.{written};
 ghost use Rattle.basis_file.specs.File.{fileCheck, runIn};
 ghost use Rattle.enquiry_text.specs.Put.{Put};
 ghost use Rattle.enquiry_lines.specs.Output.{isPassed, openingOf};

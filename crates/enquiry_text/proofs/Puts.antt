@@ -6,8 +6,8 @@ use native.Mathlib.Omega.{arith}
 use native.Mathlib.Numerals.{add-one}
 use lib.ListN.{length, take, drop, set, length-append, length-set}
 use lib.Seq.{drop-set-lt, take-suc-set, take-at}
-use Rattle.basis.specs.Lent.{placed}
-use Rattle.basis.proofs.Lent.{placed-none, placed-next}
+use Rattle.lent.specs.Lent.{placed}
+use Rattle.lent.proofs.Lent.{placed-none, placed-next}
 use Rattle.enquiry_text.specs.Put.{Put}
 
 -- a text's first byte first

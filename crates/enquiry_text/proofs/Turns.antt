@@ -7,8 +7,8 @@ use native.Mathlib.Numerals.{add-one}
 use lib.ListN.{length, getD, take, drop, set, length-append}
 use lib.Seq.{take-set-le, set-split, drop-at, length-take-le, drop-cons}
 use Rattle.arithmetic.specs.Fraction.{U}
-use Rattle.basis.specs.Lent.{placed}
-use Rattle.basis.proofs.Lent.{placed-none, placed-length}
+use Rattle.lent.specs.Lent.{placed}
+use Rattle.lent.proofs.Lent.{placed-none, placed-length}
 use Rattle.enquiry_text.specs.Decimal.{digits, placesFrom, placesOf, digitsOf, decimalOf}
 use Rattle.enquiry_text.specs.Put.{Put}
 use Rattle.enquiry_text.proofs.Numerals.{digits-length, places-more}

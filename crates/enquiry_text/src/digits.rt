@@ -3,7 +3,7 @@ ghost use mathlib.Core.Path.{_≡_};
 ghost use mathlib.Core.List.{[], _∷_, _++_};
 ghost use Prim.Native.Nat.{_+_, _%_, _≤_};
 ghost use lib.ListN.{length};
-ghost use Rattle.basis.specs.Lent.{placed};
+ghost use Rattle.lent.specs.Lent.{placed};
 ghost use Rattle.enquiry_text.specs.Decimal.{digits, placesOf, digitsOf, decimalOf};
 ghost use Rattle.enquiry_text.specs.Put.{Put};
 

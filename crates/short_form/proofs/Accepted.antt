@@ -11,14 +11,17 @@ use Rattle.basis.specs.Basis.{Basis, basisOf, termsAt, ConvergenceLimits, Limit
 use Rattle.short_form.specs.ShortForm.{longTermOf, shortFormOf, shortTerms, Shortened}
 use Rattle.short_form.proofs.LongTerm.{long-term-size}
 use Rattle.short_form.proofs.Placing.{length-short-form}
-use Rattle.short_form.proofs.Reading.{front-kept, half-kept, word-kept, age-rate, age-period, age-proportion, birth-initial, birth-rate, birth-period, birth-proportion}
+use Rattle.short_form.proofs.Reading.{front-kept, half-kept, word-kept, age-rate, age-period, age-proportion}
+use Rattle.short_form.proofs.Reading.{birth-initial, birth-rate, birth-period, birth-proportion}
 
 module _ (run : List ℕ) (rate : ℤ) (long : length run ≡ 4554) (h : natAbs rate ≤ 200_000_000) where
-  age-terms : (i : ℕ) → i < 131 → termsAt (shortFormOf run rate) 554 1078 1602 1733 i ≡ shortTerms (termsAt run 554 1078 1602 1733 i .initial) (longTermOf rate (20 + i))
+  age-terms : (i : ℕ) → i < 131
+      → termsAt (shortFormOf run rate) 554 1078 1602 1733 i ≡ shortTerms (termsAt run 554 1078 1602 1733 i .initial) (longTermOf rate (20 + i))
   age-terms i l =
       rw (word-kept run rate long (554 + 4 * i) (omega arith), age-rate run rate long i l h, age-period run rate long i l, age-proportion run rate long i l) refl
 
-  birth-year-terms : (i : ℕ) → i < 269 → termsAt (shortFormOf run rate) 1864 2940 4016 4285 i ≡ shortTerms (termsAt run 1864 2940 4016 4285 i .initial) (pos 0)
+  birth-year-terms : (i : ℕ) → i < 269
+      → termsAt (shortFormOf run rate) 1864 2940 4016 4285 i ≡ shortTerms (termsAt run 1864 2940 4016 4285 i .initial) (pos 0)
   birth-year-terms i l =
       rw (birth-initial run rate long i l, birth-rate run rate long i l, birth-period run rate long i l, birth-proportion run rate long i l) refl
 

@@ -1,17 +1,21 @@
--- The cases of the short form's check: the run's own refusal, then that of S. Assumes nothing.
+-- The cases of the short form's check: the run's own refusal, then that of S; and what it lets through, where there is room.
+-- Assumes nothing.
 use mathlib.Core.Path.{_≡_, refl, sym, _∙_}
-use mathlib.Core.Bool.{Bool, true, false}
+use mathlib.Core.Bool.{Bool}
 use mathlib.Core.List.{List}
 use Prim.Native.Nat.{ℕ, _≤_}
-use native.Mathlib.Omega.{arith}
+use lib.ListN.{length}
 use lib.IntN.{ℤ, pos, negℤ, natAbs}
 use Rattle.basis.specs.declared.Refusal.{Refusal}
 use Rattle.basis.specs.declared.Check.{Check}
 use Rattle.basis.specs.declared.Check.the-variants.{Passed, Refused}
-use Rattle.basis.specs.Outcome.{refusal, unless}
+use Rattle.basis.specs.Outcome.{refusal, unless, firstOf}
 use Rattle.run_check.specs.Run.{between, runCheck}
-use Rattle.basis.proofs.Outcome.{first-stands, both-passed}
+use Rattle.basis.proofs.Outcome.{first-stands, unless-passed, both-passed}
 use Rattle.run_check.proofs.Limits.{opened, size}
+use Rattle.run_check.proofs.Acceptance.{accepted}
+use Rattle.lent.specs.Lent.{roomCheck}
+use Rattle.lent.proofs.Lent.{room-passed}
 use Rattle.short_form.specs.ShortForm.{shortFormCheck}
 
 module _ (run : List ℕ) (rate : ℤ) where
@@ -24,13 +28,10 @@ module _ (run : List ℕ) (rate : ℤ) where
   unfolding shortFormCheck
   run-passed t e f = rw (e, f) refl
 
-  held : (t : Bool) (r : Refusal) → unless t r ≡ Passed → t ≡ true
-  held true r h = refl
-  held false r h = let z : _≡_ {A = ℕ} 0 1 = cc in absurd (omega arith)
-
-  -- what the check lets through
-  pub passed : shortFormCheck run rate ≡ Passed → (runCheck run ≡ Passed) × (natAbs rate ≤ 200_000_000)
+  pub through : (out : List ℕ) → firstOf (roomCheck 4554 out) (shortFormCheck run rate) ≡ Passed
+      → (length run ≡ 4554) × (natAbs rate ≤ 200_000_000) × (4554 ≤ length out)
   unfolding shortFormCheck
-  passed h =
-      let e = both-passed (runCheck run) (unless (between (negℤ (pos 200_000_000)) (pos 200_000_000) rate) (refusal 5 1078 0)) h in
-      (e .0, size 199_999_999 rate (opened (negℤ (pos 200_000_000)) (pos 200_000_000) rate (held (between (negℤ (pos 200_000_000)) (pos 200_000_000) rate) (refusal 5 1078 0) (e .1))))
+  through out h =
+      let p = room-passed 4554 out (shortFormCheck run rate) h in
+      let e = both-passed (runCheck run) _ (p .1) in
+      (accepted run (e .0) .size, size 199_999_999 rate (opened (negℤ (pos 200_000_000)) (pos 200_000_000) rate (unless-passed _ _ (e .1))), p .0)

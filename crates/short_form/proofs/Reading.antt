@@ -47,13 +47,15 @@ same-word s t at from h =
     rw (e, h 1 (omega arith), h 2 (omega arith), h 3 (omega arith)) refl
 
 -- the bytes of the rate at place i
-rate-bytes : (rate : ℤ) (age n i j at : ℕ) → at ≡ 4 * i + j → i < n → j < 4 → byteAt (longTermRates rate age n) at ≡ byteAt (i32Bytes (longTermOf rate (age + i))) j
+rate-bytes : (rate : ℤ) (age n i j at : ℕ) → at ≡ 4 * i + j → i < n → j < 4
+    → byteAt (longTermRates rate age n) at ≡ byteAt (i32Bytes (longTermOf rate (age + i))) j
 unfolding longTermRates
 rate-bytes rate age zero i j at e l m = absurd (not-suc-le-zero l)
 rate-bytes rate age (suc n) zero j at e l m =
     let here : at ≡ j = omega arith in
     let first : age ≡ age + 0 = omega arith in
-    rw here (ahead (i32Bytes (longTermOf rate age)) (longTermRates rate (age + 1) n) j m) ∙ ap (λ (a : ℕ). byteAt (i32Bytes (longTermOf rate a)) j) first
+    rw here (ahead (i32Bytes (longTermOf rate age)) (longTermRates rate (age + 1) n) j m)
+    ∙ ap (λ (a : ℕ). byteAt (i32Bytes (longTermOf rate a)) j) first
 rate-bytes rate age (suc n) (suc i) j at e l m =
     let later : at ≡ 4 + (4 * i + j) = omega arith in
     let next : age + 1 + i ≡ age + suc i = omega arith in
@@ -125,5 +127,6 @@ module _ (run : List ℕ) (rate : ℤ) (long : length run ≡ 4554) where
   pub birth-rate : (i : ℕ) → i < 269 → i32At (shortFormOf run rate) (2940 + 4 * i) ≡ pos 0
   birth-rate i l =
       let e : (j : ℕ) → 2940 + 4 * i + j ≡ 2940 + (4 * i + j) = λ j. omega arith in
-      ap signed32 (same-word (shortFormOf run rate) (replicate 4 0) (2940 + 4 * i) 0 (λ j m. rw (e j, zero-add) (birth-rate-byte (4 * i + j) (omega arith) ∙ sym (getD-replicate 4 j 0 0 m))))
+      ap signed32 (same-word (shortFormOf run rate) (replicate 4 0) (2940 + 4 * i) 0
+      (λ j m. rw (e j, zero-add) (birth-rate-byte (4 * i + j) (omega arith) ∙ sym (getD-replicate 4 j 0 0 m))))
       ∙ i32-back (pos 0) (omega arith)

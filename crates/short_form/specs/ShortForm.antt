@@ -13,6 +13,10 @@ use Rattle.basis.specs.Outcome.{refusal, unless, firstOf}
 use Rattle.run_check.specs.Run.{between, runCheck}
 use Rattle.basis.specs.Basis.{Basis}
 
+-- ---- the check: the run's own, then S beyond ±200,000,000 (5)
+unfoldable pub shortFormCheck : List ℕ → ℤ → Check
+shortFormCheck run rate = firstOf (runCheck run) (unless (between (negℤ (pos 200_000_000)) (pos 200_000_000) rate) (refusal 5 1078 0))
+
 -- ---- the rates by age
 -- the share of S at an age, in thirtieths: max(0, min(30, 120 − age)), since a difference of natural numbers is 0 at the least
 abbrev pub shareOf : ℕ → ℕ
@@ -44,10 +48,6 @@ birthYearsOf run = take (269 * 4) (drop 1864 run) ++ replicate (269 * 4) 0 ++ pe
 
 unfoldable pub shortFormOf : List ℕ → ℤ → List ℕ
 shortFormOf run rate = agesOf run rate ++ birthYearsOf run
-
--- ---- the check: the run's own, then S
-unfoldable pub shortFormCheck : List ℕ → ℤ → Check
-shortFormCheck run rate = firstOf (runCheck run) (unless (between (negℤ (pos 200_000_000)) (pos 200_000_000) rate) (refusal 5 1078 0))
 
 -- ---- what it stands for
 abbrev pub shortTerms : ℤ → ℤ → Convergence

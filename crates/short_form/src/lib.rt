@@ -5,8 +5,8 @@ mod rates;
 
 ghost use mathlib.Core.Path.{_≡_};
 ghost use Rattle.basis.specs.Outcome.{firstOf};
-ghost use Rattle.basis.specs.Lent.{roomCheck, written};
-ghost use Rattle.short_form.specs.ShortForm.{shortFormOf, shortFormCheck};
+ghost use Rattle.lent.specs.Lent.{roomCheck, written};
+ghost use Rattle.short_form.specs.ShortForm.{shortFormCheck, shortFormOf};
 use basis::Check;
 use basis::Refusal;
 
@@ -34,14 +34,10 @@ pub fn short_form(run: &[u8], rate: i32, out: &mut [u8]) -> Check
     ensures { λ r. ⌜ r ≡ firstOf (roomCheck 4554 (now (out .entry))) (shortFormCheck (now (run .entry)) rate) ⌝ }
     ensures { λ r. ⌜ now (out .exit) ≡ written r (shortFormOf (now (run .entry)) rate) (now (out .entry)) ⌝ }
 {
-    if out.len() < 4554 {
-        return Check::Refused(Refusal {
-            number: 11,
-            first: 4554,
-            second: 0,
-        });
-    }
-    let c = check_short_form(run, rate);
+    let c = basis::first_of(
+        lent::check_room(4554, out.len()),
+        check_short_form(run, rate),
+    );
     if let Check::Passed = c {
         parts::put_ages(run, rate, out);
         parts::put_birth_years(run, out);

@@ -1,30 +1,12 @@
 // The parts of the output, one after another.
 ghost use mathlib.Core.Path.{_≡_};
-ghost use Prim.Native.Nat.{_+_, _≤_};
-ghost use lib.ListN.{length, replicate};
+ghost use Prim.Native.Nat.{_≤_};
+ghost use lib.ListN.{length};
 ghost use lib.IntN.{natAbs};
-ghost use Rattle.basis.specs.Lent.{placed};
+ghost use Rattle.lent.specs.Lent.{placed};
 ghost use Rattle.short_form.specs.ShortForm.{longTermRates, agesOf, birthYearsOf};
 use crate::rates;
 use basis::little_endian;
-
-fn put(part: &[u8], out: &mut [u8], at: usize)
-    requires { ⌜ at + length (now part) ≤ length (now out) ⌝ }
-    ensures { λ _. ⌜ now (out .exit) ≡ placed (now (out .entry)) at (now (part .entry)) ⌝ }
-{
-    bytes::copy(part, &mut out[at..at + part.len()]);
-}
-
-fn put_repeated(byte: u8, n: usize, out: &mut [u8], at: usize)
-    requires { ⌜ at + n ≤ length (now out) ⌝ }
-    ensures { λ _. ⌜ now (out .exit) ≡ placed (now (out .entry)) at (replicate n byte) ⌝ }
-{
-    let mut i: usize = 0;
-    while i < n {
-        out[at + i] = byte;
-        i += 1;
-    }
-}
 
 // The age L.
 fn put_rates(rate: i32, out: &mut [u8])
@@ -34,7 +16,7 @@ fn put_rates(rate: i32, out: &mut [u8])
     let mut i: usize = 0;
     while i < 131 {
         let word = little_endian::i32_bytes(rates::long_term_rate(rate, 20 + i));
-        put(&word, out, 1078 + 4 * i);
+        lent::put(&word, out, 1078 + 4 * i);
         i += 1;
     }
 }
@@ -44,10 +26,10 @@ pub(crate) fn put_ages(run: &[u8], rate: i32, out: &mut [u8])
     requires { ⌜ (length (now run) ≡ 4554) × (natAbs rate ≤ 200_000_000) × (4554 ≤ length (now out)) ⌝ }
     ensures { λ _. ⌜ now (out .exit) ≡ placed (now (out .entry)) 0 (agesOf (now (run .entry)) rate) ⌝ }
 {
-    put(&run[0..1078], out, 0);
+    lent::put(&run[0..1078], out, 0);
     put_rates(rate, out);
-    put_repeated(20, 131, out, 1602);
-    put_repeated(50, 131, out, 1733);
+    lent::put_repeated(20, 131, out, 1602);
+    lent::put_repeated(50, 131, out, 1733);
 }
 
 // The birth-year I, kept, then the birth-year L, T and P.
@@ -55,8 +37,8 @@ pub(crate) fn put_birth_years(run: &[u8], out: &mut [u8])
     requires { ⌜ (length (now run) ≡ 4554) × (4554 ≤ length (now out)) ⌝ }
     ensures { λ _. ⌜ now (out .exit) ≡ placed (now (out .entry)) 1864 (birthYearsOf (now (run .entry))) ⌝ }
 {
-    put(&run[1864..2940], out, 1864);
-    put_repeated(0, 1076, out, 2940);
-    put_repeated(20, 269, out, 4016);
-    put_repeated(50, 269, out, 4285);
+    lent::put(&run[1864..2940], out, 1864);
+    lent::put_repeated(0, 1076, out, 2940);
+    lent::put_repeated(20, 269, out, 4016);
+    lent::put_repeated(50, 269, out, 4285);
 }

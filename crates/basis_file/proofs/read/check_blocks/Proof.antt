@@ -4,10 +4,10 @@ use Prim.Native.Nat.{_*_, _-_, _≤_}
 use native.Mathlib.Omega.{arith}
 use borrow.Author.Needs.{needs}
 use lib.ListN.{drop}
-use Rattle.basis_file.proofs.Parts.{part-is, length-part}
 use Rattle.basis.proofs.Outcome.{first-stands, first-passed}
 use Rattle.basis_file.specs.File.{blocksCheck}
-use Rattle.basis_file.proofs.Files.{blocks-step}
+use Rattle.basis_file.proofs.Files.{wrong-size, right-size}
+use Rattle.basis_file.proofs.Turns.{part-is, check-turn}
 use Rattle.basis_file.proofs.read.check_blocks.Statement.{statement}
 use Rattle.basis_file.proofs.read.check_blocks.Tie as tie
 
@@ -16,6 +16,9 @@ Inv-loop file b₀ b = (b ≤ 9) × (blocksCheck b (9 - b) (drop (512 * b) file)
 
 abbrev μ-loop : tie.MeasureT-loop
 μ-loop file b₀ b = 9 - b
+
+returns : tie.Need-returns Inv-loop μ-loop
+returns c = sym (wrong-size _ (c .if1 .taken))
 
 loop-holds : tie.Need-loop-holds Inv-loop μ-loop
 loop-holds c = (omega arith, refl)
@@ -36,21 +39,19 @@ part-check-block-end : tie.Need-part-check-block-end Inv-loop μ-loop
 part-check-block-end c = omega arith
 
 check-block-requires : tie.Need-check-block-requires Inv-loop μ-loop
-check-block-requires c κs =
-    let l = c .before .before in
-    let f = l .before .before .args .file .now in
-    (rw (part-is f (512 * l .loop .b) 512) (length-part f (512 * l .loop .b) 512 (omega arith)), omega arith)
+check-block-requires c κs = omega arith
 
 enum-told : tie.Need-enum-told Inv-loop μ-loop
 enum-told c = search needs
 
-returns : tie.Need-returns Inv-loop μ-loop
-returns c =
+returns-2 : tie.Need-returns-2 Inv-loop μ-loop
+returns-2 c =
     let l = c .before .before .before .before .before in
-    let f = l .before .before .args .file .now in
+    let f = l .before .before .before .args .file .now in
+    let b = l .loop .b in
     let k = c .before .before .check-block in
-    let t = blocks-step f (l .loop .b) (c .before .before .before .before .loop-test .taken) (k .result) (rw (part-is f (512 * l .loop .b) 512) at (k .ensures)) in
-    sym (first-stands (k .result) _ (c .enum-told .given .1)) ∙ sym t ∙ l .loop .inv .1
+    let turn = check-turn f b (k .result) (omega arith) (rw (part-is f (512 * b) 512) at (k .ensures)) in
+    sym (first-stands (k .result) _ (c .enum-told .given .1)) ∙ turn ∙ l .loop .inv .1 ∙ sym (right-size f (l .before .if1 .left))
 
 enum-told-2 : tie.Need-enum-told-2 Inv-loop μ-loop
 enum-told-2 c = search needs
@@ -64,16 +65,19 @@ loop-less c = omega arith
 loop-again : tie.Need-loop-again Inv-loop μ-loop
 loop-again c =
     let l = c .before .before .before .before .before in
-    let f = l .before .before .args .file .now in
+    let f = l .before .before .before .args .file .now in
+    let b = l .loop .b in
     let k = c .before .before .check-block in
-    let t = blocks-step f (l .loop .b) (c .before .before .before .before .loop-test .taken) (k .result) (rw (part-is f (512 * l .loop .b) 512) at (k .ensures)) in
-    (omega arith, sym (first-passed (k .result) _ (c .enum-told2 .given .1)) ∙ sym t ∙ l .loop .inv .1)
+    let turn = check-turn f b (k .result) (omega arith) (rw (part-is f (512 * b) 512) at (k .ensures)) in
+    (omega arith, sym (first-passed (k .result) _ (c .enum-told2 .given .1)) ∙ turn ∙ l .loop .inv .1)
 
-returns-2 : tie.Need-returns-2 Inv-loop μ-loop
+returns-3 : tie.Need-returns-3 Inv-loop μ-loop
 unfolding blocksCheck
-returns-2 c =
-    let e : 9 - c .before .loop .b ≡ 0 = omega arith in
-    rw e at (c .before .loop .inv .1)
+returns-3 c =
+    let l = c .before in
+    let f = l .before .before .before .args .file .now in
+    let e : 9 - l .loop .b ≡ 0 = omega arith in
+    rw e at (l .loop .inv .1) ∙ sym (right-size f (l .before .if1 .left))
 
 pub check-blocks-spec : {M : Type 1} → statement M
 check-blocks-spec =
@@ -81,6 +85,7 @@ check-blocks-spec =
     (tie.spec
     Inv-loop
     μ-loop
+    returns
     loop-holds
     mul-from
     add-check-block
@@ -89,9 +94,9 @@ check-blocks-spec =
     part-check-block-end
     check-block-requires
     enum-told
-    returns
+    returns-2
     enum-told-2
     add-b
     loop-less
     loop-again
-    returns-2)
+    returns-3)

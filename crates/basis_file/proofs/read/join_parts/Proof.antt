@@ -1,39 +1,50 @@
--- What is joined so far, with the parts that are left, is the whole run; behind it the output is as it was.
-use mathlib.Core.Path.{_≡_, refl, _∙_}
-use mathlib.Core.List.{_++_}
+-- The parts that are left give the same run as all of them.
+use mathlib.Core.Path.{_≡_, refl, sym, ap, _∙_}
 use Prim.Native.Nat.{_+_, _*_, _-_, _≤_}
 use native.Mathlib.Omega.{arith}
-use lib.ListN.{length, take, drop}
+use lib.ListN.{length, drop}
+use Rattle.lent.specs.Lent.{placed}
+use Rattle.lent.proofs.Lent.{placed-whole}
 use Rattle.basis_file.specs.File.{partsOf, runIn}
-use Rattle.basis_file.proofs.Files.{parts-step}
-use Rattle.basis_file.proofs.Parts.{length-part, turn, ended}
+use Rattle.basis_file.proofs.Files.{run-length}
+use Rattle.basis_file.proofs.Turns.{part-is, join-length, join-turn, join-end}
 use Rattle.basis_file.proofs.read.join_parts.Statement.{statement}
 use Rattle.basis_file.proofs.read.join_parts.Tie as tie
 
 abbrev Inv-loop : tie.InvT-loop
 Inv-loop file run₀ b₀ run b =
-    (b ≤ 9) × (length run ≡ length run₀)
-    × (take (506 * b) run ++ partsOf (9 - b) (drop (512 * b) file) ≡ runIn file)
-    × (drop (506 * b) run ≡ drop (506 * b) run₀)
+    (b ≤ 9) × (length run ≡ length run₀) × (placed run (506 * b) (partsOf (9 - b) (drop (512 * b) file)) ≡ placed run₀ 0 (runIn file))
 
 abbrev μ-loop : tie.MeasureT-loop
 μ-loop file run₀ b₀ run b = 9 - b
 
 loop-holds : tie.Need-loop-holds Inv-loop μ-loop
 unfolding runIn
-loop-holds c = (omega arith, refl, refl, refl)
+loop-holds c = (omega arith, refl, refl)
 
-mul-copy-part : tie.Need-mul-copy-part Inv-loop μ-loop
-mul-copy-part c = omega arith
+mul-from : tie.Need-mul-from Inv-loop μ-loop
+mul-from c = omega arith
 
-add-copy-part : tie.Need-add-copy-part Inv-loop μ-loop
-add-copy-part c = omega arith
+add-from : tie.Need-add-from Inv-loop μ-loop
+add-from c = omega arith
 
-mul-copy-part-2 : tie.Need-mul-copy-part-2 Inv-loop μ-loop
-mul-copy-part-2 c = omega arith
+add-put : tie.Need-add-put Inv-loop μ-loop
+add-put c = omega arith
 
-copy-part-requires : tie.Need-copy-part-requires Inv-loop μ-loop
-copy-part-requires c κs = omega arith
+sub-put : tie.Need-sub-put Inv-loop μ-loop
+sub-put c = omega arith
+
+part-put-start : tie.Need-part-put-start Inv-loop μ-loop
+part-put-start c = omega arith
+
+part-put-end : tie.Need-part-put-end Inv-loop μ-loop
+part-put-end c = omega arith
+
+mul-put : tie.Need-mul-put Inv-loop μ-loop
+mul-put c = omega arith
+
+put-requires : tie.Need-put-requires Inv-loop μ-loop
+put-requires c κs = omega arith
 
 add-b : tie.Need-add-b Inv-loop μ-loop
 add-b c = omega arith
@@ -43,25 +54,27 @@ loop-less c = omega arith
 
 loop-again : tie.Need-loop-again Inv-loop μ-loop
 loop-again c =
-    let l = c .before .before .before .before .before in
+    let l = c .before .before .before .before .before .before in
     let s = l .before .before .before in
     let f = s .args .file .now in
     let b = l .loop .b in
-    let i = l .loop .inv in
-    let t = turn (506 * b) 506 (506 * (b + 1)) (l .loop .run) (s .args .run .now) (c .before .before .copy-part .last .1 .1 .0) (take 506 (drop (512 * b + 2) f)) _ _ (runIn f)
-    (omega arith) (omega arith) (length-part f (512 * b + 2) 506 (omega arith)) (c .before .before .copy-part .ensures)
-    (parts-step f b (omega arith)) (i .2) (i .3) in
-    (omega arith, t .0 ∙ i .1, t .1, t .2)
+    let m : length (l .loop .run) ≡ 4554 = omega arith in
+    let e = c .before .before .put .ensures ∙ ap (placed (l .loop .run) (506 * b)) (part-is f (512 * b + 2) 506) in (
+      omega arith,
+      join-length f (l .loop .run) b _ (omega arith) (s .pre .0) m e ∙ l .loop .inv .1,
+      join-turn f (l .loop .run) b _ (omega arith) (s .pre .0) m e ∙ l .loop .inv .2,
+    )
 
 same-length : tie.Need-same-length Inv-loop μ-loop
 same-length c = omega arith
 
 returns : tie.Need-returns Inv-loop μ-loop
-unfolding partsOf
 returns c =
     let l = c .before in
-    let e : l .loop .b ≡ 9 = omega arith in
-    ended 4554 (l .loop .run) (l .before .before .before .args .run .now) (runIn (l .before .before .before .args .file .now)) (rw e at (l .loop .inv .2)) (rw e at (l .loop .inv .3))
+    let s = l .before .before .before in
+    let f = s .args .file .now in
+    let n = run-length f (s .pre .0) in
+    sym (join-end f (l .loop .run) (l .loop .b) (omega arith)) ∙ l .loop .inv .2 ∙ placed-whole (s .args .run .now) (runIn f) (omega arith)
 
 pub join-parts-spec : {M : Type 1} → statement M
 join-parts-spec =
@@ -70,10 +83,14 @@ join-parts-spec =
     Inv-loop
     μ-loop
     loop-holds
-    mul-copy-part
-    add-copy-part
-    mul-copy-part-2
-    copy-part-requires
+    mul-from
+    add-from
+    add-put
+    sub-put
+    part-put-start
+    part-put-end
+    mul-put
+    put-requires
     add-b
     loop-less
     loop-again

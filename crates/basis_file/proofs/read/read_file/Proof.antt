@@ -1,58 +1,118 @@
--- The output is written only where both checks have passed, and then it has the run in front.
-use mathlib.Core.Path.{refl, sym, _∙_}
+-- What the outer check lets through is joined and checked; the output is written only where that has passed too, and then it has the run
+-- in front.
+use mathlib.Core.Path.{sym, ap, _∙_}
 use native.Mathlib.Omega.{arith}
+use Rattle.run_check.specs.Run.{runCheck}
+use Rattle.lent.specs.Lent.{placed}
+use Rattle.lent.proofs.Lent.{kept, put-in-front}
+use Rattle.basis_file.proofs.Files.{outer-refuses, outer-lets}
 use borrow.Author.Needs.{needs}
-use Rattle.basis.proofs.Lent.{short, roomy, filled, kept}
-use Rattle.basis_file.specs.File.{runIn}
-use Rattle.basis_file.proofs.Files.{accepted-length, length-runIn}
 use Rattle.basis_file.proofs.read.read_file.Statement.{statement}
 use Rattle.basis_file.proofs.read.read_file.Tie as tie
 
-returns : tie.Need-returns
-returns c = (sym (short _ _ _ (omega arith)), refl)
+check-room-requires : tie.Need-check-room-requires
+check-room-requires c κs = search needs
 
-check-file-requires : tie.Need-check-file-requires
-check-file-requires c κs = search needs
+check-blocks-requires : tie.Need-check-blocks-requires
+check-blocks-requires c κs = search needs
+
+first-of-requires : tie.Need-first-of-requires
+first-of-requires c κs = search needs
 
 enum-told : tie.Need-enum-told
 enum-told c = search needs
 
-join-parts-requires : tie.Need-join-parts-requires
-join-parts-requires c κs =
-    let f = c .before .before .before .before .before .before .before .args .file .now in
-    (accepted-length f (sym (c .before .before .before .check-file .ensures) ∙ c .before .enum-told .given .1), omega arith)
+returns : tie.Need-returns
+returns c =
+    let k = c .before .before in
+    let s = k .before .before .before .before .before .args in
+    let e = rw (k .before .before .check-room .ensures, k .before .check-blocks .ensures) at (k .first-of .ensures) in
+    let told = c .enum-told .given .1 in
+    (outer-refuses (s .file .now) (s .run .now) _ e _ told, sym (kept (k .first-of .result) _ _ _ told))
 
 enum-told-2 : tie.Need-enum-told-2
 enum-told-2 c = search needs
+
+slice-aggregate-join-parts : tie.Need-slice-aggregate-join-parts
+slice-aggregate-join-parts c = search needs
+
+join-parts-requires : tie.Need-join-parts-requires
+join-parts-requires c κs =
+    let k = c .before .before .before in
+    let s = k .before .before .before .before .before .args in
+    let e = rw (k .before .before .check-room .ensures, k .before .check-blocks .ensures) at (k .first-of .ensures) in
+    (outer-lets (s .file .now) (s .run .now) _ e (c .before .enum-told2 .given .1) .1, search needs)
+
+slice-aggregate-check-run : tie.Need-slice-aggregate-check-run
+slice-aggregate-check-run c = search needs
+
+check-run-requires : tie.Need-check-run-requires
+check-run-requires c κs = search needs
+
+enum-told-3 : tie.Need-enum-told-3
+enum-told-3 c = search needs
+
+slice-aggregate-put : tie.Need-slice-aggregate-put
+slice-aggregate-put c = search needs
+
+put-requires : tie.Need-put-requires
+put-requires c κs =
+    let told = c .before .before .before .before .before .before .before .before .before in
+    let k = told .before .before in
+    let s = k .before .before .before .before .before .args in
+    let e = rw (k .before .before .check-room .ensures, k .before .check-blocks .ensures) at (k .first-of .ensures) in
+    omega (arith, outer-lets (s .file .now) (s .run .now) _ e (told .enum-told2 .given .1) .0)
+
+enum-told-4 : tie.Need-enum-told-4
+enum-told-4 c = search needs
 
 same-length : tie.Need-same-length
 same-length c = search needs
 
 returns-2 : tie.Need-returns-2
 returns-2 c =
-    let told = c .before .before .before .before in
-    let k = told .before .before .check-file in
-    let roomed = told .before .before .before in
-    let f = roomed .before .before .before .args .file .now in
-    let z = told .enum-told .given .1 in (
-      k .ensures ∙ sym (roomy _ _ _ (roomed .if1 .left)),
-      c .before .before .join-parts .ensures ∙ sym (filled (k .result) (runIn f) _ 4554 z (length-runIn f (accepted-length f (sym (k .ensures) ∙ z)))),
+    let at = c .before .before in
+    let told = at .before .before .before in
+    let run = told .before .before in
+    let join = run .before .before .before in
+    let outer = join .before .before in
+    let k = outer .before .before in
+    let s = k .before .before .before .before .before .args in
+    let e = rw (k .before .before .check-room .ensures, k .before .check-blocks .ensures) at (k .first-of .ensures) in (
+      run .check-run .ensures ∙ ap runCheck (join .join-parts .ensures) ∙ outer-lets (s .file .now) (s .run .now) _ e (outer .enum-told2 .given .1) .2,
+      at .put .ensures ∙ ap (placed (s .run .now) 0) (join .join-parts .ensures) ∙ put-in-front (run .check-run .result) _ _ (told .enum-told3 .given .1),
     )
 
 returns-3 : tie.Need-returns-3
 returns-3 c =
-    let k = c .before .before .check-file in
-    (k .ensures ∙ sym (roomy _ _ _ (c .before .before .before .if1 .left)), sym (kept (k .result) _ _ _ (c .enum-told2 .given .1)))
+    let run = c .before .before in
+    let join = run .before .before .before in
+    let outer = join .before .before in
+    let k = outer .before .before in
+    let s = k .before .before .before .before .before .args in
+    let e = rw (k .before .before .check-room .ensures, k .before .check-blocks .ensures) at (k .first-of .ensures) in (
+      run .check-run .ensures ∙ ap runCheck (join .join-parts .ensures) ∙ outer-lets (s .file .now) (s .run .now) _ e (outer .enum-told2 .given .1) .2,
+      sym (kept (run .check-run .result) _ _ _ (c .enum-told4 .given .1)),
+    )
 
 pub read-file-spec : {M : Type 1} → statement M
 read-file-spec =
     tie.close
     (tie.spec
-    returns
-    check-file-requires
+    check-room-requires
+    check-blocks-requires
+    first-of-requires
     enum-told
-    join-parts-requires
+    returns
     enum-told-2
+    slice-aggregate-join-parts
+    join-parts-requires
+    slice-aggregate-check-run
+    check-run-requires
+    enum-told-3
+    slice-aggregate-put
+    put-requires
+    enum-told-4
     same-length
     returns-2
     returns-3)

@@ -1,8 +1,8 @@
 -- The room is there, so that the file's own check decides, and the opening is by its two cases.
 use mathlib.Core.Path.{_≡_, refl, ap, sym, _∙_}
 use native.Mathlib.Omega.{arith}
-use Rattle.basis.specs.Lent.{written}
-use Rattle.basis.proofs.Lent.{roomy}
+use Rattle.lent.specs.Lent.{written}
+use Rattle.lent.proofs.Lent.{roomy}
 use Rattle.basis_file.specs.File.{fileCheck, runIn}
 use Rattle.enquiry_text.proofs.Puts.{being}
 use Rattle.enquiry_lines.specs.Output.{isPassed, openingOf}

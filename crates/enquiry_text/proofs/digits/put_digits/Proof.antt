@@ -5,7 +5,7 @@ use native.Mathlib.Omega.{arith}
 use lib.ListN.{length, length-set}
 use borrow.Author.Needs.{needs}
 use Rattle.enquiry_text.specs.Decimal.{digits}
-use Rattle.basis.specs.Lent.{placed}
+use Rattle.lent.specs.Lent.{placed}
 use Rattle.enquiry_text.proofs.Turns.{digit-turn, digits-done}
 use Rattle.enquiry_text.proofs.digits.put_digits.Statement.{statement}
 use Rattle.enquiry_text.proofs.digits.put_digits.Tie as tie

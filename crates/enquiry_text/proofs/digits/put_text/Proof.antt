@@ -4,9 +4,9 @@ use mathlib.Core.Path.{_≡_, refl, ap, sym, _∙_}
 use native.Mathlib.Omega.{arith}
 use lib.ListN.{length, drop, drop-of-length-le, length-set}
 use borrow.Author.Needs.{needs}
-use Rattle.basis.specs.Lent.{placed}
+use Rattle.lent.specs.Lent.{placed}
 use Rattle.enquiry_text.proofs.Turns.{text-turn}
-use Rattle.basis.proofs.Lent.{placed-none}
+use Rattle.lent.proofs.Lent.{placed-none}
 use Rattle.enquiry_text.proofs.digits.put_text.Statement.{statement}
 use Rattle.enquiry_text.proofs.digits.put_text.Tie as tie
 

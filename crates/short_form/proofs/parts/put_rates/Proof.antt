@@ -6,9 +6,9 @@ use lib.ListN.{length}
 use mir.Syntax.{w32}
 use mir.Val.{toZ, ofZ}
 use mir.Facts.{toZ-ofZ}
-use Rattle.basis.specs.Lent.{placed}
-use Rattle.short_form.specs.ShortForm.{longTermOf, longTermRates}
-use Rattle.short_form.proofs.Placing.{placed-same, rates-turn, rates-end}
+use Rattle.lent.specs.Lent.{placed}
+use Rattle.short_form.specs.ShortForm.{longTermRates}
+use Rattle.short_form.proofs.Placing.{rates-length, rates-turn, rates-end}
 use Rattle.basis.specs.Bytes.{i32Bytes}
 use Rattle.arithmetic.proofs.Machine.{got}
 use borrow.Author.Needs.{needs}
@@ -16,7 +16,9 @@ use Rattle.short_form.proofs.parts.put_rates.Statement.{statement}
 use Rattle.short_form.proofs.parts.put_rates.Tie as tie
 
 abbrev Inv-loop : tie.InvT-loop
-Inv-loop rate out₀ i₀ out i = (i ≤ 131) × (length out ≡ length out₀) × (placed out (1078 + 4 * i) (longTermRates (toZ w32 rate) (20 + i) (131 - i)) ≡ placed out₀ 1078 (longTermRates (toZ w32 rate) 20 131))
+Inv-loop rate out₀ i₀ out i =
+    (i ≤ 131) × (length out ≡ length out₀)
+    × (placed out (1078 + 4 * i) (longTermRates (toZ w32 rate) (20 + i) (131 - i)) ≡ placed out₀ 1078 (longTermRates (toZ w32 rate) 20 131))
 
 abbrev μ-loop : tie.MeasureT-loop
 μ-loop rate out₀ i₀ out i = 131 - i
@@ -61,7 +63,7 @@ loop-again c =
     let new = c .before .before .put .ensures ∙ ap (placed (l .loop .out) at) word in
     let room : 1602 ≤ length (l .loop .out) = omega arith in (
       omega arith,
-      placed-same (l .loop .out) _ at (i32Bytes (longTermOf rate (20 + l .loop .i))) (omega arith) new ∙ l .loop .inv .1,
+      rates-length (l .loop .out) _ rate (l .loop .i) (omega arith) room new ∙ l .loop .inv .1,
       rates-turn (l .loop .out) _ rate (l .loop .i) (omega arith) room new ∙ l .loop .inv .2,
     )
 

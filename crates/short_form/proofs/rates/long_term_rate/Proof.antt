@@ -47,11 +47,12 @@ round-div-requires c κs =
     (omega arith, omega (arith, product-size (s .args .rate) (s .args .age) (s .pre .0)))
 
 -- what was divided
-gives : (c : lts.After-round-div (share-reads.Asked, share-reads.Learnt, round-div-reads.Asked, round-div-reads.Learnt) reads.Pre reads.Post) → toZ w64 (ofZ w64 (c .round-div .result)) ≡ longTermOf (c .before .before .args .rate) (c .before .before .args .age)
+gives : (c : lts.After-round-div (share-reads.Asked, share-reads.Learnt, round-div-reads.Asked, round-div-reads.Learnt) reads.Pre reads.Post)
+    → toZ w64 (ofZ w64 (c .round-div .result)) ≡ longTermOf (c .before .before .args .rate) (c .before .before .args .age)
 gives c =
     let s = c .before .before in
-    got w64 (c .round-div .ok)
-    (rw (rate-is s, share-is _ (s .args .age) (c .before .share .ensures), toZ-ofZ (product-fits (s .args .rate) (s .args .age) (s .pre .0))) at (c .round-div .ensures))
+    let fits = product-fits (s .args .rate) (s .args .age) (s .pre .0) in
+    got w64 (c .round-div .ok) (rw (rate-is s, share-is _ (s .args .age) (c .before .share .ensures), toZ-ofZ fits) at (c .round-div .ensures))
 
 result-fits : (rate : ℤ) (age : ℕ) → natAbs rate ≤ 200_000_000 → SFits w32 (longTermOf rate age)
 result-fits rate age h = sfits-abs (omega (arith, long-term-size rate age h))

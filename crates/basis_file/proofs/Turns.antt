@@ -1,0 +1,91 @@
+-- The loops over the nine blocks, one block more: what is left gives the same in the end. Assumes nothing.
+use mathlib.Core.Path.{_≡_, sym, ap, _∙_}
+use mathlib.Core.List.{List, _++_}
+use Prim.Native.Nat.{ℕ, suc, _+_, _*_, _-_, _<_, _≤_}
+use native.Mathlib.Omega.{arith}
+use native.Mathlib.Nat.{add-sub-cancel-left}
+use lib.ListN.{length, take, drop, length-take, length-drop}
+use lib.Seq.{drop-drop}
+use Rattle.basis.specs.declared.Check.{Check}
+use Rattle.basis.specs.Outcome.{firstOf}
+use Rattle.lent.specs.Lent.{placed}
+use Rattle.lent.proofs.Lent.{placed-none, then, then-length}
+use Rattle.block.specs.Block.{blockCheck, blockOf}
+use Rattle.block.proofs.Blocks.{block-length}
+use Rattle.basis_file.specs.File.{partsOf, blocksOf, blocksCheck}
+
+-- a part of a list, as the borrow checker writes one that is lent
+module _ (s : List ℕ) (at n : ℕ) where
+  pub part-is : take (at + n - at) (drop at s) ≡ take n (drop at s)
+  part-is = simp add-sub-cancel-left
+
+  pub part-length : at + n ≤ length s → length (take n (drop at s)) ≡ n
+  part-length h = simp (length-take, length-drop) (omega arith)
+
+left : (b : ℕ) → b < 9 → 9 - b ≡ suc (9 - (b + 1))
+left b h = omega arith
+
+-- ---- the checks
+pub check-turn : (file : List ℕ) (b : ℕ) (r : Check) → b < 9 → r ≡ blockCheck b (take 512 (drop (512 * b) file))
+    → firstOf r (blocksCheck (b + 1) (9 - (b + 1)) (drop (512 * (b + 1)) file)) ≡ blocksCheck b (9 - b) (drop (512 * b) file)
+unfolding blocksCheck
+check-turn file b r h e =
+    let n : 512 * (b + 1) ≡ 512 * b + 512 = omega arith in
+    rw (e, left b h, n, ← drop-drop 512 (512 * b) file)
+
+-- ---- the data parts, joined
+module _ (file run : List ℕ) (b : ℕ) where
+  module _ (new : List ℕ) (h : b < 9) (l : length file ≡ 4608) (m : length run ≡ 4554)
+      (e : new ≡ placed run (506 * b) (take 506 (drop (512 * b + 2) file))) where
+    part-room : 506 * b + length (take 506 (drop (512 * b + 2) file)) ≤ length run
+    part-room = let n = part-length file (512 * b + 2) 506 (omega arith) in omega arith
+
+    pub join-length : length new ≡ length run
+    join-length = then-length run (506 * b) _ part-room new e
+
+    parts-step : partsOf (9 - b) (drop (512 * b) file)
+        ≡ take 506 (drop (512 * b + 2) file) ++ partsOf (9 - (b + 1)) (drop (512 * (b + 1)) file)
+    unfolding partsOf
+    parts-step =
+        let n : 512 * (b + 1) ≡ 512 * b + 512 = omega arith in
+        rw (left b h, n, ← drop-drop 512 (512 * b) file, ← drop-drop 2 (512 * b) file)
+
+    pub join-turn : placed new (506 * (b + 1)) (partsOf (9 - (b + 1)) (drop (512 * (b + 1)) file))
+        ≡ placed run (506 * b) (partsOf (9 - b) (drop (512 * b) file))
+    join-turn =
+        let n = part-length file (512 * b + 2) 506 (omega arith) in
+        then run (506 * b) _ part-room new e (506 * (b + 1)) _ (omega arith) ∙ ap (placed run (506 * b)) (sym parts-step)
+
+  pub join-end : b ≡ 9 → placed run (506 * b) (partsOf (9 - b) (drop (512 * b) file)) ≡ run
+  unfolding partsOf
+  join-end e = rw e (placed-none run 4554)
+
+-- ---- the blocks, written
+module _ (run file : List ℕ) (b : ℕ) where
+  module _ (new : List ℕ) (h : b < 9) (l : length run ≡ 4554) (m : 4608 ≤ length file)
+      (e : new ≡ placed file (512 * b) (blockOf b (take 506 (drop (506 * b) run)))) where
+    block-long : length (blockOf b (take 506 (drop (506 * b) run))) ≡ 512
+    block-long = block-length b _ (part-length run (506 * b) 506 (omega arith))
+
+    block-room : 512 * b + length (blockOf b (take 506 (drop (506 * b) run))) ≤ length file
+    block-room = let n = block-long in omega arith
+
+    pub write-length : length new ≡ length file
+    write-length = then-length file (512 * b) _ block-room new e
+
+    blocks-step : blocksOf b (9 - b) (drop (506 * b) run)
+        ≡ blockOf b (take 506 (drop (506 * b) run)) ++ blocksOf (b + 1) (9 - (b + 1)) (drop (506 * (b + 1)) run)
+    unfolding blocksOf
+    blocks-step =
+        let n : 506 * (b + 1) ≡ 506 * b + 506 = omega arith in
+        rw (left b h, n, ← drop-drop 506 (506 * b) run)
+
+    pub write-turn : placed new (512 * (b + 1)) (blocksOf (b + 1) (9 - (b + 1)) (drop (506 * (b + 1)) run))
+        ≡ placed file (512 * b) (blocksOf b (9 - b) (drop (506 * b) run))
+    write-turn =
+        let n = block-long in
+        then file (512 * b) _ block-room new e (512 * (b + 1)) _ (omega arith) ∙ ap (placed file (512 * b)) (sym blocks-step)
+
+  pub write-end : b ≡ 9 → placed file (512 * b) (blocksOf b (9 - b) (drop (506 * b) run)) ≡ file
+  unfolding blocksOf
+  write-end e = rw e (placed-none file 4608)

@@ -1,0 +1,4 @@
+mod Product
+mod WordSums
+mod Turns
+pub mod Blocks

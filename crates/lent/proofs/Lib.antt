@@ -1,0 +1,2 @@
+pub mod Lent
+mod Turns
