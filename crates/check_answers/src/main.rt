@@ -16,7 +16,7 @@ use enquiry_text::digits;
 use enquiry_text::reply;
 use libc::STDIN_FILENO;
 use libc::STDOUT_FILENO;
-use valuation::Kind;
+use survivorship::Kind;
 
 // ---- the bases
 // Room for 32 data runs.

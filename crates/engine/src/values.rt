@@ -1,12 +1,12 @@
 // Enquiries for values: survivorship, expectation of life and annuity-due, each period and cohort.
 ghost use mathlib.Core.Path.{_≡_};
-ghost use Rattle.valuation.specs.declared.Kind.the-variants.{Period, Cohort};
+ghost use Rattle.survivorship.specs.declared.Kind.the-variants.{Period, Cohort};
 ghost use Rattle.enquiry.specs.Enquiry.{survivorshipEnquiry, expectationEnquiry, annuityEnquiry};
 ghost use Rattle.engine.specs.Enquiry.{answerOf};
 use crate::CAnswer;
 use crate::answers;
 use enquiry::values;
-use valuation::Kind;
+use survivorship::Kind;
 
 // The deferment is the number of years.
 #[no_mangle]

@@ -1,72 +1,26 @@
 -- What an enquiry knows once its checks have passed: all that the work asks for. From the laws of checks.
-use mathlib.Core.Path.{_≡_, refl}
-use mathlib.Core.Bool.{Bool, true, false, _&&_}
+use mathlib.Core.Path.{_≡_}
 use mathlib.Core.List.{List}
 use Prim.Native.Nat.{ℕ, _+_, _≤_}
-use native.Mathlib.Omega.{arith}
-use lib.Dec.{leb}
-use borrow.Author.Tests.{leb-true}
-use Rattle.basis.specs.declared.Check.{Check}
 use Rattle.basis.specs.declared.Check.the-variants.{Passed}
-use Rattle.basis.specs.Basis.{Basis, basisOf, Accepted}
+use Rattle.basis.specs.Basis.{basisOf, Accepted}
+use Rattle.basis.specs.Outcome.{firstOf}
+use Rattle.basis.proofs.Outcome.{both-passed}
 use Rattle.run_check.specs.Run.{runCheck}
-use Rattle.basis.specs.Outcome.{refusal, firstOf}
-use Rattle.basis.proofs.Outcome.{unless-passed, both-passed}
 use Rattle.run_check.proofs.Acceptance.{accepted}
-use Rattle.enquiry.specs.Enquiry.{inRange, ageCheck, defermentCheck, yearCheck, cellCheck, questionCheck, valuationCheck}
-
-pub in-range : (low high n : ℕ) → inRange low high n ≡ true → (low ≤ n) × (n ≤ high)
-in-range low high n h = by (leb low n) refl (leb n high) refl h
-  where
-    by : (s : Bool) → leb low n ≡ s → (t : Bool) → leb n high ≡ t → (s && t) ≡ true → (low ≤ n) × (n ≤ high)
-    by true e true g k = (leb-true low n e, leb-true n high g)
-    by true e false g k = let z : _≡_ {A = ℕ} 0 1 = cc in absurd (omega arith)
-    by false e t g k = let z : _≡_ {A = ℕ} 0 1 = cc in absurd (omega arith)
-
--- ---- one check
-pub age-passed : (age : ℕ) → ageCheck age ≡ Passed → (20 ≤ age) × (age ≤ 150)
-unfolding ageCheck
-age-passed age h = in-range 20 150 age (unless-passed (inRange 20 150 age) (refusal 6 age 0) h)
-
-deferment-passed : (age deferment : ℕ) → defermentCheck age deferment ≡ Passed → age + deferment ≤ 150
-unfolding defermentCheck
-deferment-passed age deferment h = leb-true (age + deferment) 150 (unless-passed (leb (age + deferment) 150) (refusal 8 age deferment) h)
-
-year-passed : (first year : ℕ) → yearCheck first year ≡ Passed → (first ≤ year) × (year ≤ 2130)
-unfolding yearCheck
-year-passed first year h = in-range first 2130 year (unless-passed (inRange first 2130 year) (refusal 7 year 0) h)
-
--- ---- all of them
-pub first-same : {c d e f : Check} → c ≡ e → d ≡ f → firstOf c d ≡ firstOf e f
-first-same p q = rw (p, q) refl
+use Rattle.question.specs.Question.{cellCheck, questionCheck}
+use Rattle.question.proofs.Passed as question
+use Rattle.enquiry.specs.Enquiry.{valuationCheck}
 
 pub cell-passed : (run : List ℕ) (first age year : ℕ) → firstOf (runCheck run) (cellCheck first age year) ≡ Passed
     → Accepted run × (20 ≤ age) × (age ≤ 150) × (first ≤ year) × (year ≤ 2130)
 cell-passed run first age year h =
     let p = both-passed (runCheck run) (cellCheck first age year) h in
-    let q = both-passed (ageCheck age) (yearCheck first year) (p .1) in
-    let a = age-passed age (q .0) in
-    let y = year-passed first year (q .1) in
-    (accepted run (p .0), a .0, a .1, y .0, y .1)
-
--- each of the three
-pub question-parts : (b : Basis) (age deferment year : ℕ) → questionCheck b age deferment year ≡ Passed
-    → (ageCheck age ≡ Passed) × (defermentCheck age deferment ≡ Passed) × (yearCheck (b .base) year ≡ Passed)
-unfolding questionCheck
-question-parts b age deferment year h =
-    let p = both-passed (ageCheck age) (firstOf (defermentCheck age deferment) (yearCheck (b .base) year)) h in
-    let q = both-passed (defermentCheck age deferment) (yearCheck (b .base) year) (p .1) in
-    (p .0, q .0, q .1)
-
-pub question-passed : (run : List ℕ) (age deferment year : ℕ) → Accepted run → questionCheck (basisOf run) age deferment year ≡ Passed
-    → Accepted run × (20 ≤ age) × (age + deferment ≤ 150) × (basisOf run .base ≤ year) × (year ≤ 2130)
-question-passed run age deferment year ok h =
-    let p = question-parts (basisOf run) age deferment year h in
-    let y = year-passed (basisOf run .base) year (p .2) in
-    (ok, age-passed age (p .0) .0, deferment-passed age deferment (p .1), y .0, y .1)
+    let q = question.cell-passed first age year (p .1) in
+    (accepted run (p .0), q .0, q .1, q .2, q .3)
 
 pub valuation-passed : (run : List ℕ) (age deferment year : ℕ) → valuationCheck run age deferment year ≡ Passed
     → Accepted run × (20 ≤ age) × (age + deferment ≤ 150) × (basisOf run .base ≤ year) × (year ≤ 2130)
 valuation-passed run age deferment year h =
     let p = both-passed (runCheck run) (questionCheck (basisOf run) age deferment year) h in
-    question-passed run age deferment year (accepted run (p .0)) (p .1)
+    question.question-passed run age deferment year (accepted run (p .0)) (p .1)

@@ -1,42 +1,19 @@
--- Enquiries (01, "Who can cause a refusal"): the data run afresh, then the enquiry's own checks in the order 6, 8, 7, and then the work.
-use Prim.Native.Nat.{ℕ, _+_}
-use mathlib.Core.Bool.{Bool, _&&_}
+-- Enquiries (01, "Who can cause a refusal"): the data run afresh, then the enquiry's own checks, and then the work.
+use Prim.Native.Nat.{ℕ}
 use mathlib.Core.List.{List}
-use lib.Dec.{leb}
 use lib.IntN.{ℤ}
 use Rattle.basis.specs.declared.Check.{Check}
-use Rattle.basis.specs.Basis.{Basis, basisOf}
+use Rattle.basis.specs.Basis.{basisOf}
+use Rattle.basis.specs.Outcome.{Outcome, firstOf, checked}
 use Rattle.run_check.specs.Run.{runCheck}
-use Rattle.basis.specs.Outcome.{Outcome, refusal, unless, firstOf, checked}
-use Rattle.projection.specs.Projection.{improvementOf, improvementNeeded, factorOf, rateOf}
-use Rattle.valuation.specs.declared.Kind.{Kind}
-use Rattle.valuation.specs.Valuation.{survivorsOf, expectationOf, annuityOf}
+use Rattle.improvement.specs.Improvement.{improvementOf, improvementNeeded}
+use Rattle.projection.specs.Projection.{factorOf, rateOf}
+use Rattle.survivorship.specs.declared.Kind.{Kind}
+use Rattle.survivorship.specs.Survivorship.{survivorsOf}
+use Rattle.valuation.specs.Valuation.{expectationOf, annuityOf}
+use Rattle.question.specs.Question.{cellCheck, questionCheck}
 
--- ---- an enquiry's own checks
-abbrev pub inRange : ℕ → ℕ → ℕ → Bool
-inRange low high n = leb low n && leb n high
-
--- 6: age outside 20 to 150
-unfoldable pub ageCheck : ℕ → Check
-ageCheck age = unless (inRange 20 150 age) (refusal 6 age 0)
-
--- 8: age + deferment above 150
-unfoldable pub defermentCheck : ℕ → ℕ → Check
-defermentCheck age deferment = unless (leb (age + deferment) 150) (refusal 8 age deferment)
-
--- 7: the enquiry's year after 2130, or before the first that it may name
-unfoldable pub yearCheck : ℕ → ℕ → Check
-yearCheck first year = unless (inRange first 2130 year) (refusal 7 year 0)
-
--- an enquiry for an improvement, factor or rate has no deferment
-abbrev pub cellCheck : ℕ → ℕ → ℕ → Check
-cellCheck first age year = firstOf (ageCheck age) (yearCheck first year)
-
--- one for survivorship, an expectation or an annuity may name years from B on; year + deferment may be after 2130
-unfoldable pub questionCheck : Basis → ℕ → ℕ → ℕ → Check
-questionCheck b age deferment year = firstOf (ageCheck age) (firstOf (defermentCheck age deferment) (yearCheck (b .base) year))
-
--- ---- every enquiry checks its data run afresh
+-- every enquiry checks its data run afresh
 abbrev pub valuationCheck : List ℕ → ℕ → ℕ → ℕ → Check
 valuationCheck run age deferment year = firstOf (runCheck run) (questionCheck (basisOf run) age deferment year)
 

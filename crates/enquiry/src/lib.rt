@@ -1,4 +1,3 @@
 // Enquiries: any bytes, any age, deferment and year are answered or refused.
 pub mod cells;
-pub mod checks;
 pub mod values;

@@ -2,17 +2,16 @@
 ghost use mathlib.Core.Path.{_≡_};
 ghost use Rattle.basis.specs.Outcome.{meaning};
 ghost use Rattle.enquiry.specs.Enquiry.{valuationCheck, survivorshipEnquiry, expectationEnquiry, annuityEnquiry};
-use crate::checks;
 use basis::Answer;
 use basis::Check;
-use valuation::Kind;
+use survivorship::Kind;
 
 // The data run afresh, then the question.
 pub fn check_valuation(run: &[u8], age: u32, deferment: u32, year: u32) -> Check
     ensures { λ r. ⌜ r ≡ valuationCheck (now (run .entry)) age deferment year ⌝ }
 {
     match run_check::check_run(run) {
-        Check::Passed => checks::check_question(run, age, deferment, year),
+        Check::Passed => question::check_question(run, age, deferment, year),
         Check::Refused(r) => Check::Refused(r),
     }
 }
@@ -21,7 +20,7 @@ pub fn survivorship(run: &[u8], kind: Kind, age: u32, deferment: u32, year: u32)
     ensures { λ r. ⌜ meaning r ≡ survivorshipEnquiry (now (run .entry)) kind age deferment year ⌝ }
 {
     match check_valuation(run, age, deferment, year) {
-        Check::Passed => valuation::survivorship::survivors_at(run, kind, age, year, deferment),
+        Check::Passed => survivorship::survivors_at(run, kind, age, year, deferment),
         Check::Refused(r) => Answer::Refused(r),
     }
 }

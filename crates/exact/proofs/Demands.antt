@@ -9,8 +9,10 @@ use Rattle.basis.specs.Outcome.{firstOf}
 use Rattle.run_check.specs.Run.{runCheck}
 use Rattle.basis.proofs.Outcome.{checked-value}
 use Rattle.projection.specs.Projection.{factorOf, rateOf}
-use Rattle.valuation.specs.Valuation.{yearOn, survivorsOf, expectationOf, annuityOf}
-use Rattle.enquiry.specs.Enquiry.{cellCheck, valuationCheck, factorEnquiry, rateEnquiry, survivorshipEnquiry, expectationEnquiry, annuityEnquiry}
+use Rattle.survivorship.specs.Survivorship.{yearOn, survivorsOf}
+use Rattle.valuation.specs.Valuation.{expectationOf, annuityOf}
+use Rattle.question.specs.Question.{cellCheck}
+use Rattle.enquiry.specs.Enquiry.{valuationCheck, factorEnquiry, rateEnquiry, survivorshipEnquiry, expectationEnquiry, annuityEnquiry}
 use Rattle.enquiry.proofs.Passed.{cell-passed, valuation-passed}
 use Rattle.exact.specs.Model.{yearsTo}
 use Rattle.exact.specs.Distance.{largestYears, Demand3}

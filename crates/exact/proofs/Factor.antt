@@ -11,8 +11,10 @@ use Rattle.arithmetic.proofs.Chain.{Chained, chained-first, chained-next}
 use Rattle.basis.specs.Basis.{Basis, ConvergenceLimits, Limited}
 use Rattle.basis.specs.Outcome.{value}
 use Rattle.basis.proofs.Outcome.{along, came}
-use Rattle.projection.specs.Projection.{improvementOf, factorNext, factorStep, factorOf, rateFrom, rateOf}
-use Rattle.projection.proofs.Cases.{year-value, usable-abs, held-late}
+use Rattle.improvement.specs.Improvement.{improvementOf}
+use Rattle.projection.specs.Projection.{factorNext, factorStep, factorOf, rateFrom, rateOf}
+use Rattle.projection.proofs.Cases.{year-value, held-late}
+use Rattle.improvement.proofs.Cases.{usable-abs}
 use Rattle.exact.specs.Model.{exactImprovement, exactFactorAfter, yearsTo, exactFactor, exactRate}
 use Rattle.exact.specs.Distance.{NotBelowZero, Improving}
 use Rattle.exact.proofs.Improvement.{improvement-within, improvement-natural, rest-small, unit-near}

@@ -16,7 +16,7 @@ use Rattle.arithmetic.proofs.UnitRange.{InUnit}
 use Rattle.basis.specs.Basis.{Basis}
 use Rattle.basis.specs.declared.Convergence.{Convergence}
 use Rattle.component.specs.Component.{weightOf, componentOf}
-use Rattle.projection.specs.Projection.{additionOf, improvementOf}
+use Rattle.improvement.specs.Improvement.{additionOf, improvementOf}
 use Rattle.exact.specs.Model.{exactComponent, exactImprovement}
 use Rattle.exact.specs.Distance.{NotBelowZero}
 

@@ -12,9 +12,9 @@ use Rattle.basis.specs.Outcome.{value}
 use Rattle.basis.proofs.Outcome.{along, came}
 use Rattle.projection.specs.Projection.{rateOf}
 use Rattle.projection.proofs.Years.{rate-small}
-use Rattle.valuation.specs.Valuation.{yearOn, survivorsNext, survivorsAfterYear, survivorsStep, survivorsOf}
-use Rattle.valuation.specs.declared.Kind.{Kind}
-use Rattle.valuation.proofs.Survivors.{rest}
+use Rattle.survivorship.specs.Survivorship.{yearOn, survivorsNext, survivorsAfterYear, survivorsStep, survivorsOf}
+use Rattle.survivorship.specs.declared.Kind.{Kind}
+use Rattle.survivorship.proofs.Survivors.{rest}
 use Rattle.exact.specs.Model.{exactSurvivors, yearsTo}
 use Rattle.exact.specs.Distance.{ImprovingOver}
 use Rattle.exact.proofs.Factor.{rate-within, rate-unit}

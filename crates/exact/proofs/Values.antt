@@ -14,8 +14,9 @@ use Rattle.basis.specs.Basis.{Basis, Limited, accumulationOf}
 use Rattle.basis.specs.Outcome.{Outcome, value, sumOf, addTo}
 use Rattle.basis.proofs.Outcome.{along, came}
 use Rattle.basis.proofs.Accumulation.{accumulation-low}
-use Rattle.valuation.specs.Valuation.{yearOn, survivorsOf, curtateOf, expectationOf, discountAfter, payment, paymentAfter, annuityOf}
-use Rattle.valuation.specs.declared.Kind.{Kind}
+use Rattle.survivorship.specs.Survivorship.{yearOn, survivorsOf}
+use Rattle.valuation.specs.Valuation.{curtateOf, expectationOf, discountAfter, payment, paymentAfter, annuityOf}
+use Rattle.survivorship.specs.declared.Kind.{Kind}
 use Rattle.exact.specs.Model.{yearsTo, exactSurvivors, exactDiscount, exactExpectation, exactPayment, exactAnnuity}
 use Rattle.exact.specs.Distance.{ImprovingOver, WithinQuarters}
 use Rattle.exact.proofs.Survivors.{survived}

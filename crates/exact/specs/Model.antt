@@ -5,9 +5,10 @@ use Rattle.arithmetic.specs.Fraction.{Fraction, _over_, whole, _+ᶠ_, _-ᶠ_, 
 use Rattle.basis.specs.Basis.{Basis, accumulationOf}
 use Rattle.basis.specs.declared.Convergence.{Convergence}
 use Rattle.component.specs.Component.{weightOf}
-use Rattle.projection.specs.Projection.{additionOf, heldYear}
-use Rattle.valuation.specs.Valuation.{yearOn}
-use Rattle.valuation.specs.declared.Kind.{Kind}
+use Rattle.improvement.specs.Improvement.{additionOf}
+use Rattle.projection.specs.Projection.{heldYear}
+use Rattle.survivorship.specs.Survivorship.{yearOn}
+use Rattle.survivorship.specs.declared.Kind.{Kind}
 
 -- L + (I − L) × weight
 unfoldable pub exactComponent : Convergence → ℕ → Fraction

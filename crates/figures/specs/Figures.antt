@@ -9,9 +9,10 @@ use Rattle.basis.specs.Outcome.{Outcome, value, refused, refusal}
 use Rattle.basis.specs.declared.Convergence.{Convergence}
 use Rattle.component.specs.Component.{componentOf, terms}
 use Rattle.short_form.specs.ShortForm.{longTermOf}
-use Rattle.projection.specs.Projection.{improvementOf, improvementNeeded, factorOf}
+use Rattle.improvement.specs.Improvement.{improvementOf, improvementNeeded}
+use Rattle.projection.specs.Projection.{factorOf}
 use Rattle.valuation.specs.Valuation.{annuityOf}
-use Rattle.valuation.specs.declared.Kind.the-variants.{Period, Cohort}
+use Rattle.survivorship.specs.declared.Kind.the-variants.{Period, Cohort}
 
 pub record Figure : Type 0 where
   pub worked : Outcome ℤ

@@ -14,9 +14,10 @@ use Rattle.basis.specs.Outcome.{refusal, firstOf}
 use Rattle.basis.proofs.Outcome.{unless-passed, both-passed}
 use Rattle.run_check.specs.Run.{runCheck}
 use Rattle.run_check.proofs.Acceptance.{accepted}
-use Rattle.enquiry.specs.Enquiry.{inRange, ageCheck, valuationCheck}
-use Rattle.enquiry.proofs.Passed.{in-range, age-passed}
-use Rattle.valuation.specs.Valuation.{survivorsAfterYear}
+use Rattle.question.specs.Question.{inRange, ageCheck}
+use Rattle.enquiry.specs.Enquiry.{valuationCheck}
+use Rattle.question.proofs.Passed.{in-range, age-passed}
+use Rattle.survivorship.specs.Survivorship.{survivorsAfterYear}
 use Rattle.lifeline.specs.declared.Status.the-variants as status
 use Rattle.lifeline.specs.Lifeline.{begun, startAt, standingYearCheck, standingCheck, survivorsCheck, stepCheck, moved, yearLater, lived, stepAt}
 

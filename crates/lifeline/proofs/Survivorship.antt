@@ -15,11 +15,13 @@ use Rattle.basis.specs.Basis.{basisOf}
 use Rattle.run_check.specs.Run.{runCheck}
 use Rattle.basis.specs.Outcome.{Outcome, value, refused}
 use Rattle.basis.proofs.Outcome.{both-passed, checked-value}
-use Rattle.valuation.specs.declared.Kind.the-variants.{Cohort}
-use Rattle.enquiry.specs.Enquiry.{ageCheck, defermentCheck, questionCheck, valuationCheck, survivorshipEnquiry}
-use Rattle.valuation.specs.Valuation.{survivorsAfterYear, survivorsOf}
-use Rattle.enquiry.proofs.Passed.{question-parts, valuation-passed}
-use Rattle.valuation.proofs.Survivors.{survivors-first, survivors-next, survivors-refused, survivors-natural, survivors-small}
+use Rattle.survivorship.specs.declared.Kind.the-variants.{Cohort}
+use Rattle.question.specs.Question.{ageCheck, defermentCheck, questionCheck}
+use Rattle.enquiry.specs.Enquiry.{valuationCheck, survivorshipEnquiry}
+use Rattle.survivorship.specs.Survivorship.{survivorsAfterYear, survivorsOf}
+use Rattle.question.proofs.Passed.{question-parts}
+use Rattle.enquiry.proofs.Passed.{valuation-passed}
+use Rattle.survivorship.proofs.Survivors.{survivors-first, survivors-next, survivors-refused, survivors-natural, survivors-small}
 use Rattle.lifeline.specs.declared.Status.the-variants as status
 use Rattle.lifeline.specs.declared.Stand.{Stand}
 use Rattle.lifeline.specs.declared.Moved.{Moved}

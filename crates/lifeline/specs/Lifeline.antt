@@ -11,8 +11,9 @@ use Rattle.basis.specs.declared.Check.the-variants.{Passed, Refused}
 use Rattle.basis.specs.Basis.{Basis, basisOf}
 use Rattle.run_check.specs.Run.{runCheck}
 use Rattle.basis.specs.Outcome.{Outcome, value, refused, refusal, unless, firstOf}
-use Rattle.enquiry.specs.Enquiry.{inRange, ageCheck, valuationCheck}
-use Rattle.valuation.specs.Valuation.{survivorsAfterYear}
+use Rattle.question.specs.Question.{inRange, ageCheck}
+use Rattle.enquiry.specs.Enquiry.{valuationCheck}
+use Rattle.survivorship.specs.Survivorship.{survivorsAfterYear}
 use Rattle.lifeline.specs.declared.Status.{Status}
 use Rattle.lifeline.specs.declared.Status.the-variants as status
 use Rattle.lifeline.specs.declared.Stand.{Stand}

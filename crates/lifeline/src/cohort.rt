@@ -3,8 +3,8 @@ ghost use mathlib.Core.Path.{_≡_};
 ghost use Prim.Native.Nat.{_+_, _≤_, _<_};
 ghost use lib.IntN.{pos};
 ghost use Rattle.basis.specs.Basis.{basisOf, Accepted};
-ghost use Rattle.enquiry.specs.Enquiry.{inRange};
-ghost use Rattle.valuation.specs.Valuation.{survivorsAfterYear};
+ghost use Rattle.question.specs.Question.{inRange};
+ghost use Rattle.survivorship.specs.Survivorship.{survivorsAfterYear};
 ghost use Rattle.lifeline.specs.Lifeline.{startAt, standingYearCheck, standingCheck, survivorsCheck, stepCheck, yearLater, stepAt};
 use crate::Begun;
 use crate::Moved;
@@ -79,7 +79,7 @@ fn check_standing(run: &[u8], age: u32, year: u32, survivors: u64) -> Check
 {
     let of_year = check_standing_year(basis::fields::base_year(run), age, year);
     basis::first_of(
-        enquiry::checks::check_age(age),
+        question::check_age(age),
         basis::first_of(of_year, check_survivors(survivors)),
     )
 }
@@ -99,7 +99,7 @@ fn year_later(run: &[u8], age: u32, year: u32, survivors: u64) -> Moved
     requires { ⌜ Accepted (now run) × (20 ≤ age) × (age < 150) × (basisOf (now run) .base ≤ year) × (year ≤ 2260) × (survivors ≤ 1_000_000_000) ⌝ }
     ensures { λ r. ⌜ r ≡ yearLater age year survivors (survivorsAfterYear (basisOf (now (run .entry))) age year (pos survivors)) ⌝ }
 {
-    match valuation::survivorship::survivors_after_year(run, age, year, survivors) {
+    match survivorship::survivors_after_year(run, age, year, survivors) {
         Answer::Value(s) => Moved {
             age: age + 1,
             year: year + 1,

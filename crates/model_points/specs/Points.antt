@@ -8,8 +8,8 @@ use Rattle.basis.specs.declared.Check.the-variants.{Passed, Refused}
 use Rattle.basis.specs.Basis.{Basis, basisOf}
 use Rattle.basis.specs.Outcome.{Outcome, value, refused, checked, andThen, noRefusal}
 use Rattle.run_check.specs.Run.{runCheck}
-use Rattle.enquiry.specs.Enquiry.{questionCheck}
-use Rattle.valuation.specs.declared.Kind.the-variants.{Period, Cohort}
+use Rattle.question.specs.Question.{questionCheck}
+use Rattle.survivorship.specs.declared.Kind.the-variants.{Period, Cohort}
 use Rattle.valuation.specs.Valuation.{expectationOf, annuityOf}
 use Rattle.model_points.specs.declared.Question.{Question}
 use Rattle.model_points.specs.declared.PointAnswer.{PointAnswer}

@@ -9,7 +9,7 @@ use crate::Question;
 use basis::Answer;
 use basis::Check;
 use basis::Refusal;
-use valuation::Kind;
+use survivorship::Kind;
 
 fn refused_point(refusal: Refusal) -> PointAnswer
     ensures { λ r. ⌜ r ≡ pointAnswerOf (refused refusal) ⌝ }
@@ -63,7 +63,7 @@ pub fn point_at(run: &[u8], q: Question) -> PointAnswer
     requires { ⌜ Accepted (now run) ⌝ }
     ensures { λ r. ⌜ r ≡ pointOf (basisOf (now (run .entry))) q ⌝ }
 {
-    match enquiry::checks::check_question(run, q.age, q.deferment, q.year) {
+    match question::check_question(run, q.age, q.deferment, q.year) {
         Check::Passed => results_at(run, q.age, q.deferment, q.year),
         Check::Refused(r) => refused_point(r),
     }

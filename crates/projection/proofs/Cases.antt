@@ -1,57 +1,16 @@
--- The definitions of the projection case by case: before and after F, within and beyond ±500,000,000, up to and above 4 × U,
--- before and after 2130. Assumes nothing.
-use mathlib.Core.Path.{_≡_, _∙_, sym, refl}
+-- The definitions of the factor case by case: refused by 9, by 10, valued; before and after 2130. Assumes nothing.
+use mathlib.Core.Path.{_≡_, _∙_, refl}
 use mathlib.Core.Bool.{Bool, true, false, cond}
-use Prim.Native.Nat.{ℕ, suc, _-_, _≤_, _<_}
+use Prim.Native.Nat.{ℕ, _≤_, _<_}
 use native.Mathlib.Omega.{arith}
 use native.Mathlib.Decide.{decLt}
-use lib.IntN.{ℤ, pos, negsuc, natAbs, _+ℤ_}
+use lib.IntN.{ℤ, pos}
 use lib.Signed.{leZ}
-use borrow.Author.Tests.{lt-ltb, le-ltb, leb-true, leb-false, le-leb, lt-leb}
-use Rattle.basis.specs.Basis.{Basis, ConvergenceLimits}
+use borrow.Author.Tests.{lt-ltb, le-ltb, le-leb, lt-leb}
 use Rattle.basis.specs.Outcome.{value, refused, andThen, refusal}
-use Rattle.basis.specs.declared.Convergence.{Convergence}
-use Rattle.component.specs.Component.{componentOf}
-use Rattle.projection.specs.Projection.{additionOf, improvementOf, usable, improvementNeeded, factorNeeded, factorNext, factorFrom, heldYear}
-
--- ---- the addition and the improvement
-pub addition-after : (b : Basis) (year : ℕ) → b .foundation < year → additionOf b year ≡ b .addition
-unfolding additionOf
-addition-after b year h = rw (lt-ltb (b .foundation) year h)
-
-pub addition-at : (b : Basis) (year : ℕ) → year ≤ b .foundation → additionOf b year ≡ pos 0
-unfolding additionOf
-addition-at b year h = rw (le-ltb (b .foundation) year h)
-
-pub limits-of : {found terms : Convergence} → found ≡ terms → ConvergenceLimits terms → ConvergenceLimits found
-limits-of e h = rw e h
-
-pub improvement-is : (b : Basis) (age year : ℕ) {attained birth : Convergence} {foundation : ℕ} {addition : ℤ} →
-    attained ≡ b .byAge age → birth ≡ b .byBirthYear (year - age) → foundation ≡ b .foundation → addition ≡ additionOf b year →
-    componentOf attained (year - foundation) +ℤ componentOf birth (year - foundation) +ℤ addition ≡ improvementOf b age year
-unfolding improvementOf
-improvement-is b age year e g h k = rw (e, g, h, k) refl
-
--- ---- 9: the code's two tests are the one of the definition
-pub usable-high : (i : ℤ) → leZ (negsuc 499_999_999) i ≡ true → leZ i (pos 500_000_000) ≡ usable i
-usable-high (pos n) h = refl
-usable-high (negsuc n) h = sym (le-leb (suc n) 500_000_000 (omega (arith, leb-true n 499_999_999 h)))
-
-pub usable-low : (i : ℤ) → leZ (negsuc 499_999_999) i ≡ false → leZ (negsuc 499_999_999) i ≡ usable i
-usable-low (pos n) h = let z : _≡_ {A = ℕ} 0 1 = cc in absurd (omega arith)
-usable-low (negsuc n) h = h ∙ sym (lt-leb (suc n) 500_000_000 (omega (arith, leb-false n 499_999_999 h)))
-
-pub usable-abs : (i : ℤ) → usable i ≡ true → natAbs i ≤ 500_000_000
-usable-abs i h = leb-true (natAbs i) 500_000_000 h
-
-module _ (age year : ℕ) (i : ℤ) where
-  pub needed-usable : usable i ≡ true → improvementNeeded age year i ≡ value i
-  unfolding improvementNeeded
-  needed-usable h = rw h refl
-
-  pub needed-beyond : usable i ≡ false → improvementNeeded age year i ≡ refused (refusal 9 age year)
-  unfolding improvementNeeded
-  needed-beyond h = rw h refl
+use Rattle.improvement.specs.Improvement.{usable, improvementNeeded}
+use Rattle.improvement.proofs.Cases.{needed-usable, needed-beyond}
+use Rattle.projection.specs.Projection.{factorNeeded, factorNext, factorFrom, heldYear}
 
 -- ---- a year's factor: 9, then 10, then the value
 module _ (age year : ℕ) (i f : ℤ) where

@@ -15,8 +15,10 @@ use Rattle.basis.specs.Basis.{Basis}
 use Rattle.basis.specs.Outcome.{Outcome, value, refused, steps}
 use Rattle.basis.specs.declared.Refusal.{Refusal}
 use Rattle.basis.proofs.Outcome.{next, along, came}
-use Rattle.projection.specs.Projection.{improvementOf, factorNext, factorFrom, factorStep, heldYear, factorOf, rateFrom, rateOf}
-use Rattle.projection.proofs.Cases.{year-value, usable-abs}
+use Rattle.improvement.specs.Improvement.{improvementOf}
+use Rattle.projection.specs.Projection.{factorNext, factorFrom, factorStep, heldYear, factorOf, rateFrom, rateOf}
+use Rattle.projection.proofs.Cases.{year-value}
+use Rattle.improvement.proofs.Cases.{usable-abs}
 
 -- the factor after an improvement of at most U is a natural number
 next-natural : (f : ℕ) (i : ℤ) → natAbs i ≤ 500_000_000 → (n : ℕ) × (factorNext (pos f) i ≡ pos n)

@@ -1,30 +1,13 @@
--- Improvement, factor and rate (01, "The projection"), with refusals 9 and 10 in the order of the work.
+-- Factor and rate (01, "The projection"), with refusals 9 and 10 in the order of the work.
 use Prim.Native.Nat.{ℕ, _+_, _-_}
-use mathlib.Core.Bool.{Bool, cond}
-use lib.Dec.{ltb, leb}
-use lib.IntN.{ℤ, pos, natAbs, _+ℤ_, _-ℤ_, _*ℤ_}
+use mathlib.Core.Bool.{cond}
+use lib.Dec.{ltb}
+use lib.IntN.{ℤ, pos, _-ℤ_, _*ℤ_}
 use lib.Signed.{leZ}
 use Rattle.arithmetic.specs.Fraction.{whole, _/ᶠ_, round, lesserℤ, U}
 use Rattle.basis.specs.Outcome.{Outcome, value, refused, andThen, refusal, steps}
 use Rattle.basis.specs.Basis.{Basis}
-use Rattle.component.specs.Component.{componentOf}
-
--- ---- Improvement at an age in a year from F to 2130
--- the constant addition, if the year is after F
-unfoldable pub additionOf : Basis → ℕ → ℤ
-additionOf b year = cond (ltb (b .foundation) year) (b .addition) (pos 0)
-
--- the two components added, plus the constant addition; the birth year is the calendar year less the age
-unfoldable pub improvementOf : Basis → ℕ → ℕ → ℤ
-improvementOf b age year =
-    componentOf (b .byAge age) (year - b .foundation) +ℤ componentOf (b .byBirthYear (year - age)) (year - b .foundation) +ℤ additionOf b year
-
-abbrev pub usable : ℤ → Bool
-usable improvement = leb (natAbs improvement) 500_000_000
-
--- 9: an improvement needed for the answer is beyond ±500,000,000
-unfoldable pub improvementNeeded : ℕ → ℕ → ℤ → Outcome ℤ
-improvementNeeded age year improvement = cond (usable improvement) (value improvement) (refused (refusal 9 age year))
+use Rattle.improvement.specs.Improvement.{improvementOf, improvementNeeded}
 
 -- ---- Factor at an age
 -- round(last year's factor × (U − improvement) / U)

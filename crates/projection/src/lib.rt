@@ -1,4 +1,3 @@
 // The projection of mortality from a basis: improvements, reduction factors and mortality rates.
 pub mod factor;
-pub mod improvement;
 pub mod rate;

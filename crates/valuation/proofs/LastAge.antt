@@ -5,8 +5,9 @@ use lib.IntN.{pos}
 use Rattle.arithmetic.specs.Fraction.{U}
 use Rattle.basis.specs.Basis.{Basis}
 use Rattle.basis.specs.Outcome.{value, steps, sumOf}
-use Rattle.valuation.specs.Valuation.{survivorsOf, curtateOf, expectationOf, discountAfter, paymentAfter, annuityOf}
-use Rattle.valuation.specs.declared.Kind.{Kind}
+use Rattle.survivorship.specs.Survivorship.{survivorsOf}
+use Rattle.valuation.specs.Valuation.{curtateOf, expectationOf, discountAfter, paymentAfter, annuityOf}
+use Rattle.survivorship.specs.declared.Kind.{Kind}
 
 -- at age 150 there is no year to come, on any basis: half a unit, and one payment at once
 pub expectation-at-end : (b : Basis) (kind : Kind) (year : ℕ) → expectationOf b kind 150 year 0 ≡ value (pos (U / 2))

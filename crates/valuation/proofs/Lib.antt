@@ -1,4 +1,3 @@
-pub mod Survivors
 pub mod Lives
 pub mod Payments
 pub mod LastAge

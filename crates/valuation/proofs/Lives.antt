@@ -9,9 +9,10 @@ use Rattle.basis.specs.Basis.{Basis}
 use Rattle.basis.specs.Outcome.{Outcome, value, refused, andThen}
 use Rattle.basis.specs.declared.Refusal.{Refusal}
 use Rattle.basis.proofs.Outcome.{sum-none, sum-next, sum-refused}
-use Rattle.valuation.specs.Valuation.{yearOn, survivorsAfterYear, survivorsOf, curtateOf, expectationOf}
-use Rattle.valuation.specs.declared.Kind.{Kind}
-use Rattle.valuation.proofs.Survivors.{year-small, survivors-first, survivors-next}
+use Rattle.survivorship.specs.Survivorship.{yearOn, survivorsAfterYear, survivorsOf}
+use Rattle.valuation.specs.Valuation.{curtateOf, expectationOf}
+use Rattle.survivorship.specs.declared.Kind.{Kind}
+use Rattle.survivorship.proofs.Survivors.{year-small, survivors-first, survivors-next}
 
 -- the survivors after j years, and the sum so far
 pub record Living (b : Basis) (kind : Kind) (age year j s total : ℕ) : Type 0 where

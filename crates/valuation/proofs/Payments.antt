@@ -10,9 +10,10 @@ use Rattle.basis.specs.Basis.{Basis, accumulationOf}
 use Rattle.basis.specs.Outcome.{value, refused, sumOf}
 use Rattle.basis.specs.declared.Refusal.{Refusal}
 use Rattle.basis.proofs.Outcome.{sum-none, sum-next, sum-refused}
-use Rattle.valuation.specs.Valuation.{yearOn, survivorsAfterYear, survivorsOf, discountNext, discountAfter, payment, paymentAfter, annuityOf}
-use Rattle.valuation.specs.declared.Kind.{Kind}
-use Rattle.valuation.proofs.Survivors.{year-small, survivors-next}
+use Rattle.survivorship.specs.Survivorship.{yearOn, survivorsAfterYear, survivorsOf}
+use Rattle.valuation.specs.Valuation.{discountNext, discountAfter, payment, paymentAfter, annuityOf}
+use Rattle.survivorship.specs.declared.Kind.{Kind}
+use Rattle.survivorship.proofs.Survivors.{year-small, survivors-next}
 
 zero-left : (x : ℤ) → pos 0 +ℤ x ≡ x
 zero-left x = rw (parts x) (simp ring (⊖-eq _ _ _ _ (omega arith)))

@@ -1,34 +1,11 @@
--- Survivorship, expectation and annuity, each period and cohort (01, "The projection").
+-- Expectation and annuity, each period and cohort (01, "The projection").
 use Prim.Native.Nat.{ℕ, zero, suc, _+_, _-_, _/_}
-use lib.IntN.{ℤ, pos, _+ℤ_, _-ℤ_, _*ℤ_}
+use lib.IntN.{ℤ, pos, _+ℤ_, _*ℤ_}
 use Rattle.arithmetic.specs.Fraction.{_over_, whole, _/ᶠ_, round, U}
-use Rattle.basis.specs.Outcome.{Outcome, value, andThen, steps, sumOf}
+use Rattle.basis.specs.Outcome.{Outcome, value, andThen, sumOf}
 use Rattle.basis.specs.Basis.{Basis, accumulationOf}
-use Rattle.projection.specs.Projection.{rateOf}
-use Rattle.valuation.specs.declared.Kind.{Kind}
-use Rattle.valuation.specs.declared.Kind.the-variants.{Period, Cohort}
-
--- ---- Survivorship from an age
--- the cohort kind moves to the next age and year; the period kind moves the age only
-abbrev pub yearOn : Kind → ℕ → ℕ → ℕ
-yearOn Period year j = year
-yearOn Cohort year j = year + j
-
--- round(survivors × (U − rate) / U)
-abbrev pub survivorsNext : ℤ → ℤ → ℤ
-survivorsNext s q = round (whole (s *ℤ (pos U -ℤ q)) /ᶠ U)
-
--- the survivors of a year at an age
-unfoldable pub survivorsAfterYear : Basis → ℕ → ℕ → ℤ → Outcome ℤ
-survivorsAfterYear b age year s = andThen (rateOf b age year) (λ q. value (survivorsNext s q))
-
--- the survivors after j + 1 years from those after j
-abbrev pub survivorsStep : Basis → Kind → ℕ → ℕ → ℕ → ℤ → Outcome ℤ
-survivorsStep b kind age year j s = survivorsAfterYear b (age + j) (yearOn kind year j) s
-
--- U at first, then year by year
-unfoldable pub survivorsOf : Basis → Kind → ℕ → ℕ → ℕ → Outcome ℤ
-survivorsOf b kind age year n = steps (survivorsStep b kind age year) (pos U) n
+use Rattle.survivorship.specs.declared.Kind.{Kind}
+use Rattle.survivorship.specs.Survivorship.{survivorsOf}
 
 -- ---- Expectation
 -- the survivors after 1, 2, up to n years, added: the curtate expectation

@@ -4,10 +4,10 @@ ghost use Prim.Native.Nat.{_+_, _≤_};
 ghost use lib.IntN.{pos};
 ghost use Rattle.basis.specs.Basis.{basisOf, accumulationOf, Accepted};
 ghost use Rattle.basis.specs.Outcome.{meaning, value};
-ghost use Rattle.valuation.specs.Valuation.{survivorsOf, discountNext, discountAfter, payment, annuityOf};
-use crate::Kind;
-use crate::survivorship;
+ghost use Rattle.survivorship.specs.Survivorship.{survivorsOf};
+ghost use Rattle.valuation.specs.Valuation.{discountNext, discountAfter, payment, annuityOf};
 use basis::Answer;
+use survivorship::Kind;
 
 const UNIT: u64 = 1_000_000_000;
 

@@ -4,9 +4,8 @@ ghost use Prim.Native.Nat.{_+_, _≤_};
 ghost use Rattle.basis.specs.Basis.{basisOf, Accepted};
 ghost use Rattle.basis.specs.Outcome.{meaning};
 ghost use Rattle.valuation.specs.Valuation.{expectationOf};
-use crate::Kind;
-use crate::survivorship;
 use basis::Answer;
+use survivorship::Kind;
 
 const UNIT: u64 = 1_000_000_000;
 

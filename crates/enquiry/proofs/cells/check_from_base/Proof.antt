@@ -4,7 +4,7 @@ use Prim.Native.Nat.{ℕ}
 use borrow.Author.Needs.{needs}
 use Rattle.basis.proofs.Outcome.{first-passed, first-refused}
 use Rattle.run_check.proofs.Acceptance.{accepted}
-use Rattle.enquiry.specs.Enquiry.{cellCheck}
+use Rattle.question.specs.Question.{cellCheck}
 use Rattle.enquiry.proofs.cells.check_from_base.Statement.{statement}
 use Rattle.enquiry.proofs.cells.check_from_base.Tie as tie
 

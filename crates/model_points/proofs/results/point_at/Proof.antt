@@ -3,7 +3,7 @@ use mathlib.Core.Path.{_∙_, sym, ap}
 use borrow.Author.Needs.{needs}
 use Rattle.basis.proofs.Outcome.{checked-passed, checked-refused}
 use Rattle.model_points.specs.Points.{pointAnswerOf, pointOf}
-use Rattle.enquiry.proofs.Passed.{question-passed}
+use Rattle.question.proofs.Passed.{question-passed}
 use Rattle.model_points.proofs.results.point_at.Statement.{statement}
 use Rattle.model_points.proofs.results.point_at.Tie as tie
 

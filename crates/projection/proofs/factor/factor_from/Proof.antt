@@ -6,8 +6,10 @@ use mir.Syntax.{w64}
 use mir.Facts.{toZ-ofZ}
 use borrow.Author.Needs.{needs}
 use borrow.Author.Tests.{not-true, not-false}
-use Rattle.projection.specs.Projection.{usable, factorNext}
-use Rattle.projection.proofs.Cases.{beyond, above, valued, usable-abs}
+use Rattle.improvement.specs.Improvement.{usable}
+use Rattle.projection.specs.Projection.{factorNext}
+use Rattle.projection.proofs.Cases.{beyond, above, valued}
+use Rattle.improvement.proofs.Cases.{usable-abs}
 use Rattle.projection.proofs.factor.factor_from.Statement.{statement}
 use Rattle.projection.proofs.factor.factor_from.Tie as tie
 

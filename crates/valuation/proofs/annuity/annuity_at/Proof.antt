@@ -5,7 +5,7 @@ use borrow.Author.Needs.{needs}
 use Rattle.basis.specs.Basis.{basisOf}
 use Rattle.basis.specs.Outcome.{meaning}
 use Rattle.valuation.proofs.Payments.{refused-before}
-use Rattle.valuation.proofs.Survivors.{survivors-small}
+use Rattle.survivorship.proofs.Survivors.{survivors-small}
 use Rattle.valuation.proofs.annuity.annuity_at.Statement.{statement}
 use Rattle.valuation.proofs.annuity.annuity_at.Tie as tie
 

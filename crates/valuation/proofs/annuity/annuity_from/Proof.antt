@@ -8,7 +8,7 @@ use Rattle.basis.proofs.Accumulation.{accumulation-low, accumulation-high}
 use Rattle.basis.specs.Basis.{basisOf}
 use Rattle.basis.specs.Outcome.{refused, meaning}
 use Rattle.valuation.proofs.Payments.{Paying, paying-first, paying-next, paid-refused, paid-last}
-use Rattle.valuation.proofs.Survivors.{survivors-next, year-small, year-late}
+use Rattle.survivorship.proofs.Survivors.{survivors-next, year-small, year-late}
 use Rattle.valuation.proofs.annuity.annuity_from.Statement.{statement}
 use Rattle.valuation.proofs.annuity.annuity_from.Tie as tie
 

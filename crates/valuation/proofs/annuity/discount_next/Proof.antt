@@ -5,7 +5,7 @@ use native.Mathlib.Omega.{arith}
 use lib.IntN.{pos}
 use borrow.Author.Needs.{needs}
 use Rattle.arithmetic.specs.Fraction.{U}
-use Rattle.valuation.proofs.Survivors.{rounded-small}
+use Rattle.survivorship.proofs.Survivors.{rounded-small}
 use Rattle.valuation.proofs.annuity.discount_next.Statement.{statement}
 use Rattle.valuation.proofs.annuity.discount_next.Tie as tie
 

@@ -5,7 +5,7 @@ use native.Mathlib.Nat.{mul-le-mul}
 use native.Mathlib.Omega.{arith}
 use lib.IntN.{pos}
 use Rattle.arithmetic.specs.Fraction.{U}
-use Rattle.valuation.proofs.Survivors.{rounded-small}
+use Rattle.survivorship.proofs.Survivors.{rounded-small}
 use Rattle.valuation.proofs.annuity.payment.Statement.{statement}
 use Rattle.valuation.proofs.annuity.payment.Tie as tie
 

@@ -6,7 +6,7 @@ use borrow.Author.Needs.{needs}
 use Rattle.basis.specs.Basis.{basisOf}
 use Rattle.basis.specs.Outcome.{meaning}
 use Rattle.valuation.proofs.Lives.{Living, living-first, living-next, lived-refused, lived-last}
-use Rattle.valuation.proofs.Survivors.{year-small, year-late}
+use Rattle.survivorship.proofs.Survivors.{year-small, year-late}
 use Rattle.valuation.proofs.expectation.expectation_at.Statement.{statement}
 use Rattle.valuation.proofs.expectation.expectation_at.Tie as tie
 

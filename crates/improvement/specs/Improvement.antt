@@ -1,0 +1,25 @@
+-- Improvement (01, "The projection"), with refusal 9.
+use Prim.Native.Nat.{ℕ, _-_}
+use mathlib.Core.Bool.{Bool, cond}
+use lib.Dec.{ltb, leb}
+use lib.IntN.{ℤ, pos, natAbs, _+ℤ_}
+use Rattle.basis.specs.Outcome.{Outcome, value, refused, refusal}
+use Rattle.basis.specs.Basis.{Basis}
+use Rattle.component.specs.Component.{componentOf}
+
+-- ---- Improvement at an age in a year from F to 2130
+-- the constant addition, if the year is after F
+unfoldable pub additionOf : Basis → ℕ → ℤ
+additionOf b year = cond (ltb (b .foundation) year) (b .addition) (pos 0)
+
+-- the two components added, plus the constant addition; the birth year is the calendar year less the age
+unfoldable pub improvementOf : Basis → ℕ → ℕ → ℤ
+improvementOf b age year =
+    componentOf (b .byAge age) (year - b .foundation) +ℤ componentOf (b .byBirthYear (year - age)) (year - b .foundation) +ℤ additionOf b year
+
+abbrev pub usable : ℤ → Bool
+usable improvement = leb (natAbs improvement) 500_000_000
+
+-- 9: an improvement needed for the answer is beyond ±500,000,000
+unfoldable pub improvementNeeded : ℕ → ℕ → ℤ → Outcome ℤ
+improvementNeeded age year improvement = cond (usable improvement) (value improvement) (refused (refusal 9 age year))

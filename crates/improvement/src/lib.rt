@@ -1,0 +1,67 @@
+// The improvement at an age in a year: two components and the constant addition.
+ghost use mathlib.Core.Path.{_≡_};
+ghost use Prim.Native.Nat.{_≤_};
+ghost use lib.IntN.{_+ℤ_};
+ghost use Rattle.basis.specs.Basis.{basisOf, Accepted, ConvergenceLimits};
+ghost use Rattle.basis.specs.Outcome.{signedMeaning};
+ghost use Rattle.component.specs.Component.{componentOf};
+ghost use Rattle.improvement.specs.Improvement.{additionOf, improvementOf, improvementNeeded, usable};
+use basis::Convergence;
+use basis::Refusal;
+use basis::SignedAnswer;
+
+// The constant addition of a year.
+fn addition_in(run: &[u8], year: u32) -> i32
+    requires { ⌜ Accepted (now run) ⌝ }
+    ensures { λ r. ⌜ r ≡ additionOf (basisOf (now (run .entry))) year ⌝ }
+{
+    if basis::fields::foundation_year(run) < year {
+        basis::fields::constant_addition(run)
+    } else {
+        0
+    }
+}
+
+// The component by attained age, the component by birth year and an addition, a number of years after F.
+fn improvement_from(attained: Convergence, birth: Convergence, years: u32, addition: i32) -> i64
+    requires { ⌜ ConvergenceLimits attained × ConvergenceLimits birth ⌝ }
+    ensures { λ r. ⌜ r ≡ componentOf attained years +ℤ componentOf birth years +ℤ addition ⌝ }
+{
+    component::component(attained, years)
+        + component::component(birth, years)
+        + arithmetic::wide(addition)
+}
+
+// The improvement at an age, whose terms the caller has read, in a year from F to 2130.
+pub fn improvement_at(run: &[u8], terms: Convergence, age: u32, year: u32) -> i64
+    requires { ⌜ Accepted (now run) × (20 ≤ age) × (age ≤ 150) × (terms ≡ basisOf (now run) .byAge age) × (basisOf (now run) .foundation ≤ year) × (year ≤ 2130) ⌝ }
+    ensures { λ r. ⌜ r ≡ improvementOf (basisOf (now (run .entry))) age year ⌝ }
+{
+    let years = year - basis::fields::foundation_year(run);
+    let birth = basis::fields::birth_year_terms(run, year - age);
+    improvement_from(terms, birth, years, addition_in(run, year))
+}
+
+// Is an improvement within ±500,000,000?
+pub fn is_usable(improvement: i64) -> bool
+    ensures { λ r. ⌜ r ≡ usable improvement ⌝ }
+{
+    -500_000_000 <= improvement && improvement <= 500_000_000
+}
+
+// The improvement at an age in a year from F to 2130, with refusal 9.
+pub fn improvement_needed(run: &[u8], age: u32, year: u32) -> SignedAnswer
+    requires { ⌜ Accepted (now run) × (20 ≤ age) × (age ≤ 150) × (basisOf (now run) .foundation ≤ year) × (year ≤ 2130) ⌝ }
+    ensures { λ r. ⌜ signedMeaning r ≡ improvementNeeded age year (improvementOf (basisOf (now (run .entry))) age year) ⌝ }
+{
+    let improvement = improvement_at(run, basis::fields::age_terms(run, age), age, year);
+    if is_usable(improvement) {
+        SignedAnswer::Value(improvement)
+    } else {
+        SignedAnswer::Refused(Refusal {
+            number: 9,
+            first: age as u64,
+            second: year as u64,
+        })
+    }
+}

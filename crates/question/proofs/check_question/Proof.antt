@@ -1,0 +1,43 @@
+-- Each of the three checks is the definition's, and the first refusal of them decides.
+use mathlib.Core.Path.{_∙_, ap}
+use Prim.Native.Nat.{ℕ}
+use borrow.Author.Needs.{needs}
+use Rattle.question.specs.Question.{yearCheck, questionCheck}
+use Rattle.question.proofs.Passed.{first-same}
+use Rattle.question.proofs.check_question.Statement.{statement}
+use Rattle.question.proofs.check_question.Tie as tie
+
+base-year-requires : tie.Need-base-year-requires
+base-year-requires c κs = search needs
+
+check-year-requires : tie.Need-check-year-requires
+check-year-requires c κs = search needs
+
+check-age-requires : tie.Need-check-age-requires
+check-age-requires c κs = search needs
+
+check-deferment-requires : tie.Need-check-deferment-requires
+check-deferment-requires c κs = search needs
+
+first-of-requires : tie.Need-first-of-requires
+first-of-requires c κs = search needs
+
+first-of-requires-2 : tie.Need-first-of-requires-2
+first-of-requires-2 c κs = search needs
+
+returns : tie.Need-returns
+unfolding questionCheck
+returns c =
+    let inner = c .before in
+    let d = inner .before in
+    let a = d .before in
+    let y = a .before in
+    let b = y .before in
+    let x = b .before .before .args in
+    let year = y .check-year .ensures ∙ ap (λ (first : ℕ). yearCheck first (x .year)) (b .base-year .ensures) in
+    c .first-of2 .ensures ∙ first-same (a .check-age .ensures) (inner .first-of .ensures ∙ first-same (d .check-deferment .ensures) year)
+
+pub check-question-spec : {M : Type 1} → statement M
+check-question-spec =
+    tie.close
+    (tie.spec base-year-requires check-year-requires check-age-requires check-deferment-requires first-of-requires first-of-requires-2 returns)

@@ -1,0 +1,91 @@
+-- Survivorship year by year: what its loops need, and that survivors are a natural number of at most U; from the laws of `steps`.
+-- Assumes nothing.
+use mathlib.Core.Path.{_≡_, _∙_, ap, sym, refl}
+use Prim.Native.Nat.{ℕ, suc, _+_, _*_, _-_, _/_, _≤_, _<_}
+use native.Mathlib.Omega.{arith}
+use native.Mathlib.Nat.{mul-le-mul}
+use lib.IntN.{ℤ, pos, _-ℤ_, _*ℤ_}
+use Rattle.arithmetic.specs.Fraction.{U}
+use Rattle.arithmetic.specs.Round.{roundDiv}
+use Rattle.arithmetic.proofs.Difference.{ring, ⊖-eq}
+use Rattle.arithmetic.proofs.Rounding.{round-abs-le}
+use Rattle.basis.specs.Basis.{Basis}
+use Rattle.basis.specs.Outcome.{Outcome, value, refused}
+use Rattle.basis.specs.declared.Refusal.{Refusal}
+use Rattle.basis.proofs.Outcome.{none, next, persists, came, along}
+use Rattle.projection.specs.Projection.{rateOf}
+use Rattle.projection.proofs.Years.{rate-small}
+use Rattle.survivorship.specs.Survivorship.{yearOn, survivorsNext, survivorsAfterYear, survivorsStep, survivorsOf}
+use Rattle.survivorship.specs.declared.Kind.{Kind}
+use Rattle.survivorship.specs.declared.Kind.the-variants.{Period, Cohort}
+
+-- ---- the survivors after one year, in natural numbers
+-- U − q
+pub rest : (q : ℕ) → q ≤ U → pos U -ℤ pos q ≡ pos (U - q)
+rest q h = simp ring (⊖-eq _ _ _ _ (omega arith))
+
+pub next-is : (s q : ℕ) → q ≤ U → pos ((2 * (s * (U - q)) + U) / (2 * U)) ≡ survivorsNext (pos s) (pos q)
+next-is s q h = ap (λ (z : ℤ). roundDiv (pos s *ℤ z) U) (sym (rest q h))
+
+next-at : {a q : ℤ} (s n : ℕ) → a ≡ pos s → q ≡ pos n → n ≤ U → survivorsNext a q ≡ pos ((2 * (s * (U - n)) + U) / (2 * U))
+next-at s n e f h = rw (e, f) (sym (next-is s n h))
+
+-- a rounded fraction of at most U is at most U
+pub rounded-small : (a b r : ℕ) → 0 < b → a ≤ U * b → r ≡ (2 * a + b) / (2 * b) → r ≤ U
+rounded-small a b r h k e = rw e (round-abs-le (pos a) b U h k)
+
+pub next-small : (s q r : ℕ) → s ≤ U → r ≡ (2 * (s * (U - q)) + U) / (2 * U) → r ≤ U
+next-small s q r h e = rounded-small (s * (U - q)) U r (omega arith) (mul-le-mul {n₂ = U} {m₂ = U} h (omega arith)) e
+
+-- ---- the same of an age and a year
+module _ (b : Basis) (age year : ℕ) where
+  pub year-value : (s q : ℤ) → rateOf b age year ≡ value q → survivorsAfterYear b age year s ≡ value (survivorsNext s q)
+  unfolding survivorsAfterYear
+  year-value s q h = rw h refl
+
+  pub year-refused : (s : ℤ) (r : Refusal) → rateOf b age year ≡ refused r → survivorsAfterYear b age year s ≡ refused r
+  unfolding survivorsAfterYear
+  year-refused s r h = rw h refl
+
+  pub rate-at-most : (q : ℕ) → rateOf b age year ≡ value (pos q) → q ≤ U
+  rate-at-most q h = let n = rate-small b age year (pos q) h in let e : q ≡ n .0 = cc in omega (arith, n .2)
+
+  year-natural : (a g : ℤ) (s : ℕ) → a ≡ pos s → s ≤ U → survivorsAfterYear b age year a ≡ value g → (m : ℕ) × (g ≡ pos m) × (m ≤ U)
+  unfolding survivorsAfterYear
+  year-natural a g s e l h =
+      let w = came (rateOf b age year) (λ q. value (survivorsNext a q)) g h in
+      let r = rate-small b age year (w .0) (w .1) in
+      let f : g ≡ survivorsNext a (w .0) = cc in
+      ((2 * (s * (U - r .0)) + U) / (2 * U), f ∙ next-at s (r .0) e (r .1) (r .2), next-small s (r .0) _ l refl)
+
+  pub year-small : (s r : ℕ) → s ≤ U → survivorsAfterYear b age year (pos s) ≡ value (pos r) → r ≤ U
+  year-small s r l h = let m = year-natural (pos s) (pos r) s refl l h in let e : r ≡ m .0 = cc in omega (arith, m .2)
+
+-- the year of a rate is never before the enquiry's
+pub year-late : (kind : Kind) (year j : ℕ) → year ≤ yearOn kind year j
+year-late Period year j = omega arith
+year-late Cohort year j = omega arith
+
+-- ---- survivorship: at first, one year more, after a refusal, and its size
+module _ (b : Basis) (kind : Kind) (age year : ℕ) where
+  pub survivors-first : survivorsOf b kind age year 0 ≡ value (pos U)
+  unfolding survivorsOf
+  survivors-first = none (survivorsStep b kind age year) (pos U)
+
+  pub survivors-next : (j : ℕ) (s : ℤ) (o : Outcome ℤ) {at : ℕ} → at ≡ yearOn kind year j → survivorsOf b kind age year j ≡ value s → o ≡ survivorsAfterYear b (age + j) at s →
+      survivorsOf b kind age year (suc j) ≡ o
+  unfolding survivorsOf
+  survivors-next j s o e h g = next (survivorsStep b kind age year) (pos U) j s h ∙ sym (g ∙ ap (λ (y : ℕ). survivorsAfterYear b (age + j) y s) e)
+
+  pub survivors-refused : (j n : ℕ) (r : Refusal) → j ≤ n → survivorsOf b kind age year j ≡ refused r → survivorsOf b kind age year n ≡ refused r
+  unfolding survivorsOf
+  survivors-refused j n r l h = persists (survivorsStep b kind age year) (pos U) j n r l h
+
+  pub survivors-natural : (n : ℕ) (s : ℤ) → survivorsOf b kind age year n ≡ value s → (m : ℕ) × (s ≡ pos m) × (m ≤ U)
+  unfolding survivorsOf
+  survivors-natural n s h =
+      along (survivorsStep b kind age year) (pos U) (λ j a. (m : ℕ) × (a ≡ pos m) × (m ≤ U)) n (U, refl, omega arith)
+      (λ j a g l p q. year-natural b (age + j) (yearOn kind year j) a g (p .0) (p .1) (p .2) q) s h
+
+  pub survivors-small : (n s : ℕ) → survivorsOf b kind age year n ≡ value (pos s) → s ≤ U
+  survivors-small n s h = let m = survivors-natural n (pos s) h in let e : s ≡ m .0 = cc in omega (arith, m .2)

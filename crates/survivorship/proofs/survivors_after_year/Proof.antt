@@ -1,0 +1,35 @@
+-- A value or a refusal of the rate is one of the year's survivors: the two cases of `andThen`.
+use mathlib.Core.Path.{_∙_, ap, sym}
+use lib.IntN.{pos}
+use borrow.Author.Needs.{needs}
+use Rattle.basis.specs.Basis.{basisOf}
+use Rattle.basis.specs.Outcome.{meaning, value}
+use Rattle.survivorship.proofs.Survivors.{rate-at-most, year-value, year-refused}
+use Rattle.survivorship.proofs.survivors_after_year.Statement.{statement}
+use Rattle.survivorship.proofs.survivors_after_year.Tie as tie
+
+rate-at-requires : tie.Need-rate-at-requires
+rate-at-requires c κs = search needs
+
+enum-known-q : tie.Need-enum-known-q
+enum-known-q c = search needs
+
+survivors-next-requires : tie.Need-survivors-next-requires
+survivors-next-requires c κs = let s = c .before .before .before .before .before in
+    (s .pre .4, rate-at-most (basisOf (s .args .run .now)) (s .args .age) (s .args .year) _ (sym (c .before .before .before .rate-at .ensures) ∙ ap meaning (c .before .q .given .1)))
+
+enum-known-r : tie.Need-enum-known-r
+enum-known-r c = search needs
+
+returns : tie.Need-returns
+returns c = let d = c .before in let s = d .before .before .before .before .before in
+    ap value (c .survivors-next .ensures .0) ∙ sym (year-value (basisOf (s .args .run .now)) (s .args .age) (s .args .year) (pos (s .args .s)) (pos (d .before .q .given .0 .0)) (sym (d .before .before .before .rate-at .ensures) ∙ ap meaning (d .before .q .given .1)))
+
+returns-2 : tie.Need-returns-2
+returns-2 c = let s = c .before .before .before .before .before in
+    sym (year-refused (basisOf (s .args .run .now)) (s .args .age) (s .args .year) (pos (s .args .s)) _ (sym (c .before .before .before .rate-at .ensures) ∙ ap meaning (c .before .r .given .1)))
+
+pub survivors-after-year-spec : {M : Type 1} → statement M
+survivors-after-year-spec =
+    tie.close
+    (tie.spec rate-at-requires enum-known-q survivors-next-requires enum-known-r returns returns-2)

@@ -1,0 +1,82 @@
+-- After j turns of the loop the survivors are those of the definition after j years; a refusal stands in every later year.
+use mathlib.Core.Path.{_≡_, _∙_, ap, sym}
+use Prim.Native.Nat.{suc, _+_, _-_, _≤_}
+use native.Mathlib.Numerals.{add-one}
+use native.Mathlib.Omega.{arith}
+use lib.IntN.{pos}
+use borrow.Author.Needs.{needs}
+use Rattle.arithmetic.specs.Fraction.{U}
+use Rattle.basis.specs.Basis.{basisOf}
+use Rattle.basis.specs.Outcome.{value, refused, meaning}
+use Rattle.survivorship.specs.Survivorship.{survivorsOf}
+use Rattle.survivorship.proofs.Survivors.{survivors-first, survivors-next, survivors-refused, year-small, year-late}
+use Rattle.survivorship.proofs.survivors_at.Statement.{statement}
+use Rattle.survivorship.proofs.survivors_at.Tie as tie
+
+abbrev Inv-loop : tie.InvT-loop
+Inv-loop run kind age year n s₀ j₀ s j = (j ≤ n) × (s ≤ U) × (survivorsOf (basisOf run) kind age year j ≡ value (pos s))
+
+abbrev μ-loop : tie.MeasureT-loop
+μ-loop run kind age year n s₀ j₀ s j = n - j
+
+loop-holds : tie.Need-loop-holds Inv-loop μ-loop
+loop-holds c = let a = c .before .args in (omega arith, omega arith, survivors-first (basisOf (a .run .now)) (a .kind) (a .age) (a .year))
+
+add-survivors-after-year : tie.Need-add-survivors-after-year Inv-loop μ-loop
+add-survivors-after-year c = search needs
+
+year-on-requires : tie.Need-year-on-requires Inv-loop μ-loop
+year-on-requires c κs = search needs
+
+survivors-after-year-requires : tie.Need-survivors-after-year-requires Inv-loop μ-loop
+survivors-after-year-requires c κs = let l = c .before .before in let s = l .before .before in
+    (s .pre .0, omega arith, omega arith, omega (arith, s .pre .3, c .year-on .ensures, year-late (s .args .kind) (s .args .year) (l .loop .j)), l .loop .inv .1)
+
+enum-known-v : tie.Need-enum-known-v Inv-loop μ-loop
+enum-known-v c = search needs
+
+enum-known-r : tie.Need-enum-known-r Inv-loop μ-loop
+enum-known-r c = search needs
+
+returns : tie.Need-returns Inv-loop μ-loop
+returns c = let y = c .before .before .before in let l = y .before .before .before in let s = l .before .before in let a = s .args in
+    let b = basisOf (a .run .now) in
+    let r = c .before .r .given .0 .0 in
+    let e = survivors-next b (a .kind) (a .age) (a .year) (l .loop .j) (pos (l .loop .s)) (refused r) (y .before .year-on .ensures) (l .loop .inv .2) (sym (ap meaning (c .before .r .given .1)) ∙ y .survivors-after-year .ensures) in
+    sym (survivors-refused b (a .kind) (a .age) (a .year) (suc (l .loop .j)) (a .n) r (omega arith) e)
+
+add-j : tie.Need-add-j Inv-loop μ-loop
+add-j c = search needs
+
+loop-less : tie.Need-loop-less Inv-loop μ-loop
+loop-less c = search needs
+
+loop-again : tie.Need-loop-again Inv-loop μ-loop
+loop-again c = let y = c .before .before .before in let l = y .before .before .before in let s = l .before .before in let a = s .args in
+    let b = basisOf (a .run .now) in
+    let v = c .before .v .given .0 .0 in
+    let g = sym (ap meaning (c .before .v .given .1)) ∙ y .survivors-after-year .ensures in
+    let small = year-small b (a .age + l .loop .j) (y .before .year-on .result) (l .loop .s) v (l .loop .inv .1) (sym g) in
+    (omega arith, small, rw add-one (survivors-next b (a .kind) (a .age) (a .year) (l .loop .j) (pos (l .loop .s)) (value (pos v)) (y .before .year-on .ensures) (l .loop .inv .2) g))
+
+returns-2 : tie.Need-returns-2 Inv-loop μ-loop
+returns-2 c = let l = c .before in let e : l .loop .j ≡ l .before .before .args .n = omega arith in
+    sym (rw e at (l .loop .inv .2))
+
+pub survivors-at-spec : {M : Type 1} → statement M
+survivors-at-spec =
+    tie.close
+    (tie.spec
+    Inv-loop
+    μ-loop
+    loop-holds
+    add-survivors-after-year
+    year-on-requires
+    survivors-after-year-requires
+    enum-known-v
+    enum-known-r
+    returns
+    add-j
+    loop-less
+    loop-again
+    returns-2)

@@ -1,0 +1,30 @@
+-- The rate is at most U, so the difference and the product fit, and the unsigned rounding is the definition's.
+use mathlib.Core.Path.{_∙_, ap}
+use Prim.Native.Nat.{_*_, _-_, _≤_}
+use native.Mathlib.Nat.{mul-le-mul}
+use native.Mathlib.Omega.{arith}
+use lib.IntN.{pos}
+use borrow.Author.Needs.{needs}
+use Rattle.survivorship.proofs.Survivors.{next-is, next-small}
+use Rattle.survivorship.proofs.survivors_next.Statement.{statement}
+use Rattle.survivorship.proofs.survivors_next.Tie as tie
+
+room : (c : tie.Start) → c .args .s * (1_000_000_000 - c .args .q) ≤ 1_000_000_000_000_000_000
+room c = mul-le-mul {n₂ = 1_000_000_000} {m₂ = 1_000_000_000} (c .pre .0) (omega arith)
+
+sub-round-div-unsigned : tie.Need-sub-round-div-unsigned
+sub-round-div-unsigned c = search needs
+
+mul-round-div-unsigned : tie.Need-mul-round-div-unsigned
+mul-round-div-unsigned c = record { fits = omega (arith, room c) }
+
+round-div-unsigned-requires : tie.Need-round-div-unsigned-requires
+round-div-unsigned-requires c κs = omega (arith, room c)
+
+returns : tie.Need-returns
+returns c = let a = c .before .args in
+    (ap pos (c .round-div-unsigned .ensures) ∙ next-is (a .s) (a .q) (c .before .pre .1), next-small (a .s) (a .q) (c .round-div-unsigned .result) (c .before .pre .0) (c .round-div-unsigned .ensures))
+
+pub survivors-next-spec : {M : Type 1} → statement M
+survivors-next-spec =
+    tie.close (tie.spec sub-round-div-unsigned mul-round-div-unsigned round-div-unsigned-requires returns)

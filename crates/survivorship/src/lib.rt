@@ -1,0 +1,65 @@
+// Survivorship: of U lives at an age, those who are left after some years.
+ghost use mathlib.Core.Path.{_≡_};
+ghost use Prim.Native.Nat.{_+_, _≤_};
+ghost use lib.IntN.{pos};
+ghost use Rattle.basis.specs.Basis.{basisOf, Accepted};
+ghost use Rattle.basis.specs.Outcome.{meaning};
+ghost use Rattle.survivorship.specs.Survivorship.{yearOn, survivorsNext, survivorsAfterYear, survivorsOf};
+use basis::Answer;
+
+// How a life passes through the rates: the period kind stays in one year, the cohort kind moves with the age.
+pub enum Kind {
+    Period,
+    Cohort,
+}
+
+const UNIT: u64 = 1_000_000_000;
+
+// The year of the rate j years on.
+pub fn year_on(kind: Kind, year: u32, j: u32) -> u32
+    requires { ⌜ (year ≤ 2260) × (j ≤ 130) ⌝ }
+    ensures { λ r. ⌜ r ≡ yearOn kind year j ⌝ }
+{
+    match kind {
+        Kind::Period => year,
+        Kind::Cohort => year + j,
+    }
+}
+
+// The survivors after a year from those before it and the rate.
+fn survivors_next(s: u64, q: u64) -> u64
+    requires { ⌜ (s ≤ 1_000_000_000) × (q ≤ 1_000_000_000) ⌝ }
+    ensures { λ r. ⌜ (pos r ≡ survivorsNext (pos s) (pos q)) × (r ≤ 1_000_000_000) ⌝ }
+{
+    arithmetic::round_div_unsigned(s * (UNIT - q), UNIT)
+}
+
+// The same with the rate of an age and a year from B on, or its refusal.
+pub fn survivors_after_year(run: &[u8], age: u32, year: u32, s: u64) -> Answer
+    requires { ⌜ Accepted (now run) × (20 ≤ age) × (age ≤ 150) × (basisOf (now run) .base ≤ year) × (s ≤ 1_000_000_000) ⌝ }
+    ensures { λ r. ⌜ meaning r ≡ survivorsAfterYear (basisOf (now (run .entry))) age year (pos s) ⌝ }
+{
+    match projection::rate::rate_at(run, age, year) {
+        Answer::Value(q) => Answer::Value(survivors_next(s, q)),
+        Answer::Refused(r) => Answer::Refused(r),
+    }
+}
+
+// The survivors after n years.
+pub fn survivors_at(run: &[u8], kind: Kind, age: u32, year: u32, n: u32) -> Answer
+    requires { ⌜ Accepted (now run) × (20 ≤ age) × (age + n ≤ 150) × (basisOf (now run) .base ≤ year) × (year ≤ 2130) ⌝ }
+    ensures { λ r. ⌜ meaning r ≡ survivorsOf (basisOf (now (run .entry))) kind age year n ⌝ }
+{
+    let mut s: u64 = UNIT;
+    let mut j: u32 = 0;
+    while j < n {
+        match survivors_after_year(run, age + j, year_on(kind, year, j), s) {
+            Answer::Value(v) => {
+                s = v;
+            }
+            Answer::Refused(r) => return Answer::Refused(r),
+        }
+        j += 1;
+    }
+    Answer::Value(s)
+}
