@@ -1,20 +1,20 @@
 // Sets of model points: the small set by value, the grid in place.
 ghost use mathlib.Core.Path.{_≡_};
 ghost use lib.ListN.{length};
-ghost use Rattle.model_points.specs.Points.{smallSetOf};
+ghost use Rattle.small_set.specs.SmallSet.{smallSetOf};
 ghost use Rattle.grid.specs.Grid.{gridCheck, gridOf};
 ghost use Rattle.engine.specs.Enquiry.{refusalOf};
 use crate::answers;
 use basis::Refusal;
-use model_points::Point;
-use model_points::Questions;
-use model_points::SmallSet;
+use grid_record::Point;
+use small_set::Questions;
+use small_set::SmallSet;
 
 #[no_mangle]
 pub extern "C" fn parvusek_small_set(run: &[u8], questions: Questions) -> SmallSet
     ensures { λ r. ⌜ r ≡ smallSetOf (now (run .entry)) questions ⌝ }
 {
-    model_points::small_set::small_set(run, questions)
+    small_set::small_set(run, questions)
 }
 
 #[no_mangle]

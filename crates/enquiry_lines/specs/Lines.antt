@@ -5,7 +5,7 @@ use mathlib.Core.List.{List, [], _∷_, _++_}
 use lib.Dec.{eqb}
 use Rattle.basis.specs.Basis.{Basis}
 use Rattle.basis.specs.Outcome.{refusal}
-use Rattle.model_points.specs.Points.{pointOf}
+use Rattle.model_points.specs.Point.{pointOf}
 use Rattle.enquiry_text.specs.declared.Line.{Line}
 use Rattle.enquiry_text.specs.declared.Line.the-variants.{Enquiry, Malformed}
 use Rattle.enquiry_text.specs.Line.{glue, lineOf}

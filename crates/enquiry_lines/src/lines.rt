@@ -14,7 +14,6 @@ use basis::Refusal;
 use enquiry_text::Line;
 use enquiry_text::parse;
 use enquiry_text::reply;
-use model_points::results;
 
 // The reply to a line by its number from 1.
 fn put_line(run: &[u8], out: &mut [u8], at: usize, number: u64, text: &[u8]) -> usize
@@ -25,7 +24,7 @@ fn put_line(run: &[u8], out: &mut [u8], at: usize, number: u64, text: &[u8]) -> 
 {
     match parse::parse_line(text) {
         Line::Enquiry(q) => {
-            let a = results::point_at(run, q);
+            let a = model_points::point_at(run, q);
             reply::put_reply(out, at, q, a)
         }
         Line::Malformed => {

@@ -13,9 +13,10 @@ use Rattle.basis.specs.Outcome.{refusal}
 use Rattle.run_check.specs.Run.{runCheck}
 use Rattle.run_check.proofs.Acceptance.{accepted}
 use Rattle.basis.proofs.Outcome.{both-passed, unless-passed}
-use Rattle.model_points.specs.declared.Point.{Point}
-use Rattle.model_points.specs.Points.{answeredOf}
-use Rattle.grid.specs.Grid.{countCheck, gridCheck, recordsOf, answers, gridOf}
+use Rattle.grid_record.specs.declared.Point.{Point}
+use Rattle.grid_record.specs.Record.{answeredOf}
+use Rattle.lent.specs.Lent.{countCheck}
+use Rattle.grid.specs.Grid.{gridCheck, recordsOf, answers, gridOf}
 
 -- ---- the list with some records answered
 module _ (b : Basis) where
@@ -49,14 +50,14 @@ passes (Refused r) i h = absurd (not-suc-le-zero h)
 module _ (run : List ℕ) (count : ℕ) where
   -- no more records are answered than there are
   pub records-fit : recordsOf (gridCheck run count) ≤ count
-  unfolding gridCheck
+  unfolding gridCheck countCheck
   records-fit = by (gridCheck run count) refl
     where
       by : (check : Check) → gridCheck run count ≡ check → recordsOf check ≤ count
-      by Passed h = leb-true 119 count (unless-passed (leb 119 count) (refusal 11 119 0) (both-passed (countCheck count) (runCheck run) h .0))
+      by Passed h = leb-true 119 count (unless-passed (leb 119 count) (refusal 11 119 0) (both-passed (countCheck 119 count) (runCheck run) h .0))
       by (Refused r) h = zero-le
 
   -- and the run is accepted
   pub turn-accepted : (i : ℕ) → i < recordsOf (gridCheck run count) → Accepted run
   unfolding gridCheck
-  turn-accepted i h = accepted run (both-passed (countCheck count) (runCheck run) (passes (gridCheck run count) i h) .1)
+  turn-accepted i h = accepted run (both-passed (countCheck 119 count) (runCheck run) (passes (gridCheck run count) i h) .1)

@@ -1,23 +1,20 @@
 -- The grid (01, "a lent list of 119 point records whose results are filled in place").
 use Prim.Native.Nat.{ℕ, zero, suc}
 use mathlib.Core.List.{List, [], _∷_}
-use lib.Dec.{leb}
 use lib.ListN.{length}
 use Rattle.basis.specs.declared.Check.{Check}
 use Rattle.basis.specs.declared.Check.the-variants.{Passed, Refused}
 use Rattle.basis.specs.Basis.{Basis, basisOf}
-use Rattle.basis.specs.Outcome.{refusal, unless, firstOf}
+use Rattle.basis.specs.Outcome.{firstOf}
 use Rattle.run_check.specs.Run.{runCheck}
-use Rattle.model_points.specs.declared.Point.{Point}
-use Rattle.model_points.specs.Points.{answeredOf}
+use Rattle.lent.specs.Lent.{countCheck}
+use Rattle.grid_record.specs.declared.Point.{Point}
+use Rattle.grid_record.specs.Record.{answeredOf}
 use Rattle.grid.specs.declared.GridStart.{GridStart}
 
 -- a list shorter than 119 is refused as 11 with 119 for the bytes, before the basis is looked at
-abbrev pub countCheck : ℕ → Check
-countCheck count = unless (leb 119 count) (refusal 11 119 0)
-
 unfoldable pub gridCheck : List ℕ → ℕ → Check
-gridCheck run count = firstOf (countCheck count) (runCheck run)
+gridCheck run count = firstOf (countCheck 119 count) (runCheck run)
 
 -- how many records are answered: 119, and none of a refused grid
 abbrev pub recordsOf : Check → ℕ

@@ -1,11 +1,9 @@
-// The grid (the paper's word): a lent list of 119 point records whose results are filled in place.
+// The grid: a lent list of 119 point records whose results are filled in place.
 ghost use mathlib.Core.Path.{_≡_};
 ghost use lib.ListN.{length};
 ghost use Rattle.grid.specs.Grid.{gridCheck, gridStart, gridOf};
 use basis::Check;
-use basis::Refusal;
-use model_points::Point;
-use model_points::grid_record;
+use grid_record::Point;
 
 // What the grid's checks let it do: their answer, and how many records are answered.
 pub struct GridStart {
@@ -17,14 +15,9 @@ pub struct GridStart {
 fn check_grid(run: &[u8], count: usize) -> Check
     ensures { λ r. ⌜ r ≡ gridCheck (now (run .entry)) count ⌝ }
 {
-    if 119 <= count {
-        run_check::check_run(run)
-    } else {
-        Check::Refused(Refusal {
-            number: 11,
-            first: 119,
-            second: 0,
-        })
+    match lent::check_room(119, count) {
+        Check::Passed => run_check::check_run(run),
+        Check::Refused(r) => Check::Refused(r),
     }
 }
 

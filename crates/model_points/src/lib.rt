@@ -1,9 +1,13 @@
-// Model points: a question about one life and its four results, the small set of six, and a record of the grid.
-pub mod grid_record;
-pub mod results;
-pub mod small_set;
-
+// A model point: a question about one life, and its four results on an accepted data run.
+ghost use mathlib.Core.Path.{_≡_};
+ghost use Prim.Native.Nat.{_+_, _≤_};
+ghost use Rattle.basis.specs.Basis.{basisOf, Accepted};
+ghost use Rattle.basis.specs.Outcome.{meaning, refused};
+ghost use Rattle.model_points.specs.Point.{fourOf, resultsOf, pointAnswerOf, pointOf};
+use basis::Answer;
+use basis::Check;
 use basis::Refusal;
+use survivorship::Kind;
 
 // A question: an age, a deferment and a year, whatever they hold.
 #[repr(C)]
@@ -21,27 +25,60 @@ pub struct PointAnswer {
     pub refusal: Refusal,
 }
 
-// The six questions of the small set.
-#[repr(C)]
-pub struct Questions {
-    pub points: [Question; 6],
+fn refused_point(refusal: Refusal) -> PointAnswer
+    ensures { λ r. ⌜ r ≡ pointAnswerOf (refused refusal) ⌝ }
+{
+    PointAnswer {
+        results: [0; 4],
+        refusal,
+    }
 }
 
-// The small set: six answers, and the refusal of the whole.
-#[repr(C)]
-pub struct SmallSet {
-    pub refusal: Refusal,
-    pub points: [PointAnswer; 6],
+// The four results in their order: the first refusal of the four decides.
+fn four(first: Answer, second: Answer, third: Answer, fourth: Answer) -> PointAnswer
+    ensures { λ r. ⌜ r ≡ pointAnswerOf (fourOf (meaning first) (meaning second) (meaning third) (meaning fourth)) ⌝ }
+{
+    match first {
+        Answer::Refused(r) => refused_point(r),
+        Answer::Value(i) => match second {
+            Answer::Refused(r) => refused_point(r),
+            Answer::Value(j) => match third {
+                Answer::Refused(r) => refused_point(r),
+                Answer::Value(k) => match fourth {
+                    Answer::Refused(r) => refused_point(r),
+                    Answer::Value(l) => PointAnswer {
+                        results: [i, j, k, l],
+                        refusal: Refusal {
+                            number: 0,
+                            first: 0,
+                            second: 0,
+                        },
+                    },
+                },
+            },
+        },
+    }
 }
 
-// A record of the grid: a question and its answer in 64 bytes, the refusal's places last.
-#[repr(C)]
-pub struct Point {
-    pub age: u32,
-    pub deferment: u32,
-    pub year: u32,
-    pub refusal: u32,
-    pub results: [u64; 4],
-    pub first: u64,
-    pub second: u64,
+// The results of a question that has been checked.
+fn results_at(run: &[u8], age: u32, deferment: u32, year: u32) -> PointAnswer
+    requires { ⌜ Accepted (now run) × (20 ≤ age) × (age + deferment ≤ 150) × (basisOf (now run) .base ≤ year) × (year ≤ 2130) ⌝ }
+    ensures { λ r. ⌜ r ≡ pointAnswerOf (resultsOf (basisOf (now (run .entry))) age deferment year) ⌝ }
+{
+    four(
+        valuation::expectation::expectation_at(run, Kind::Period, age, year, deferment),
+        valuation::expectation::expectation_at(run, Kind::Cohort, age, year, deferment),
+        valuation::annuity::annuity_at(run, Kind::Period, age, year, deferment),
+        valuation::annuity::annuity_at(run, Kind::Cohort, age, year, deferment),
+    )
+}
+
+pub fn point_at(run: &[u8], q: Question) -> PointAnswer
+    requires { ⌜ Accepted (now run) ⌝ }
+    ensures { λ r. ⌜ r ≡ pointOf (basisOf (now (run .entry))) q ⌝ }
+{
+    match question::check_question(run, q.age, q.deferment, q.year) {
+        Check::Passed => results_at(run, q.age, q.deferment, q.year),
+        Check::Refused(r) => refused_point(r),
+    }
 }

@@ -1,21 +1,32 @@
--- The count decides first, then the run's check.
-use mathlib.Core.Path.{refl}
+-- The room decides first, then the run's check.
+use mathlib.Core.Path.{_∙_, sym}
 use borrow.Author.Needs.{needs}
-use borrow.Author.Tests.{le-leb, lt-leb}
+use Rattle.basis.proofs.Outcome.{first-passed, first-refused}
 use Rattle.grid.specs.Grid.{gridCheck}
 use Rattle.grid.proofs.check_grid.Statement.{statement}
 use Rattle.grid.proofs.check_grid.Tie as tie
 
+check-room-requires : tie.Need-check-room-requires
+check-room-requires c κs = search needs
+
+enum-told : tie.Need-enum-told
+enum-told c = search needs
+
 check-run-requires : tie.Need-check-run-requires
 check-run-requires c κs = search needs
 
+enum-known-r : tie.Need-enum-known-r
+enum-known-r c = search needs
+
 returns : tie.Need-returns
 unfolding gridCheck
-returns c = rw (le-leb _ _ (c .before .if1 .taken)) (c .check-run .ensures)
+returns c =
+    let told = c .before in
+    c .check-run .ensures ∙ sym (first-passed _ _ (sym (told .before .before .check-room .ensures) ∙ told .enum-told .given .1))
 
 returns-2 : tie.Need-returns-2
 unfolding gridCheck
-returns-2 c = rw (lt-leb _ _ (c .if1 .left)) refl
+returns-2 c = sym (first-refused _ _ _ (sym (c .before .before .before .check-room .ensures) ∙ c .before .r .given .1))
 
 pub check-grid-spec : {M : Type 1} → statement M
-check-grid-spec = tie.close (tie.spec check-run-requires returns returns-2)
+check-grid-spec = tie.close (tie.spec check-room-requires enum-told check-run-requires enum-known-r returns returns-2)

@@ -55,13 +55,13 @@ use denote.Triple.Clauses.{ensured, lasts}
 use Rattle.arithmetic.proofs.Walk.{tests}
 use Rattle.basis.specs.declared.Check.{Check}
 use Rattle.basis.specs.Basis.{basisOf, Accepted}
-use Rattle.model_points.specs.declared.Point.{Point}
-use Rattle.model_points.specs.Points.{answeredOf}
+use Rattle.grid_record.specs.declared.Point.{Point}
+use Rattle.grid_record.specs.Record.{answeredOf}
 use Rattle.grid.specs.declared.GridStart.{GridStart}
 use Rattle.grid.specs.Grid.{gridCheck, recordsOf, gridStart, answers, gridOf}
 use Rattle.grid.proofs.Filled.{answers-none, answers-length, answers-set, records-fit, turn-accepted, grid-is}
-use Rattle.model_points.proofs.Point as P
-use Rattle.model_points.proofs.Point.Laws as P′
+use Rattle.grid_record.proofs.Point as P
+use Rattle.grid_record.proofs.Point.Laws as P′
 use Rattle.basis.proofs.Check as F
 use Rattle.basis.proofs.Check.Laws as F′
 use Rattle.grid.proofs.GridStart as G
@@ -70,10 +70,10 @@ use Rattle.grid.proofs.start_grid as start
 use Rattle.grid.proofs.start_grid.Symbol as start-def
 use Rattle.grid.proofs.start_grid.Symbol.{name as #grid·start-grid}
 use Rattle.grid.proofs.start_grid.Met as start-thm
-use Rattle.model_points.proofs.grid_record.answered as answered
-use Rattle.model_points.proofs.grid_record.answered.Symbol as answered-def
-use Rattle.model_points.proofs.grid_record.answered.Symbol.{name as #model-points·grid-record·answered}
-use Rattle.model_points.proofs.grid_record.answered.Met as answered-thm
+use Rattle.grid_record.proofs.answered as answered
+use Rattle.grid_record.proofs.answered.Symbol as answered-def
+use Rattle.grid_record.proofs.answered.Symbol.{name as #grid-record·answered}
+use Rattle.grid_record.proofs.answered.Met as answered-thm
 use Rattle.grid.proofs.fill.Key.{name as #grid·fill}
 use Rattle.grid.proofs.fill as fill
 use Rattle.grid.proofs.fill.Statement as stated
@@ -220,7 +220,7 @@ module _ {M : Type 1} (𝓤 : URA M) (H : Heap 𝓤) (A : Atoms 𝓤) (W : Given
         ∷ ‵ (fat fullShare list-ty l₂ 0 u) ∷ ‵ (fdies list-ty l₂) ∷ ‵ (fat fullShare run-ty l₁ 0 v) ∷ ‵ (fdies run-ty l₁) ∷ ‵ (froom F′.mir l₀ 0) ∷ ‵ (fdies F′.mir l₀) ∷ []
 
     -- ---- the loop, once the call before it has returned f
-    module _ (known : Triple 𝓤 (C #model-points·grid-record·answered) (Answered 𝓤 H A mem run)) (f : GridStart) (is : Is G.the-row f (start-val f ∷ [])) (f-is : f ≡ found) where
+    module _ (known : Triple 𝓤 (C #grid-record·answered) (Answered 𝓤 H A mem run)) (f : GridStart) (is : Is G.the-row f (start-val f ∷ [])) (f-is : f ≡ found) where
       abbrev n : ℕ
       n = f .records
 
@@ -333,7 +333,7 @@ module _ {M : Type 1} (𝓤 : URA M) (H : Heap 𝓤) (A : Atoms 𝓤) (W : Given
       looped = qed W (At (0, zero-le)) ∵ exec ! C Λ En parts.t-5 (atRet En Post) $ first ! $ blocks ! $ loops ! 𝓣 Nearer Nearer-wf At turn (0, zero-le)
 
     -- ---- the statements before it, the call in a lemma of its own
-    module _ (known-start : Triple 𝓤 (C #grid·start-grid) (Start 𝓤 H A mem run)) (known-answered : Triple 𝓤 (C #model-points·grid-record·answered) (Answered 𝓤 H A mem run)) where
+    module _ (known-start : Triple 𝓤 (C #grid·start-grid) (Start 𝓤 H A mem run)) (known-answered : Triple 𝓤 (C #grid-record·answered) (Answered 𝓤 H A mem run)) where
       counts : (f : GridStart) → Is G.the-row f (start-val f ∷ []) → f ≡ found
           → ent 𝓤 (⋆ 𝓤 H A (Held-at xs (froom word l₅ 0) (froom word l₄ 0) (fat fullShare G′.mir l₃ 0 (start-val f)))) (Wp 𝓤 H C Λ En parts.t-3 (atReturn 𝓤 H En Post))
       counts f is f-is =
@@ -362,7 +362,7 @@ module _ {M : Type 1} (𝓤 : URA M) (H : Heap 𝓤) (A : Atoms 𝓤) (W : Given
 
   -- ---- the entry
   walk : (𝓣 : Tables 𝓤 H) → FmC 𝓤 H (W .laws) (𝓣 .C) → Room u8 (length (s .now)) → Room P.the-row (length xs)
-      → Triple 𝓤 (𝓣 .C #grid·start-grid) (Start 𝓤 H A mem run) → Triple 𝓤 (𝓣 .C #model-points·grid-record·answered) (Answered 𝓤 H A mem run)
+      → Triple 𝓤 (𝓣 .C #grid·start-grid) (Start 𝓤 H A mem run) → Triple 𝓤 (𝓣 .C #grid-record·answered) (Answered 𝓤 H A mem run)
       → ent 𝓤 (onEntry 𝓤 H A fill.signature (κ₀, (κ₁, tt)) (q₀, (q₁, tt)) (s, (x xs, tt)) (v ∷ [], (u ∷ [], tt))) (WpFn 𝓤 H (𝓣 .C) (𝓣 .Λ) function (v ∷ u ∷ []) Post)
   walk 𝓣 fm room₀ room known-start known-answered =
       qed W ((‵ (flft κ₀ q₀) ⊛ ‵ (flft κ₁ q₁) ⊛ ‵ ftrue) ∷ ‵ (owns (ShrSlice (named 0) κ₀ u8 ∷ MutSlice (named 1) κ₁ P.the-row ∷ []) (s, (x xs, tt)) (v ∷ [], (u ∷ [], tt))) ∷ []) ∵
@@ -376,14 +376,14 @@ module _ {M : Type 1} (𝓤 : URA M) (H : Heap 𝓤) (A : Atoms 𝓤) (W : Given
       move ! (28 ∷ 29 ∷ 30 ∷ 31 ∷ 32 ∷ []) $ by ! (begins 𝓣 fm room l₀ l₁ l₂ l₃ l₄ l₅ l₆ l₇ l₈ l₉ l₁₀ l₁₁ l₁₂ l₁₃ known-start known-answered)))))))))))))))
 
 module _ {M : Type 1} (𝓤 : URA M) (H : Heap 𝓤) (A : Atoms 𝓤) (W : Given 𝓤 H A) (mem : Memory → SProp 𝓤) (run : Routine → Fun 𝓤) (𝓣 : Tables 𝓤 H) where
-  fill-walks : Triple 𝓤 (𝓣 .C #grid·start-grid) (Start 𝓤 H A mem run) → Triple 𝓤 (𝓣 .C #model-points·grid-record·answered) (Answered 𝓤 H A mem run)
+  fill-walks : Triple 𝓤 (𝓣 .C #grid·start-grid) (Start 𝓤 H A mem run) → Triple 𝓤 (𝓣 .C #grid-record·answered) (Answered 𝓤 H A mem run)
       → Walks 𝓤 H A fill.ended stayed (WpFn 𝓤 H (𝓣 .C) (𝓣 .Λ) function) (fill.clauses 𝓤 H A mem run)
   fill-walks known-start known-answered = walked 𝓤 H A fill.ended stayed (fill.clauses 𝓤 H A mem run) (WpFn 𝓤 H (𝓣 .C) (𝓣 .Λ) function)
       (λ κs. (slice-vals, (slice-vals, tt))) (λ κs. (shr-slice-tells (named 0) (κs .0) u8, (mut-slice-tells (named 1) (κs .1 .0) P.the-row, tt)))
       (λ κs qs bounds a g are. via 𝓤 _ (fst∗ 𝓤 _ (emp 𝓤)) (walk 𝓤 H A W mem run (κs .0) (κs .1 .0) (qs .0) (qs .1 .0) (a .0) (a .1 .0 .ptr .0) (a .1 .0 .ptr .1) (a .1 .0 .name) (a .1 .0 .now)
       𝓣 (fmOf 𝓤 H (W .laws) 𝓣) (are .0 .0 .1) (are .1 .0 .0 .1) known-start known-answered))
 
-  fill-meets : Triple 𝓤 (𝓣 .C #grid·start-grid) (Start 𝓤 H A mem run) → Triple 𝓤 (𝓣 .C #model-points·grid-record·answered) (Answered 𝓤 H A mem run)
+  fill-meets : Triple 𝓤 (𝓣 .C #grid·start-grid) (Start 𝓤 H A mem run) → Triple 𝓤 (𝓣 .C #grid-record·answered) (Answered 𝓤 H A mem run)
       → Meets 𝓤 H A fill.signature (WpFn 𝓤 H (𝓣 .C) (𝓣 .Λ) function) (fill.spec 𝓤 H A mem run)
   fill-meets known-start known-answered =
       walk-meets 𝓤 H A fill.ended stayed W (goes-none-slice 𝓤 H A W 2 (0 ∷ []) tt (plain (λ _. u8)) yes, (goes-slice 𝓤 H A W 2 1 tt (plain (λ _. P.the-row)), tt)) (fill.clauses 𝓤 H A mem run)
@@ -396,4 +396,4 @@ fill-spec 𝓤 H 𝓜 𝓖 𝓡 =
     (tables 𝓤 H 𝓜 𝓡 code.env .C) (tables 𝓤 H 𝓜 𝓡 code.env .Λ) #grid·fill code.function (code.unfolded 𝓤 H 𝓜 𝓡)
     (fill-meets 𝓤 H (𝓖 .A) (givenOf 𝓤 H 𝓜 𝓖) (𝓜 .mem) (𝓡 .run) (tablesOf 𝓤 H 𝓜 (tables 𝓤 H 𝓜 𝓡 code.env))
     (cited 𝓤 H (Start 𝓤 H (𝓖 .A) (𝓜 .mem) (𝓡 .run)) 𝓜 𝓡 code.env #grid·start-grid start-def.routine code.calls-grid·start-grid (start-thm.met 𝓤 H 𝓜 𝓖 𝓡))
-    (cited 𝓤 H (Answered 𝓤 H (𝓖 .A) (𝓜 .mem) (𝓡 .run)) 𝓜 𝓡 code.env #model-points·grid-record·answered answered-def.routine code.calls-model-points·grid-record·answered (answered-thm.met 𝓤 H 𝓜 𝓖 𝓡)))
+    (cited 𝓤 H (Answered 𝓤 H (𝓖 .A) (𝓜 .mem) (𝓡 .run)) 𝓜 𝓡 code.env #grid-record·answered answered-def.routine code.calls-grid-record·answered (answered-thm.met 𝓤 H 𝓜 𝓖 𝓡)))

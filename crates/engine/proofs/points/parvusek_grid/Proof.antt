@@ -38,14 +38,14 @@ use denote.Exit.{yes}
 use denote.Triple.Clauses.{ensured, lasts}
 use Rattle.basis.specs.declared.Check.{Check}
 use Rattle.basis.specs.declared.Refusal.{Refusal}
-use Rattle.model_points.specs.declared.Point.{Point}
+use Rattle.grid_record.specs.declared.Point.{Point}
 use Rattle.grid.specs.Grid.{gridCheck, gridOf}
 use Rattle.engine.specs.Enquiry.{refusalOf}
 use Rattle.basis.proofs.Check as K
 use Rattle.basis.proofs.Check.Laws as K′
 use Rattle.basis.proofs.Refusal as F
 use Rattle.basis.proofs.Refusal.Laws as F′
-use Rattle.model_points.proofs.Point as P
+use Rattle.grid_record.proofs.Point as P
 use Rattle.grid.proofs.fill as fill
 use Rattle.grid.proofs.fill.Symbol as fill-def
 use Rattle.grid.proofs.fill.Symbol.{name as #grid·fill}

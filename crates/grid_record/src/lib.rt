@@ -1,0 +1,49 @@
+// One record of the grid on an accepted data run.
+ghost use mathlib.Core.Path.{_≡_};
+ghost use Rattle.basis.specs.Basis.{basisOf, Accepted};
+ghost use Rattle.grid_record.specs.Record.{recordOf, answeredOf};
+use model_points::PointAnswer;
+use model_points::Question;
+
+// A record of the grid: a question and its answer in 64 bytes, the refusal's places last.
+#[repr(C)]
+pub struct Point {
+    pub age: u32,
+    pub deferment: u32,
+    pub year: u32,
+    pub refusal: u32,
+    pub results: [u64; 4],
+    pub first: u64,
+    pub second: u64,
+}
+
+// The record with its question unchanged, and an answer in place of what it held.
+fn recorded(p: Point, a: PointAnswer) -> Point
+    ensures { λ r. ⌜ r ≡ recordOf p a ⌝ }
+{
+    let results = a.results;
+    Point {
+        age: p.age,
+        deferment: p.deferment,
+        year: p.year,
+        refusal: a.refusal.number,
+        results,
+        first: a.refusal.first,
+        second: a.refusal.second,
+    }
+}
+
+pub fn answered(run: &[u8], p: Point) -> Point
+    requires { ⌜ Accepted (now run) ⌝ }
+    ensures { λ r. ⌜ r ≡ answeredOf (basisOf (now (run .entry))) p ⌝ }
+{
+    let a = model_points::point_at(
+        run,
+        Question {
+            age: p.age,
+            deferment: p.deferment,
+            year: p.year,
+        },
+    );
+    recorded(p, a)
+}

@@ -1,0 +1,37 @@
+-- A model point (01, "The small set is six model points with four results each"): what a question is answered.
+use Prim.Native.Nat.{ℕ}
+use mathlib.Core.List.{List, [], _∷_}
+use lib.IntN.{ℤ, natAbs}
+use Rattle.basis.specs.Basis.{Basis}
+use Rattle.basis.specs.Outcome.{Outcome, value, refused, checked, andThen, noRefusal}
+use Rattle.survivorship.specs.declared.Kind.the-variants.{Period, Cohort}
+use Rattle.valuation.specs.Valuation.{expectationOf, annuityOf}
+use Rattle.question.specs.Question.{questionCheck}
+use Rattle.model_points.specs.declared.Question.{Question}
+use Rattle.model_points.specs.declared.PointAnswer.{PointAnswer}
+
+-- four results in their order, the first refusal of the four deciding; no result is below zero, so its size is the result itself
+unfoldable pub fourOf : Outcome ℤ → Outcome ℤ → Outcome ℤ → Outcome ℤ → Outcome (List ℕ)
+fourOf first second third fourth =
+    andThen first (λ i. andThen second (λ j. andThen third (λ k. andThen fourth (λ l. value (natAbs i ∷ natAbs j ∷ natAbs k ∷ natAbs l ∷ [])))))
+
+-- period and cohort expectation, period and cohort annuity
+unfoldable pub resultsOf : Basis → ℕ → ℕ → ℕ → Outcome (List ℕ)
+resultsOf b age deferment year =
+    fourOf
+    (expectationOf b Period age year deferment)
+    (expectationOf b Cohort age year deferment)
+    (annuityOf b Period age year deferment)
+    (annuityOf b Cohort age year deferment)
+
+abbrev pub noResults : List ℕ
+noResults = 0 ∷ 0 ∷ 0 ∷ 0 ∷ []
+
+-- an answered point's refusal and places are 0, a refused point's four results are 0
+abbrev pub pointAnswerOf : Outcome (List ℕ) → PointAnswer
+pointAnswerOf (value results) = record { results = results; refusal = noRefusal }
+pointAnswerOf (refused r) = record { results = noResults; refusal = r }
+
+-- its own checks, then the four results
+unfoldable pub pointOf : Basis → Question → PointAnswer
+pointOf b q = pointAnswerOf (checked (questionCheck b (q .age) (q .deferment) (q .year)) (resultsOf b (q .age) (q .deferment) (q .year)))

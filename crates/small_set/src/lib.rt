@@ -1,0 +1,67 @@
+// The small set: six model points on one basis, by value. Any bytes and any questions are answered or refused.
+ghost use mathlib.Core.Path.{_≡_};
+ghost use mathlib.Core.List.{map};
+ghost use Rattle.basis.specs.Basis.{basisOf, Accepted};
+ghost use Rattle.model_points.specs.Point.{pointOf};
+ghost use Rattle.small_set.specs.SmallSet.{smallSetOf};
+use basis::Check;
+use basis::Refusal;
+use model_points::PointAnswer;
+use model_points::Question;
+
+// The six questions of the small set.
+#[repr(C)]
+pub struct Questions {
+    pub points: [Question; 6],
+}
+
+// The small set: six answers, and the refusal of the whole.
+#[repr(C)]
+pub struct SmallSet {
+    pub refusal: Refusal,
+    pub points: [PointAnswer; 6],
+}
+
+// The six answers on an accepted data run.
+fn six(run: &[u8], questions: [Question; 6]) -> [PointAnswer; 6]
+    requires { ⌜ Accepted (now run) ⌝ }
+    ensures { λ r. ⌜ r ≡ map (pointOf (basisOf (now (run .entry)))) questions ⌝ }
+{
+    [
+        model_points::point_at(run, questions[0]),
+        model_points::point_at(run, questions[1]),
+        model_points::point_at(run, questions[2]),
+        model_points::point_at(run, questions[3]),
+        model_points::point_at(run, questions[4]),
+        model_points::point_at(run, questions[5]),
+    ]
+}
+
+// The run is checked once. A refused one refuses the whole: its points carry 0 in every result, refusal and place.
+pub fn small_set(run: &[u8], questions: Questions) -> SmallSet
+    ensures { λ r. ⌜ r ≡ smallSetOf (now (run .entry)) questions ⌝ }
+{
+    let none = Refusal {
+        number: 0,
+        first: 0,
+        second: 0,
+    };
+    match run_check::check_run(run) {
+        Check::Passed => {
+            let asked = questions.points;
+            let points = six(run, asked);
+            SmallSet {
+                refusal: none,
+                points,
+            }
+        }
+        Check::Refused(refusal) => {
+            let blank = PointAnswer {
+                results: [0; 4],
+                refusal: none,
+            };
+            let points = [blank; 6];
+            SmallSet { refusal, points }
+        }
+    }
+}
