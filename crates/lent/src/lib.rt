@@ -6,7 +6,7 @@ ghost use Rattle.lent.specs.Lent.{countCheck, placed};
 use basis::Check;
 use basis::Refusal;
 
-// Whether as many elements are lent as are needed.
+// Whether as many elements are lent as are needed: the first check of every call that fills a lent output.
 pub fn check_room(needed: usize, lent: usize) -> Check
     ensures { λ r. ⌜ r ≡ countCheck needed lent ⌝ }
 {
