@@ -37,8 +37,10 @@ unfolding ended unfinished
 ended-parts line [] t = refl
 ended-parts line (b ∷ s) t = by (eqb b 10) (line ++ b ∷ []) (ended-parts [] s t) (ended-parts (line ++ b ∷ []) s t)
   where
-    by : (u : Bool) (more : List ℕ) → ended [] (s ++ t) ≡ ended [] s ++ ended (unfinished [] s) t → ended more (s ++ t) ≡ ended more s ++ ended (unfinished more s) t →
-        cond u (line ∷ ended [] (s ++ t)) (ended more (s ++ t)) ≡ cond u (line ∷ ended [] s) (ended more s) ++ ended (cond u (unfinished [] s) (unfinished more s)) t
+    by : (u : Bool) (more : List ℕ) → ended [] (s ++ t) ≡ ended [] s ++ ended (unfinished [] s) t →
+        ended more (s ++ t) ≡ ended more s ++ ended (unfinished more s) t →
+        cond u (line ∷ ended [] (s ++ t)) (ended more (s ++ t))
+        ≡ cond u (line ∷ ended [] s) (ended more s) ++ ended (cond u (unfinished [] s) (unfinished more s)) t
     by true more h k = ap (λ ls. line ∷ ls) h
     by false more h k = k
 

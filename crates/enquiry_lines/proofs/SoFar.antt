@@ -47,7 +47,8 @@ module _ (s : Pending) (b : ℕ) where
 
 module _ (basis : Basis) (n : ℕ) (line : List ℕ) (b : ℕ) (out : List ℕ) (at : ℕ) where
   -- the line is answered
-  pub put-ended : b ≡ 10 → {after : List ℕ} {r : ℕ} → Put out at (replyTo basis n (lineOf line)) after r → Put out at (replies basis n (ended line (b ∷ []))) after r
+  pub put-ended : b ≡ 10 → {after : List ℕ} {r : ℕ} → Put out at (replyTo basis n (lineOf line)) after r →
+      Put out at (replies basis n (ended line (b ∷ []))) after r
   put-ended e {after} {r} p = being (sym (ap (replies basis n) (ended-one line b e) ∙ reply-alone basis n line)) refl p
 
   -- nothing is
@@ -92,8 +93,6 @@ module _ (basis : Basis) (part first : List ℕ) (s : Pending) where
           sound = d;
         }
 
-    pub ends-left : length part ≤ i → Left (kept s) (s .complete) part (kept pending) (pending .complete)
-    ends-left le = rw (take-all i part le) at (h .left)
-
-    pub ends-put : length part ≤ i → Put first 0 (replies basis (s .complete + 1) (ended (kept s) part)) out at
-    ends-put le = rw (take-all i part le) at (h .put)
+    pub ends : length part ≤ i →
+        Left (kept s) (s .complete) part (kept pending) (pending .complete) × Put first 0 (replies basis (s .complete + 1) (ended (kept s) part)) out at
+    ends le = (rw (take-all i part le) at (h .left), rw (take-all i part le) at (h .put))

@@ -27,7 +27,8 @@ module _ (basis : Basis) where
     where
       by : (line′ : List ℕ) (n′ : ℕ) → Left line n p line′ n′ →
           said basis line′ n′ ps ≡ replies basis (n′ + 1) (ended line′ (joined ps) ++ lastLine (unfinished line′ (joined ps))) →
-          replies basis (n + 1) (ended line p) ++ said basis line′ n′ ps ≡ replies basis (n + 1) (ended line (p ++ joined ps) ++ lastLine (unfinished line (p ++ joined ps)))
+          replies basis (n + 1) (ended line p) ++ said basis line′ n′ ps
+          ≡ replies basis (n + 1) (ended line (p ++ joined ps) ++ lastLine (unfinished line (p ++ joined ps)))
       by line′ n′ h ih =
           let t = joined ps in
           let left = left-next line n p line′ n′ h t (record { begun = refl; complete = refl }) in

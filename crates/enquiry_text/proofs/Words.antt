@@ -91,7 +91,8 @@ unfolding wordsFrom
 words-some w [] = omega arith
 words-some w (b ∷ s) = by (eqb b 32) (words-some [] s) (words-some (w ++ b ∷ []) s)
   where
-    by : (t : Bool) → 1 ≤ length (wordsFrom [] s) → 1 ≤ length (wordsFrom (w ++ b ∷ []) s) → 1 ≤ length (cond t (w ∷ wordsFrom [] s) (wordsFrom (w ++ b ∷ []) s))
+    by : (t : Bool) → 1 ≤ length (wordsFrom [] s) → 1 ≤ length (wordsFrom (w ++ b ∷ []) s) →
+        1 ≤ length (cond t (w ∷ wordsFrom [] s) (wordsFrom (w ++ b ∷ []) s))
     by true h k = omega arith
     by false h k = k
 
@@ -117,5 +118,6 @@ module _ (s : List ℕ) (a : ℕ) (e : First s a) where
       four-words f =
           sym (many (take a s) (take d (rest s a)) (take y (rest (rest s a) d)) (rest (rest (rest s a) d) y)) ∙ behind (more (rest (rest s a) d) y h f)
 
-      pub three-words : y ≡ length (rest (rest s a) d) → enquiryOf (numberOf (take a s)) (numberOf (take d (rest s a))) (numberOf (rest (rest s a) d)) ≡ lineOf s
+      pub three-words : y ≡ length (rest (rest s a) d) →
+          enquiryOf (numberOf (take a s)) (numberOf (take d (rest s a))) (numberOf (rest (rest s a) d)) ≡ lineOf s
       three-words f = behind (alone (rest (rest s a) d) y h f)

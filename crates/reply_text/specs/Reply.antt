@@ -13,7 +13,7 @@ use Rattle.reply_text.specs.Decimal.{digitsOf, decimalOf}
 abbrev pub headerLine : List ℕ
 headerLine = ascii "age deferment year period_ex cohort_ex period_annuity cohort_annuity\n"
 
--- ---- an answered line
+-- ---- what an answered line is made of
 -- the three numbers of a question
 unfoldable pub questionText : Question → List ℕ
 questionText q = digitsOf (q .age) ++ ascii " " ++ digitsOf (q .deferment) ++ ascii " " ++ digitsOf (q .year)
@@ -22,13 +22,11 @@ questionText q = digitsOf (q .age) ++ ascii " " ++ digitsOf (q .deferment) ++ as
 unfoldable pub resultsText : List ℕ → List ℕ
 resultsText v = decimalOf (getD v 0 0) ++ ascii " " ++ decimalOf (getD v 1 0) ++ ascii " " ++ decimalOf (getD v 2 0) ++ ascii " " ++ decimalOf (getD v 3 0)
 
-unfoldable pub answerLine : Question → List ℕ → List ℕ
-answerLine q v = questionText q ++ ascii " " ++ resultsText v ++ ascii "\n"
-
 -- ---- a refused line
 unfoldable pub refusalLine : Refusal → List ℕ
 refusalLine r = ascii "refused " ++ digitsOf (r .number) ++ ascii " " ++ digitsOf (r .first) ++ ascii " " ++ digitsOf (r .second) ++ ascii "\n"
 
--- ---- a line: an answer of refusal number 0 is no refusal
+-- ---- a line
+-- an answered line repeats its three numbers, then gives the results; an answer of refusal number 0 is no refusal
 unfoldable pub replyOf : Question → PointAnswer → List ℕ
-replyOf q a = cond (eqb (a .refusal .number) 0) (answerLine q (a .results)) (refusalLine (a .refusal))
+replyOf q a = cond (eqb (a .refusal .number) 0) (questionText q ++ ascii " " ++ resultsText (a .results) ++ ascii "\n") (refusalLine (a .refusal))

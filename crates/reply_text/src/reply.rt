@@ -1,11 +1,11 @@
 // The lines that the points program prints, put into a lent buffer at a place with 192 bytes of room.
 ghost use mathlib.Core.Path.{_≡_};
-ghost use mathlib.Core.List.{[], _∷_, _++_};
+ghost use mathlib.Core.List.{_++_};
 ghost use Prim.Native.Nat.{_+_, _≤_};
 ghost use lib.ListN.{length, take};
 ghost use Rattle.reply_text.specs.Ascii.{ascii};
 ghost use Rattle.reply_text.specs.Inner.Put.{Put};
-ghost use Rattle.reply_text.specs.Reply.{headerLine, refusalLine, questionText, resultsText, answerLine, replyOf};
+ghost use Rattle.reply_text.specs.Reply.{headerLine, questionText, resultsText, refusalLine, replyOf};
 use crate::ReplyText;
 use crate::digits;
 use basis::Refusal;
@@ -38,7 +38,7 @@ pub fn put_refusal(out: &mut [u8], at: usize, x: Refusal) -> usize
 // The three numbers that were asked, each with a space after it.
 fn put_question(out: &mut [u8], at: usize, q: Question) -> usize
     requires { ⌜ at + 63 ≤ length (now out) ⌝ }
-    ensures { λ r. ⌜ Put (now (out .entry)) at (questionText q ++ 32 ∷ []) (now (out .exit)) r ⌝ }
+    ensures { λ r. ⌜ Put (now (out .entry)) at (questionText q ++ ascii " ") (now (out .exit)) r ⌝ }
     ensures { λ r. ⌜ r ≤ at + 63 ⌝ }
 {
     let a = digits::put_number(out, at, q.age as u64, b' ');
@@ -49,7 +49,7 @@ fn put_question(out: &mut [u8], at: usize, q: Question) -> usize
 // The four results, a space between two and byte 10 after the last.
 fn put_results(out: &mut [u8], at: usize, v: [u64; 4]) -> usize
     requires { ⌜ at + 124 ≤ length (now out) ⌝ }
-    ensures { λ r. ⌜ Put (now (out .entry)) at (resultsText v ++ 10 ∷ []) (now (out .exit)) r ⌝ }
+    ensures { λ r. ⌜ Put (now (out .entry)) at (resultsText v ++ ascii "\n") (now (out .exit)) r ⌝ }
     ensures { λ r. ⌜ r ≤ at + 124 ⌝ }
 {
     let a = digits::put_units(out, at, v[0], b' ');

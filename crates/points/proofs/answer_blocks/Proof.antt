@@ -9,7 +9,8 @@ use Rattle.points.proofs.answer_blocks.Statement.{statement}
 use Rattle.points.proofs.answer_blocks.Tie as tie
 
 abbrev Inv-loop : tie.InvT-loop
-Inv-loop run part₀ out₀ pending₀ is-written₀ blocks₀ part out pending is-written blocks = (length part ≡ length part₀) × (length out ≡ length out₀) × (Sound pending) × (pending .complete + 4096 * blocks ≤ 4096000000000000000)
+Inv-loop run part₀ out₀ pending₀ is-written₀ blocks₀ part out pending is-written blocks =
+    (length part ≡ length part₀) × (length out ≡ length out₀) × (Sound pending) × (pending .complete + 4096 * blocks ≤ 4096000000000000000)
 
 abbrev μ-loop : tie.MeasureT-loop
 μ-loop run part₀ out₀ pending₀ is-written₀ blocks₀ part out pending is-written blocks = blocks

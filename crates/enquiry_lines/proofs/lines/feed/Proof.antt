@@ -6,7 +6,7 @@ use lib.Seq.{length-take-le}
 use Rattle.basis.specs.Basis.{basisOf}
 use Rattle.enquiry_lines.specs.Inner.State.{kept}
 use Rattle.enquiry_lines.proofs.Parting.{ended-few}
-use Rattle.enquiry_lines.proofs.SoFar.{SoFar, begins, turns, ends-left, ends-put}
+use Rattle.enquiry_lines.proofs.SoFar.{SoFar, begins, turns, ends}
 use borrow.Author.Needs.{needs}
 use Rattle.enquiry_lines.proofs.lines.feed.Statement.{statement}
 use Rattle.enquiry_lines.proofs.lines.feed.Tie as tie
@@ -41,9 +41,10 @@ loop-again : tie.Need-loop-again Inv-loop μ-loop
 loop-again c = let f = c .before .before .before in
     let l = f .before .before .before .before .loop in
     let s = f .before .before .before .before .before .before .before .before in
+    let r = f .feed-byte .result in
     let e = f .feed-byte .ensures in
-    let turn = turns (basisOf (s .args .run .now)) (s .args .part .now) (s .args .out .now) (s .args .s) (l .out) (l .pending) (l .at) (l .i) (l .inv) (omega arith) in
-    turn (f .feed-byte .last .1 .1 .1 .0) (f .feed-byte .result .pending) (f .feed-byte .result .at) (record { begun = e .0; complete = e .1 .0 }) (e .1 .1 .0) (e .1 .1 .1 .1) (e .1 .1 .1 .0)
+    turns (basisOf (s .args .run .now)) (s .args .part .now) (s .args .out .now) (s .args .s) (l .out) (l .pending) (l .at) (l .i) (l .inv) (omega arith)
+    (f .feed-byte .last .1 .1 .1 .0) (r .pending) (r .at) (record { begun = e .0; complete = e .1 .0 }) (e .1 .1 .0) (e .1 .1 .1 .1) (e .1 .1 .1 .0)
 
 same-length : tie.Need-same-length Inv-loop μ-loop
 same-length c = c .before .loop .inv .put .same
@@ -52,10 +53,10 @@ returns : tie.Need-returns Inv-loop μ-loop
 returns c = let l = c .before .loop in
     let s = c .before .before .before .before .before in
     let v = l .inv in
-    let left = ends-left (basisOf (s .args .run .now)) (s .args .part .now) (s .args .out .now) (s .args .s) (l .out) (l .pending) (l .at) (l .i) v (omega arith) in
-    let put = ends-put (basisOf (s .args .run .now)) (s .args .part .now) (s .args .out .now) (s .args .s) (l .out) (l .pending) (l .at) (l .i) v (omega arith) in
-    let few = ended-few (kept (s .args .s)) (s .args .part .now) in
-    (left .begun, (left .complete, (put, (v .sound, omega (arith, v .most, v .within), omega (arith, left .complete)))))
+    let part = s .args .part .now in
+    let e = ends (basisOf (s .args .run .now)) part (s .args .out .now) (s .args .s) (l .out) (l .pending) (l .at) (l .i) v (omega arith) in
+    let few = ended-few (kept (s .args .s)) part in
+    (e .0 .begun, (e .0 .complete, (e .1, (v .sound, omega (arith, v .most, v .within), omega (arith, e .0 .complete)))))
 
 pub feed-spec : {M : Type 1} → statement M
 feed-spec =

@@ -46,17 +46,19 @@ add-t20 c = search needs
 
 returns-2 : tie.Need-returns-2
 returns-2 c = let s = c .before .before .before .before .before in
+    let a = s .args in
     let h = s .pre .1 .1 .0 in
-    let l = line-grows (s .args .s) (s .args .b) h (c .before .if1 .left) (omega arith) in
-    let room = length-set (s .args .s .bytes) (s .args .s .len) (s .args .b) ∙ h .room in
-    let none = put-none (basisOf (s .args .run .now)) _ (kept (s .args .s)) (s .args .b) (s .args .out .now) (s .args .at) (c .before .if1 .left) (omega arith) in
+    let l = line-grows (a .s) (a .b) h (c .before .if1 .left) (omega arith) in
+    let room = length-set (a .s .bytes) (a .s .len) (a .b) ∙ h .room in
+    let none = put-none (basisOf (a .run .now)) _ (kept (a .s)) (a .b) (a .out .now) (a .at) (c .before .if1 .left) (omega arith) in
     (l .begun, (l .complete, (none, (record { short = omega arith; room = room }, omega arith))))
 
 returns-3 : tie.Need-returns-3
 returns-3 c = let s = c .before .before .before .before .before in
+    let a = s .args in
     let h = s .pre .1 .1 .0 in
-    let l = line-full (s .args .s) (s .args .b) h (c .before .if1 .left) (omega arith) in
-    let none = put-none (basisOf (s .args .run .now)) _ (kept (s .args .s)) (s .args .b) (s .args .out .now) (s .args .at) (c .before .if1 .left) (omega arith) in
+    let l = line-full (a .s) (a .b) h (c .before .if1 .left) (omega arith) in
+    let none = put-none (basisOf (a .run .now)) _ (kept (a .s)) (a .b) (a .out .now) (a .at) (c .before .if1 .left) (omega arith) in
     (l .begun, (l .complete, (none, (h, omega arith))))
 
 pub feed-byte-spec : {M : Type 1} → statement M

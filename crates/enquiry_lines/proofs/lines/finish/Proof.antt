@@ -17,8 +17,8 @@ returns : tie.Need-returns
 returns c = let s = c .before .before .before in
     let h = s .pre .1 .1 .0 in
     let e = length-take-le (s .args .s .len) (s .args .s .bytes) (omega (arith, h .short, h .room)) in
-    rw (eq-eqb (length (kept (s .args .s))) 0 (e ∙ c .if1 .taken), no-replies (basisOf (s .args .run .now)) (s .args .s .complete + 1))
-    (nothing (s .args .out .now) 0 (omega arith))
+    let none = eq-eqb (length (kept (s .args .s))) 0 (e ∙ c .if1 .taken) in
+    rw (none, no-replies (basisOf (s .args .run .now)) (s .args .s .complete + 1)) (nothing (s .args .out .now) 0 (omega arith))
 
 add-put-line : tie.Need-add-put-line
 add-put-line c = search needs
@@ -43,8 +43,8 @@ returns-2 c = let p = c .before .before in
     let s = t .before .before .before in
     let h = s .pre .1 .1 .0 in
     let e = length-take-le (s .args .s .len) (s .args .s .bytes) (omega (arith, h .short, h .room)) in
-    rw (ne-eqb (length (kept (s .args .s))) 0 (λ z. t .if1 .left (sym e ∙ z)), reply-alone (basisOf (s .args .run .now)) (s .args .s .complete + 1) (kept (s .args .s)))
-    (p .put-line .ensures .0)
+    let some = ne-eqb (length (kept (s .args .s))) 0 (λ z. t .if1 .left (sym e ∙ z)) in
+    rw (some, reply-alone (basisOf (s .args .run .now)) (s .args .s .complete + 1) (kept (s .args .s))) (p .put-line .ensures .0)
 
 pub finish-spec : {M : Type 1} → statement M
 finish-spec =

@@ -28,7 +28,9 @@ loop-less : tie.Need-loop-less Inv-loop μ-loop
 loop-less c = search needs
 
 loop-again : tie.Need-loop-again Inv-loop μ-loop
-loop-again c = let l = c .before .before in let e = places-turn (l .loop .k) (l .loop .rest) (omega arith) (omega arith) in (omega arith, omega arith, omega arith)
+loop-again c = let l = c .before .before in
+    let e = places-turn (l .loop .k) (l .loop .rest) (omega arith) (omega arith) in
+    (omega arith, omega arith, omega arith)
 
 returns-2 : tie.Need-returns-2 Inv-loop μ-loop
 returns-2 c = let l = c .before in let e = places-end (l .loop .k) (l .loop .rest) (omega arith) in (omega arith, omega arith)

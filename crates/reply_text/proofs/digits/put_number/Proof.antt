@@ -29,7 +29,8 @@ same-length c = search needs
 returns : tie.Need-returns
 returns c = let s = c .before .before .before .before .before .before .args in
     let p = c .before .before .before .before .places in
-    (number-put (s .out .now) (s .at) (s .n) (p .result) (s .then) (c .before .before .put-digits .last .0) (p .ensures .0) (omega arith) (c .before .before .put-digits .ensures), omega arith)
+    let d = c .before .before .put-digits in
+    (number-put (s .out .now) (s .at) (s .n) (p .result) (s .then) (d .last .0) (p .ensures .0) (omega arith) (d .ensures), omega arith)
 
 pub put-number-spec : {M : Type 1} → statement M
 put-number-spec =

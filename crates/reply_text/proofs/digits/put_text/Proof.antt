@@ -49,11 +49,12 @@ returns : tie.Need-returns Inv-loop μ-loop
 returns c = let l = c .before .loop in
     let s = c .before .before .args in
     let e : l .i ≡ length (s .text .now) = omega arith in
+    let none = sym (drop-of-length-le (s .text .now) {i = l .i} (omega arith)) in
     record {
       next = omega arith;
       fits = omega arith;
       same = l .inv .1;
-      all = sym (placed-none (l .out) (s .at + l .i)) ∙ ap (λ t. placed (l .out) (s .at + l .i) t) (sym (drop-of-length-le (s .text .now) {i = l .i} (omega arith))) ∙ l .inv .2;
+      all = sym (placed-none (l .out) (s .at + l .i)) ∙ ap (λ t. placed (l .out) (s .at + l .i) t) none ∙ l .inv .2;
     }
 
 pub put-text-spec : {M : Type 1} → statement M

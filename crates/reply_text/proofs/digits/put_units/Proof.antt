@@ -23,12 +23,14 @@ add-result c = search needs
 same-length : tie.Need-same-length
 same-length c = let s = c .before .before .before .before .before .before .before .before .before .args in
     let p = c .before .before .before .before .before .before .put-number in
-    units-put (s .v) (s .then) (c .before .before .put-digits .last .0) (p .ensures .0) (omega (arith, p .ensures .0 .same)) (c .before .before .put-digits .ensures) .same
+    let d = c .before .before .put-digits in
+    units-put (s .v) (s .then) (d .last .0) (p .ensures .0) (omega (arith, p .ensures .0 .same)) (d .ensures) .same
 
 returns : tie.Need-returns
 returns c = let s = c .before .before .before .before .before .before .before .before .before .args in
     let p = c .before .before .before .before .before .before .put-number in
-    (units-put (s .v) (s .then) (c .before .before .put-digits .last .0) (p .ensures .0) (omega (arith, p .ensures .0 .same)) (c .before .before .put-digits .ensures), omega arith)
+    let d = c .before .before .put-digits in
+    (units-put (s .v) (s .then) (d .last .0) (p .ensures .0) (omega (arith, p .ensures .0 .same)) (d .ensures), omega arith)
 
 pub put-units-spec : {M : Type 1} → statement M
 put-units-spec =

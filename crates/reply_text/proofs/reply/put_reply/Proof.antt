@@ -3,7 +3,7 @@ use mathlib.Core.Path.{refl}
 use mathlib.Core.List.{append-assoc}
 use native.Mathlib.Omega.{arith}
 use borrow.Author.Tests.{eq-eqb, ne-eqb}
-use Rattle.reply_text.specs.Reply.{answerLine, replyOf}
+use Rattle.reply_text.specs.Reply.{replyOf}
 use Rattle.reply_text.proofs.Puts.{then, being}
 use borrow.Author.Needs.{needs}
 use Rattle.reply_text.proofs.reply.put_reply.Statement.{statement}
@@ -19,7 +19,7 @@ same-length : tie.Need-same-length
 same-length c = search needs
 
 returns : tie.Need-returns
-unfolding replyOf answerLine
+unfolding replyOf
 returns c = let r = c .before .before in
     let q = r .before .before .before .before in
     rw (eq-eqb _ 0 (q .before .before .if1 .taken))

@@ -41,7 +41,8 @@ returns c = let c4 = c .before .before in
     let c3 = c4 .before .before .before .before in
     let c2 = c3 .before .before .before .before in
     let c1 = c2 .before .before .before .before in
-    (being (simp append-assoc) refl (then (c1 .put-units .ensures .0) (then (c2 .put-units2 .ensures .0) (then (c3 .put-units3 .ensures .0) (c4 .put-units4 .ensures .0)))), omega arith)
+    let text = then (c2 .put-units2 .ensures .0) (then (c3 .put-units3 .ensures .0) (c4 .put-units4 .ensures .0)) in
+    (being (simp append-assoc) refl (then (c1 .put-units .ensures .0) text), omega arith)
 
 pub put-results-spec : {M : Type 1} → statement M
 put-results-spec =
