@@ -12,10 +12,10 @@ use basis::Answer;
 use basis::Refusal;
 use basis::SignedAnswer;
 use basis::little_endian;
-use enquiry_text::digits;
-use enquiry_text::reply;
 use libc::STDIN_FILENO;
 use libc::STDOUT_FILENO;
+use reply_text::digits;
+use reply_text::reply;
 use survivorship::Kind;
 
 // ---- the bases

@@ -14,9 +14,9 @@ use basis::Refusal;
 use basis::little_endian;
 use basis_file::read;
 use basis_file::write;
-use enquiry_text::digits;
 use libc::STDIN_FILENO;
 use libc::STDOUT_FILENO;
+use reply_text::digits;
 
 // ---- the input and the output of a case
 fn room() -> [u8; 5000]

@@ -1,3 +1,4 @@
 pub mod Parting
 pub mod Whole
 pub mod Opened
+mod SoFar

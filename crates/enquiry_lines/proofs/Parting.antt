@@ -1,138 +1,176 @@
--- The laws of a text that comes in parts: any cut gives the same, and what a loop over a part keeps. Assumes nothing.
-use Prim.Native.Nat.{ℕ, _+_, _*_, _≤_, _<_}
+-- The laws of a text's lines: a text that comes in two parts, and a line of which only the first 16 bytes are kept. Assumes nothing.
+use Prim.Native.Nat.{ℕ, zero, suc, _+_, _≤_}
 use mathlib.Core.Path.{_≡_, refl, ap, sym, _∙_}
+use mathlib.Core.Bool.{Bool, true, false, cond}
 use mathlib.Core.List.{List, [], _∷_, _++_, append-assoc, append-nil}
 use native.Mathlib.Omega.{arith}
-use native.Mathlib.Numerals.{add-one}
-use lib.ListN.{length, getD, take, set}
-use lib.Seq.{take-suc, take-suc-set, length-take-le, take-all}
-use borrow.Author.Tests.{eq-eqb, ne-eqb, lt-ltb, le-ltb}
+use lib.Dec.{ltb, eqb}
+use lib.ListN.{length, take, length-append}
+use lib.Seq.{take-all, take-take, length-take-le}
+use borrow.Author.Tests.{eq-eqb, ne-eqb, ltb-true, ltb-false}
 use Rattle.basis.specs.Basis.{Basis}
-use Rattle.enquiry_text.specs.Put.{Put}
-use Rattle.enquiry_text.proofs.Puts.{nothing, then, being}
-use Rattle.enquiry_lines.specs.Lines.{replyAt}
-use Rattle.enquiry_lines.specs.Parts.{Tail, tailOf, keep, step, says, after, sent, ending, Sound}
-use Rattle.enquiry_lines.specs.declared.Pending.{Pending}
+use Rattle.enquiry_text.specs.Line.{lineOf}
+use Rattle.enquiry_text.proofs.Printed.{long-malformed}
+use Rattle.enquiry_lines.specs.Lines.{ended, unfinished, lastLine, replyTo, replies}
 
--- ---- a byte: 10, or another
-pub step-end : (t : Tail) (b : ℕ) → b ≡ 10 → step t b ≡ record { kept = []; complete = t .complete + 1 }
-unfolding step
-step-end t b e = simp (eq-eqb _ _ e)
+-- ---- one byte: 10, or another
+module _ (line : List ℕ) (b : ℕ) where
+  pub ended-one : b ≡ 10 → ended line (b ∷ []) ≡ line ∷ []
+  unfolding ended
+  ended-one e = simp (eq-eqb _ _ e)
 
-pub step-more : (t : Tail) (b : ℕ) → (b ≡ 10 → ⊥) → step t b ≡ record { kept = keep (t .kept) b; complete = t .complete }
-unfolding step
-step-more t b e = rw (ne-eqb b 10 e) refl
+  pub ended-none : (b ≡ 10 → ⊥) → ended line (b ∷ []) ≡ []
+  unfolding ended
+  ended-none e = simp (ne-eqb _ _ e)
 
-pub says-end : (basis : Basis) (t : Tail) (b : ℕ) → b ≡ 10 → says basis t b ≡ replyAt basis (t .complete + 1) (t .kept)
-unfolding says
-says-end basis t b e = simp (eq-eqb _ _ e)
+  pub unfinished-none : b ≡ 10 → unfinished line (b ∷ []) ≡ []
+  unfolding unfinished
+  unfinished-none e = simp (eq-eqb _ _ e)
 
-pub says-none : (basis : Basis) (t : Tail) (b : ℕ) → (b ≡ 10 → ⊥) → says basis t b ≡ []
-unfolding says
-says-none basis t b e = simp (ne-eqb _ _ e)
+  pub unfinished-more : (b ≡ 10 → ⊥) → unfinished line (b ∷ []) ≡ line ++ b ∷ []
+  unfolding unfinished
+  unfinished-more e = simp (ne-eqb _ _ e)
 
--- a byte is kept
-pub kept-more : (bytes : List ℕ) (len b n : ℕ) → length bytes ≡ 16 → len < 16 → (b ≡ 10 → ⊥) →
-    _≡_ {A = Tail} (record { kept = take (len + 1) (set bytes len b); complete = n }) (step (record { kept = take len bytes; complete = n }) b)
-unfolding step
-kept-more bytes len b n e l h =
-    let m : length (take len bytes) < 16 = rw (length-take-le len bytes (omega arith)) l in
-    rw (add-one len, take-suc-set bytes len b (omega arith)) (simp (ne-eqb _ _ h, lt-ltb _ _ m))
+-- ---- two parts
+pub ended-parts : (line s t : List ℕ) → ended line (s ++ t) ≡ ended line s ++ ended (unfinished line s) t
+unfolding ended unfinished
+ended-parts line [] t = refl
+ended-parts line (b ∷ s) t = by (eqb b 10) (line ++ b ∷ []) (ended-parts [] s t) (ended-parts (line ++ b ∷ []) s t)
+  where
+    by : (u : Bool) (more : List ℕ) → ended [] (s ++ t) ≡ ended [] s ++ ended (unfinished [] s) t →
+        ended more (s ++ t) ≡ ended more s ++ ended (unfinished more s) t →
+        cond u (line ∷ ended [] (s ++ t)) (ended more (s ++ t))
+        ≡ cond u (line ∷ ended [] s) (ended more s) ++ ended (cond u (unfinished [] s) (unfinished more s)) t
+    by true more h k = ap (λ ls. line ∷ ls) h
+    by false more h k = k
 
--- a line that is too long already stays as it is
-pub kept-full : (bytes : List ℕ) (len b n : ℕ) → length bytes ≡ 16 → len ≡ 16 → (b ≡ 10 → ⊥) →
-    _≡_ {A = Tail} (record { kept = take len bytes; complete = n }) (step (record { kept = take len bytes; complete = n }) b)
-unfolding step
-kept-full bytes len b n e l h =
-    let m : 16 ≤ length (take len bytes) = rw (length-take-le len bytes (omega arith)) (omega arith) in
-    simp (ne-eqb _ _ h, le-ltb _ _ m)
+pub unfinished-parts : (line s t : List ℕ) → unfinished line (s ++ t) ≡ unfinished (unfinished line s) t
+unfolding unfinished
+unfinished-parts line [] t = refl
+unfinished-parts line (b ∷ s) t = by (eqb b 10) (line ++ b ∷ []) (unfinished-parts [] s t) (unfinished-parts (line ++ b ∷ []) s t)
+  where
+    by : (u : Bool) (more : List ℕ) → unfinished [] (s ++ t) ≡ unfinished (unfinished [] s) t → unfinished more (s ++ t) ≡ unfinished (unfinished more s) t →
+        cond u (unfinished [] (s ++ t)) (unfinished more (s ++ t)) ≡ unfinished (cond u (unfinished [] s) (unfinished more s)) t
+    by true more h k = h
+    by false more h k = k
 
--- ---- the end
-pub ending-none : (basis : Basis) (t : Tail) → length (t .kept) ≡ 0 → ending basis t ≡ []
-ending-none basis t e = simp (eq-eqb _ _ e)
+-- no more lines end than there are bytes
+pub ended-few : (line s : List ℕ) → length (ended line s) ≤ length s
+unfolding ended
+ended-few line [] = omega arith
+ended-few line (b ∷ s) = by (eqb b 10) (ended-few [] s) (ended-few (line ++ b ∷ []) s)
+  where
+    by : (u : Bool) → length (ended [] s) ≤ length s → length (ended (line ++ b ∷ []) s) ≤ length s →
+        length (cond u (line ∷ ended [] s) (ended (line ++ b ∷ []) s)) ≤ suc (length s)
+    by true h k = omega arith
+    by false h k = omega arith
 
-pub ending-line : (basis : Basis) (t : Tail) → (length (t .kept) ≡ 0 → ⊥) → ending basis t ≡ replyAt basis (t .complete + 1) (t .kept)
-ending-line basis t e = simp (ne-eqb _ _ e)
+-- how many end does not depend on the first line's beginning
+pub ended-count : (line other s : List ℕ) → length (ended line s) ≡ length (ended other s)
+unfolding ended
+ended-count line other [] = refl
+ended-count line other (b ∷ s) = by (eqb b 10) (ended-count (line ++ b ∷ []) (other ++ b ∷ []) s)
+  where
+    by : (u : Bool) → length (ended (line ++ b ∷ []) s) ≡ length (ended (other ++ b ∷ []) s) →
+        length (cond u (line ∷ ended [] s) (ended (line ++ b ∷ []) s)) ≡ length (cond u (other ∷ ended [] s) (ended (other ++ b ∷ []) s))
+    by true h = refl
+    by false h = h
+
+-- ---- a line of which only the first 16 bytes are kept
+abbrev pub Alike : List ℕ → List ℕ → Type 0
+Alike line other = take 16 line ≡ take 16 other
+
+cut : (n : ℕ) (line s : List ℕ) → take n (take n line ++ s) ≡ take n (line ++ s)
+cut zero line s = refl
+cut (suc n) [] s = refl
+cut (suc n) (x ∷ line) s = ap (λ r. x ∷ r) (cut n line s)
+
+alike-more : (line other s : List ℕ) → Alike line other → Alike (line ++ s) (other ++ s)
+alike-more line other s h = sym (cut 16 line s) ∙ ap (λ l. take 16 (l ++ s)) h ∙ cut 16 other s
+
+-- they read the same: more than 14 bytes are malformed
+kept-enough : (line : List ℕ) → lineOf line ≡ lineOf (take 16 line)
+kept-enough line = by (ltb 16 (length line)) refl
+  where
+    by : (u : Bool) → ltb 16 (length line) ≡ u → lineOf line ≡ lineOf (take 16 line)
+    by true e =
+        let l = ltb-true 16 (length line) e in
+        let m = length-take-le 16 line (omega arith) in
+        long-malformed line (omega arith) ∙ sym (long-malformed (take 16 line) (omega arith))
+    by false e = ap lineOf (sym (take-all 16 line (ltb-false 16 (length line) e)))
+
+alike-read : (line other : List ℕ) → Alike line other → lineOf line ≡ lineOf other
+alike-read line other h = kept-enough line ∙ ap lineOf h ∙ sym (kept-enough other)
+
+pub alike-unfinished : (line other s : List ℕ) → Alike line other → Alike (unfinished line s) (unfinished other s)
+unfolding unfinished
+alike-unfinished line other [] h = h
+alike-unfinished line other (b ∷ s) h = by (eqb b 10) (alike-unfinished (line ++ b ∷ []) (other ++ b ∷ []) s (alike-more line other (b ∷ []) h))
+  where
+    by : (u : Bool) → Alike (unfinished (line ++ b ∷ []) s) (unfinished (other ++ b ∷ []) s) →
+        Alike (cond u (unfinished [] s) (unfinished (line ++ b ∷ []) s)) (cond u (unfinished [] s) (unfinished (other ++ b ∷ []) s))
+    by true k = refl
+    by false k = k
+
+-- ---- replies
+module _ (basis : Basis) where
+  pub reply-alone : (n : ℕ) (line : List ℕ) → replies basis n (line ∷ []) ≡ replyTo basis n (lineOf line)
+  unfolding replies
+  reply-alone n line = append-nil (replyTo basis n (lineOf line))
+
+  pub no-replies : (n : ℕ) → replies basis n [] ≡ []
+  unfolding replies
+  no-replies n = refl
+
+  pub replies-parts : (n : ℕ) (ls ms : List (List ℕ)) → replies basis n (ls ++ ms) ≡ replies basis n ls ++ replies basis (n + length ls) ms
+  unfolding replies
+  replies-parts n [] ms = let e : n ≡ n + 0 = omega arith in ap (λ k. replies basis k ms) e
+  replies-parts n (l ∷ ls) ms =
+      let e : suc n + length ls ≡ n + suc (length ls) = omega arith in
+      let reply = replyTo basis n (lineOf l) in
+      let rest = replies-parts (suc n) ls ms ∙ ap (λ k. replies basis (suc n) ls ++ replies basis k ms) e in
+      ap (λ r. reply ++ r) rest ∙ sym (append-assoc reply (replies basis (suc n) ls) (replies basis (n + suc (length ls)) ms))
+
+  pub alike-replies : (n : ℕ) (line other s : List ℕ) → Alike line other → replies basis n (ended line s) ≡ replies basis n (ended other s)
+  unfolding ended replies
+  alike-replies n line other [] h = refl
+  alike-replies n line other (b ∷ s) h = by (eqb b 10) (alike-replies n (line ++ b ∷ []) (other ++ b ∷ []) s (alike-more line other (b ∷ []) h))
+    where
+      by : (u : Bool) → replies basis n (ended (line ++ b ∷ []) s) ≡ replies basis n (ended (other ++ b ∷ []) s) →
+          replies basis n (cond u (line ∷ ended [] s) (ended (line ++ b ∷ []) s)) ≡ replies basis n (cond u (other ∷ ended [] s) (ended (other ++ b ∷ []) s))
+      by true k = ap (λ x. replyTo basis n x ++ replies basis (suc n) (ended [] s)) (alike-read line other h)
+      by false k = k
+
+  pub alike-last : (n : ℕ) (line other : List ℕ) → Alike line other → replies basis n (lastLine line) ≡ replies basis n (lastLine other)
+  alike-last n [] [] h = refl
+  alike-last n [] (y ∷ other) h = let e = ap length h in absurd (omega arith)
+  alike-last n (x ∷ line) [] h = let e = ap length h in absurd (omega arith)
+  alike-last n (x ∷ line) (y ∷ other) h =
+      let r : replies basis n ((x ∷ line) ∷ []) ≡ replies basis n ((y ∷ other) ∷ []) =
+      reply-alone n (x ∷ line) ∙ ap (replyTo basis n) (alike-read (x ∷ line) (y ∷ other) h) ∙ sym (reply-alone n (y ∷ other)) in
+      rw (ne-eqb (length (x ∷ line)) 0 (λ z. omega arith), ne-eqb (length (y ∷ other)) 0 (λ z. omega arith)) r
+
+-- ---- what a part leaves: the first 16 bytes of its last line, and how many lines are complete
+pub record Left (line : List ℕ) (n : ℕ) (part line′ : List ℕ) (n′ : ℕ) : Type 0 where
+  pub begun : line′ ≡ take 16 (unfinished line part)
+  pub complete : n′ ≡ n + length (ended line part)
 
 -- ---- Two parts, one after the other, are the whole.
-pub after-parts : (t : Tail) (a b : List ℕ) → after t (a ++ b) ≡ after (after t a) b
-unfolding after
-after-parts t [] b = refl
-after-parts t (x ∷ a) b = after-parts (step t x) a b
+module _ (line : List ℕ) (n : ℕ) (s line′ : List ℕ) (n′ : ℕ) (h : Left line n s line′ n′) (t : List ℕ) where
+  alike : Alike line′ (unfinished line s)
+  alike = ap (take 16) (h .begun) ∙ take-take 16 16 (unfinished line s) (omega arith)
 
-pub sent-parts : (basis : Basis) (t : Tail) (a b : List ℕ) → sent basis t (a ++ b) ≡ sent basis t a ++ sent basis (after t a) b
-unfolding after sent
-sent-parts basis t [] b = refl
-sent-parts basis t (x ∷ a) b = rw (sent-parts basis (step t x) a b) (sym (append-assoc (says basis t x) (sent basis (step t x) a) (sent basis (after (step t x) a) b)))
+  pub left-next : {line″ : List ℕ} {n″ : ℕ} → Left line′ n′ t line″ n″ → Left line n (s ++ t) line″ n″
+  left-next {line″} {n″} k =
+      let e = ap length (ended-parts line s t) ∙ length-append (ended line s) (ended (unfinished line s) t) in
+      record {
+        begun = k .begun ∙ alike-unfinished line′ (unfinished line s) t alike ∙ ap (take 16) (sym (unfinished-parts line s t));
+        complete = omega (arith, h .complete, k .complete, e, ended-count line′ (unfinished line s) t);
+      }
 
--- ---- Any number of parts, cut anywhere.
-abbrev pub joined : List (List ℕ) → List ℕ
-joined [] = []
-joined (p ∷ ps) = p ++ joined ps
-
-abbrev pub after-each : Tail → List (List ℕ) → Tail
-after-each t [] = t
-after-each t (p ∷ ps) = after-each (after t p) ps
-
-abbrev pub sent-each : Basis → Tail → List (List ℕ) → List ℕ
-sent-each basis t [] = []
-sent-each basis t (p ∷ ps) = sent basis t p ++ sent-each basis (after t p) ps
-
-pub after-any : (t : Tail) (ps : List (List ℕ)) → after-each t ps ≡ after t (joined ps)
-unfolding after
-after-any t [] = refl
-after-any t (p ∷ ps) = after-any (after t p) ps ∙ sym (after-parts t p (joined ps))
-
-pub sent-any : (basis : Basis) (t : Tail) (ps : List (List ℕ)) → sent-each basis t ps ≡ sent basis t (joined ps)
-unfolding sent
-sent-any basis t [] = refl
-sent-any basis t (p ∷ ps) = ap (λ r. sent basis t p ++ r) (sent-any basis (after t p) ps) ∙ sym (sent-parts basis t p (joined ps))
-
--- ---- one byte more of a part
-after-one : (t : Tail) (s : List ℕ) (i : ℕ) → i < length s → after t (take (i + 1) s) ≡ step (after t (take i s)) (getD s i 0)
-unfolding after
-after-one t s i h = rw (add-one i, take-suc s i 0 h) (after-parts t (take i s) (getD s i 0 ∷ []))
-
-sent-one : (basis : Basis) (t : Tail) (s : List ℕ) (i : ℕ) → i < length s → sent basis t (take (i + 1) s) ≡ sent basis t (take i s) ++ says basis (after t (take i s)) (getD s i 0)
-unfolding sent
-sent-one basis t s i h = rw (add-one i, take-suc s i 0 h) (sent-parts basis t (take i s) (getD s i 0 ∷ []) ∙ ap (λ r. sent basis t (take i s) ++ r) (append-nil (says basis (after t (take i s)) (getD s i 0))))
-
--- ---- what holds after i bytes of a part
-pub record SoFar (basis : Basis) (part first : List ℕ) (s : Pending) (out : List ℕ) (pending : Pending) (at i : ℕ) : Type 0 where
-  pub within : i ≤ length part
-  pub state : tailOf pending ≡ after (tailOf s) (take i part)
-  pub put : Put first 0 (sent basis (tailOf s) (take i part)) out at
-  pub most : at ≤ 192 * i
-  pub sound : Sound pending
-  pub lines : pending .complete ≤ s .complete + i
-
-module _ (basis : Basis) (part first : List ℕ) (s : Pending) where
-  pub begins : Sound s → SoFar basis part first s first s 0 0
-  unfolding after sent
-  begins h = record {
-    within = omega arith;
-    state = refl;
-    put = nothing first 0 (omega arith);
-    most = omega arith;
-    sound = h;
-    lines = omega arith;
-  }
-
-  module _ (out : List ℕ) (pending : Pending) (at i : ℕ) (h : SoFar basis part first s out pending at i) where
-    pub turns : i < length part → (out′ : List ℕ) (l : Pending) (at′ : ℕ) → tailOf l ≡ step (tailOf pending) (getD part i 0) →
-        Put out at (says basis (tailOf pending) (getD part i 0)) out′ at′ → at′ ≤ at + 192 → Sound l → l .complete ≤ pending .complete + 1 →
-        SoFar basis part first s out′ l at′ (i + 1)
-    turns lt out′ l at′ e p m d n = record {
-      within = omega arith;
-      state = e ∙ ap (λ t. step t (getD part i 0)) (h .state) ∙ sym (after-one (tailOf s) part i lt);
-      put = being (ap (λ t. sent basis (tailOf s) (take i part) ++ says basis t (getD part i 0)) (h .state) ∙ sym (sent-one basis (tailOf s) part i lt)) refl (then (h .put) p);
-      most = omega (arith, h .most);
-      sound = d;
-      lines = omega (arith, h .lines);
-    }
-
-    pub ends-state : length part ≤ i → tailOf pending ≡ after (tailOf s) part
-    ends-state le = h .state ∙ ap (after (tailOf s)) (take-all i part le)
-
-    pub ends-put : length part ≤ i → Put first 0 (sent basis (tailOf s) part) out at
-    ends-put le = being (ap (sent basis (tailOf s)) (take-all i part le)) refl (h .put)
+  pub said-next : (basis : Basis) → replies basis (n + 1) (ended line s) ++ replies basis (n′ + 1) (ended line′ t) ≡ replies basis (n + 1) (ended line (s ++ t))
+  said-next basis =
+      let m : n′ + 1 ≡ n + 1 + length (ended line s) = omega (arith, h .complete) in
+      let second = ap (λ k. replies basis k (ended line′ t)) m ∙ alike-replies basis (n + 1 + length (ended line s)) line′ (unfinished line s) t alike in
+      let both = replies-parts basis (n + 1) (ended line s) (ended (unfinished line s) t) in
+      ap (λ r. replies basis (n + 1) (ended line s) ++ r) second ∙ sym both ∙ ap (replies basis (n + 1)) (sym (ended-parts line s t))

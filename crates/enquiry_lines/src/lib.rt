@@ -1,5 +1,7 @@
 // The points program's text: the opening line by the basis file, and the input answered line by line as it comes in
 // parts.
+use basis::Check;
+
 pub mod lines;
 pub mod open_basis;
 
@@ -17,8 +19,8 @@ pub struct Fed {
     pub at: usize,
 }
 
-// What the basis file leaves: whether it was accepted, and the place behind the opening line.
+// What the basis file leaves: its check, and the place behind the opening line.
 pub struct Opening {
-    pub accepted: bool,
+    pub check: Check,
     pub at: usize,
 }

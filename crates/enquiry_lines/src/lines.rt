@@ -1,25 +1,26 @@
 // A text that comes in parts, answered line by line on an accepted data run. The caller gives room for 192 bytes of
 // reply to each byte of a part: an empty line is one byte.
 ghost use mathlib.Core.Path.{_≡_};
-ghost use mathlib.Core.List.{[]};
+ghost use mathlib.Core.List.{[], _∷_};
 ghost use Prim.Native.Nat.{_+_, _*_, _≤_, _<_};
-ghost use lib.ListN.{length};
+ghost use lib.ListN.{length, take};
 ghost use Rattle.basis.specs.Basis.{basisOf, Accepted};
-ghost use Rattle.enquiry_text.specs.Put.{Put};
-ghost use Rattle.enquiry_lines.specs.Lines.{replyAt};
-ghost use Rattle.enquiry_lines.specs.Parts.{start, tailOf, step, says, after, sent, ending, Sound, Bounds};
+ghost use Rattle.enquiry_text.specs.Line.{lineOf};
+ghost use Rattle.reply_text.specs.Inner.Put.{Put};
+ghost use Rattle.enquiry_lines.specs.Lines.{ended, unfinished, lastLine, replyTo, replies};
+ghost use Rattle.enquiry_lines.specs.Inner.State.{kept, Sound};
 use crate::Fed;
 use crate::Pending;
 use basis::Refusal;
 use enquiry_text::Line;
 use enquiry_text::parse;
-use enquiry_text::reply;
+use reply_text::reply;
 
 // The reply to a line by its number from 1.
 fn put_line(run: &[u8], out: &mut [u8], at: usize, number: u64, text: &[u8]) -> usize
     requires { ⌜ Accepted (now run) ⌝ }
     requires { ⌜ at + 192 ≤ length (now out) ⌝ }
-    ensures { λ r. ⌜ Put (now (out .entry)) at (replyAt (basisOf (now (run .entry))) number (now (text .entry))) (now (out .exit)) r ⌝ }
+    ensures { λ r. ⌜ Put (now (out .entry)) at (replyTo (basisOf (now (run .entry))) number (lineOf (now (text .entry)))) (now (out .exit)) r ⌝ }
     ensures { λ r. ⌜ r ≤ at + 192 ⌝ }
 {
     match parse::parse_line(text) {
@@ -44,9 +45,10 @@ fn feed_byte(run: &[u8], s: Pending, b: u8, out: &mut [u8], at: usize) -> Fed
     requires { ⌜ at + 192 ≤ length (now out) ⌝ }
     requires { ⌜ Sound s ⌝ }
     requires { ⌜ s .complete + 1 < 18446744073709551616 ⌝ }
-    ensures { λ r. ⌜ tailOf (r .pending) ≡ step (tailOf s) b ⌝ }
-    ensures { λ r. ⌜ Put (now (out .entry)) at (says (basisOf (now (run .entry))) (tailOf s) b) (now (out .exit)) (r .at) ⌝ }
-    ensures { λ r. ⌜ (r .at ≤ at + 192) × (Sound (r .pending)) × (r .pending .complete ≤ s .complete + 1) ⌝ }
+    ensures { λ r. ⌜ kept (r .pending) ≡ take 16 (unfinished (kept s) (b ∷ [])) ⌝ }
+    ensures { λ r. ⌜ r .pending .complete ≡ s .complete + length (ended (kept s) (b ∷ [])) ⌝ }
+    ensures { λ r. ⌜ Put (now (out .entry)) at (replies (basisOf (now (run .entry))) (s .complete + 1) (ended (kept s) (b ∷ []))) (now (out .exit)) (r .at) ⌝ }
+    ensures { λ r. ⌜ (Sound (r .pending)) × (r .at ≤ at + 192) ⌝ }
 {
     let len = s.len;
     let mut bytes = s.bytes;
@@ -77,7 +79,8 @@ fn feed_byte(run: &[u8], s: Pending, b: u8, out: &mut [u8], at: usize) -> Fed
 
 // Nothing read yet.
 pub fn begin() -> Pending
-    ensures { λ r. ⌜ tailOf r ≡ start ⌝ }
+    ensures { λ r. ⌜ kept r ≡ [] ⌝ }
+    ensures { λ r. ⌜ r .complete ≡ 0 ⌝ }
     ensures { λ r. ⌜ Sound r ⌝ }
 {
     Pending {
@@ -93,9 +96,10 @@ pub fn feed(run: &[u8], s: Pending, part: &[u8], out: &mut [u8]) -> Fed
     requires { ⌜ 192 * length (now part) ≤ length (now out) ⌝ }
     requires { ⌜ Sound s ⌝ }
     requires { ⌜ s .complete + length (now part) < 18446744073709551616 ⌝ }
-    ensures { λ r. ⌜ tailOf (r .pending) ≡ after (tailOf s) (now (part .entry)) ⌝ }
-    ensures { λ r. ⌜ Put (now (out .entry)) 0 (sent (basisOf (now (run .entry))) (tailOf s) (now (part .entry))) (now (out .exit)) (r .at) ⌝ }
-    ensures { λ r. ⌜ Bounds (s .complete) (length (now (part .entry))) r ⌝ }
+    ensures { λ r. ⌜ kept (r .pending) ≡ take 16 (unfinished (kept s) (now (part .entry))) ⌝ }
+    ensures { λ r. ⌜ r .pending .complete ≡ s .complete + length (ended (kept s) (now (part .entry))) ⌝ }
+    ensures { λ r. ⌜ Put (now (out .entry)) 0 (replies (basisOf (now (run .entry))) (s .complete + 1) (ended (kept s) (now (part .entry)))) (now (out .exit)) (r .at) ⌝ }
+    ensures { λ r. ⌜ (Sound (r .pending)) × (r .at ≤ 192 * length (now (part .entry))) × (r .pending .complete ≤ s .complete + length (now (part .entry))) ⌝ }
 {
     let mut pending = s;
     let mut at: usize = 0;
@@ -119,7 +123,7 @@ pub fn finish(run: &[u8], s: Pending, out: &mut [u8]) -> usize
     requires { ⌜ 192 ≤ length (now out) ⌝ }
     requires { ⌜ Sound s ⌝ }
     requires { ⌜ s .complete + 1 < 18446744073709551616 ⌝ }
-    ensures { λ r. ⌜ Put (now (out .entry)) 0 (ending (basisOf (now (run .entry))) (tailOf s)) (now (out .exit)) r ⌝ }
+    ensures { λ r. ⌜ Put (now (out .entry)) 0 (replies (basisOf (now (run .entry))) (s .complete + 1) (lastLine (kept s))) (now (out .exit)) r ⌝ }
 {
     let len = s.len;
     if len == 0 {

@@ -1,36 +1,37 @@
 // The basis file read, and the first line of the output: the header, or the refusal that stands alone.
 ghost use mathlib.Core.Path.{_≡_};
+ghost use mathlib.Core.List.{[]};
 ghost use Prim.Native.Nat.{_≤_};
 ghost use lib.ListN.{length};
 ghost use Rattle.lent.specs.Lent.{written};
 ghost use Rattle.basis_file.specs.File.{fileCheck, runIn};
-ghost use Rattle.enquiry_text.specs.Put.{Put};
-ghost use Rattle.enquiry_lines.specs.Output.{isPassed, openingOf};
+ghost use Rattle.reply_text.specs.Inner.Put.{Put};
+ghost use Rattle.enquiry_lines.specs.Output.{printed};
 use crate::Opening;
 use basis::Check;
 use basis_file::read;
-use enquiry_text::reply;
+use reply_text::reply;
 
 // Reads the file's data run into `run`, and puts the opening line at the start of `out`.
 pub fn open_file(file: &[u8], run: &mut [u8], out: &mut [u8]) -> Opening
     requires { ⌜ length (now run) ≡ 4554 ⌝ }
     requires { ⌜ 192 ≤ length (now out) ⌝ }
-    ensures { λ r. ⌜ r .accepted ≡ isPassed (fileCheck (now (file .entry))) ⌝ }
+    ensures { λ r. ⌜ r .check ≡ fileCheck (now (file .entry)) ⌝ }
     ensures { λ r. ⌜ now (run .exit) ≡ written (fileCheck (now (file .entry))) (runIn (now (file .entry))) (now (run .entry)) ⌝ }
-    ensures { λ r. ⌜ Put (now (out .entry)) 0 (openingOf (fileCheck (now (file .entry)))) (now (out .exit)) (r .at) ⌝ }
+    ensures { λ r. ⌜ Put (now (out .entry)) 0 (printed (fileCheck (now (file .entry))) []) (now (out .exit)) (r .at) ⌝ }
 {
     match read::read_file(file, run) {
         Check::Passed => {
             let at = reply::put_header(out, 0);
             Opening {
-                accepted: true,
+                check: Check::Passed,
                 at: at,
             }
         }
         Check::Refused(x) => {
             let at = reply::put_refusal(out, 0, x);
             Opening {
-                accepted: false,
+                check: Check::Refused(x),
                 at: at,
             }
         }

@@ -6,16 +6,18 @@ use mathlib.Core.List.{List, [], _∷_, _++_, append-assoc, append-nil}
 use native.Mathlib.Omega.{arith}
 use lib.Dec.{ltb, eqb}
 use lib.ListN.{length, length-append}
-use borrow.Author.Tests.{eq-eqb, le-ltb, ltb-false, eqb-true}
+use borrow.Author.Tests.{eq-eqb, ne-eqb, le-ltb, ltb-false, eqb-true}
 use Rattle.model_points.specs.declared.Question.{Question}
-use Rattle.enquiry_text.specs.Line.{glue, words, digitsFrom, isPadded, numberOf, enquiryOf, three, lineOf}
-use Rattle.enquiry_text.specs.Decimal.{digits, placesFrom, digitsOf}
-use Rattle.enquiry_text.specs.Reply.{questionText, FourDigits}
+use Rattle.reply_text.specs.Decimal.{digits, placesFrom, digitsOf}
+use Rattle.reply_text.specs.Reply.{questionText}
+use Rattle.reply_text.proofs.Numerals.{ten, places-exact}
+use Rattle.enquiry_text.specs.Line.{wordsFrom, digitsFrom, isPadded, numberOf, enquiryOf, lineOf}
 use Rattle.enquiry_text.specs.declared.Word.{Word}
 use Rattle.enquiry_text.specs.declared.Word.the-variants.{Number, Other}
 use Rattle.enquiry_text.specs.declared.Line.{Line}
 use Rattle.enquiry_text.specs.declared.Line.the-variants.{Enquiry, Malformed}
-use Rattle.enquiry_text.proofs.Numerals.{ten, places-exact}
+use Rattle.enquiry_text.proofs.Words.{three, line-is, words-some}
+use Rattle.enquiry_text.proofs.Back.{FourDigits}
 
 -- ---- a word that is a number
 never : (n : ℕ) → Other ≡ Number n → ⊥
@@ -85,21 +87,24 @@ first a w h l e = let z : true ≡ false = sym (simp (le-ltb (suc (length w)) 2 
 low : (a : ℕ) (w : List ℕ) → 48 ≤ a → isPadded (a ∷ w) ≡ false → 0 < length w → ten 0 ≤ 10 * 0 + (a - 48)
 low a w l h z = let ne = first a w h z in omega arith
 
-number-printed : (w : List ℕ) (n : ℕ) → numberOf w ≡ Number n → (n < 10000) × (w ≡ digitsOf n)
+number-printed : (w : List ℕ) (n : ℕ) → numberOf w ≡ Number n → (n < 10000) × (w ≡ digitsOf n) × (length w ≤ 4)
 unfolding numberOf digitsOf digits
 number-printed [] n h = absurd (never n h)
 number-printed (a ∷ w) n h =
-    let u = unless (eqb (suc (length w)) 0) (cond (ltb 4 (suc (length w))) Other (cond (isPadded (a ∷ w)) Other (digitsFrom 0 (a ∷ w)))) n h in
-    let x = unless (ltb 4 (suc (length w))) (cond (isPadded (a ∷ w)) Other (digitsFrom 0 (a ∷ w))) n (u .1) in
+    let k = length w in
+    let read = cond (isPadded (a ∷ w)) Other (digitsFrom 0 (a ∷ w)) in
+    let u = unless (eqb (suc k) 0) (cond (ltb 4 (suc k)) Other read) n h in
+    let x = unless (ltb 4 (suc k)) read n (u .1) in
     let y = unless (isPadded (a ∷ w)) (digitsFrom 0 (a ∷ w)) n (x .1) in
-    let l : length w < 4 = omega (arith, ltb-false 4 (suc (length w)) (x .0)) in
+    let l : suc k ≤ 4 = ltb-false 4 (suc k) (x .0) in
     let g = digit-is 0 a w n (y .1) in
-    let e : suc (length w) + 0 ≡ suc (length w) = omega arith in
-    let f : length w + 0 ≡ length w = omega arith in
-    let hi : n < ten (suc (length w)) = rw e at (most (a ∷ w) 0 0 n (y .1) (omega arith)) in
-    let lo : 0 < length w → ten (length w) ≤ n = (λ z. rw f at (least w (10 * 0 + (a - 48)) 0 n (g .more) (low a w (g .low) (y .0) z))) in
-    let p : placesFrom 19 n ≡ suc (length w) = places-exact 19 (length w) n (omega arith) lo hi in
-    (omega (arith, hi, ten-four (length w) l), sym (ap (λ k. digits k n) p ∙ ap (λ k. digits k n) (sym e) ∙ spell (a ∷ w) 0 0 n (y .1)))
+    let e : suc k + 0 ≡ suc k = omega arith in
+    let f : k + 0 ≡ k = omega arith in
+    let hi : n < ten (suc k) = rw e at (most (a ∷ w) 0 0 n (y .1) (omega arith)) in
+    let lo : 0 < k → ten k ≤ n = (λ z. rw f at (least w (10 * 0 + (a - 48)) 0 n (g .more) (low a w (g .low) (y .0) z))) in
+    let p : placesFrom 19 n ≡ suc k = places-exact 19 k n (omega arith) lo hi in
+    let spelt = ap (λ k. digits k n) (p ∙ sym e) ∙ spell (a ∷ w) 0 0 n (y .1) in
+    (omega (arith, hi, ten-four k (omega arith)), sym spelt, l)
 
 -- ---- words with single spaces between
 abbrev joined : List (List ℕ) → List ℕ
@@ -107,31 +112,20 @@ joined [] = []
 joined (w ∷ []) = w
 joined (w ∷ v ∷ ws) = w ++ 32 ∷ joined (v ∷ ws)
 
-cons-nil : (w : List ℕ) (ws : List (List ℕ)) → w ∷ ws ≡ [] → ⊥
-cons-nil w ws e = let z : _≡_ {A = ℕ} 0 1 = cc in omega arith
-
-some : (s : List ℕ) → words s ≡ [] → ⊥
-unfolding words
-some [] e = cons-nil [] [] e
-some (b ∷ s) e = by (eqb b 32) (words s) e
-  where
-    by : (t : Bool) (ws : List (List ℕ)) → cond t ([] ∷ ws) (glue b ws) ≡ [] → ⊥
-    by true ws e = cons-nil [] ws e
-    by false [] e = cons-nil (b ∷ []) [] e
-    by false (w ∷ ws) e = cons-nil (b ∷ w) ws e
+joined-more : (w : List ℕ) (ws : List (List ℕ)) → 1 ≤ length ws → joined (w ∷ ws) ≡ w ++ 32 ∷ joined ws
+joined-more w [] h = absurd (omega arith)
+joined-more w (v ∷ ws) h = refl
 
 -- the words of a text make it up again
-joined-words : (s : List ℕ) → joined (words s) ≡ s
-unfolding words
-joined-words [] = refl
-joined-words (b ∷ s) = by (eqb b 32) (words s) refl (some s) (joined-words s)
+joined-words : (w s : List ℕ) → joined (wordsFrom w s) ≡ w ++ s
+unfolding wordsFrom
+joined-words w [] = sym (append-nil w)
+joined-words w (b ∷ s) = by (eqb b 32) refl (joined-words [] s) (joined-words (w ++ b ∷ []) s)
   where
-    by : (t : Bool) (ws : List (List ℕ)) → eqb b 32 ≡ t → (ws ≡ [] → ⊥) → joined ws ≡ s → joined (cond t ([] ∷ ws) (glue b ws)) ≡ b ∷ s
-    by true [] e n h = absurd (n refl)
-    by true (w ∷ ws) e n h = rw (eqb-true b 32 e) (ap (λ r. 32 ∷ r) h)
-    by false [] e n h = absurd (n refl)
-    by false (w ∷ []) e n h = ap (λ r. b ∷ r) h
-    by false (w ∷ v ∷ ws) e n h = ap (λ r. b ∷ r) h
+    by : (t : Bool) → eqb b 32 ≡ t → joined (wordsFrom [] s) ≡ s → joined (wordsFrom (w ++ b ∷ []) s) ≡ (w ++ b ∷ []) ++ s →
+        joined (cond t (w ∷ wordsFrom [] s) (wordsFrom (w ++ b ∷ []) s)) ≡ w ++ b ∷ s
+    by true e h k = rw (eqb-true b 32 e) (joined-more w (wordsFrom [] s) (words-some [] s) ∙ ap (λ r. w ++ 32 ∷ r) h)
+    by false e h k = k ∙ append-assoc w (b ∷ []) s
 
 wrong : (q : Question) → Malformed ≡ Enquiry q → ⊥
 wrong q p = let z : _≡_ {A = ℕ} 0 1 = cc in omega arith
@@ -149,7 +143,12 @@ numbers (Number a) (Number b) Other q h = absurd (wrong q h)
 numbers (Number a) Other z q h = absurd (wrong q h)
 numbers Other y z q h = absurd (wrong q h)
 
-printed-words : (ws : List (List ℕ)) (q : Question) → three ws ≡ Enquiry q → (joined ws ≡ questionText q) × FourDigits q
+pub record Printed (text : List ℕ) (q : Question) : Type 0 where
+  pub printed : text ≡ questionText q
+  pub digits : FourDigits q
+  pub short : length text ≤ 14
+
+printed-words : (ws : List (List ℕ)) (q : Question) → three ws ≡ Enquiry q → Printed (joined ws) q
 unfolding questionText
 printed-words [] q h = absurd (wrong q h)
 printed-words (a ∷ []) q h = absurd (wrong q h)
@@ -159,38 +158,21 @@ printed-words (a ∷ b ∷ c ∷ []) q h =
     let x = number-printed a (q .age) (n .age) in
     let y = number-printed b (q .deferment) (n .deferment) in
     let z = number-printed c (q .year) (n .year) in
-    (rw (append-assoc, ← x .1, ← y .1, ← z .1) refl, record { age = x .0; deferment = y .0; year = z .0 })
-printed-words (a ∷ b ∷ c ∷ d ∷ ws) q h = absurd (wrong q h)
+    record {
+      printed = rw (← x .1, ← y .1, ← z .1) (simp append-assoc);
+      digits = record { age = x .0; deferment = y .0; year = z .0 };
+      short = simp length-append (omega (arith, x .2, y .2, z .2));
+    }
+printed-words (a ∷ b ∷ c ∷ d ∷ ws) q h = absurd (wrong q (rw (ne-eqb (length (a ∷ b ∷ c ∷ d ∷ ws)) 3 (λ z. omega arith)) at h))
 
--- A line that reads as an enquiry is its question, printed, and four digits hold each of its numbers.
-pub enquiry-printed : (text : List ℕ) (q : Question) → lineOf text ≡ Enquiry q → (text ≡ questionText q) × FourDigits q
-unfolding lineOf
-enquiry-printed text q h = let r = printed-words (words text) q h in (sym (joined-words text) ∙ r .0, r .1)
-
-number-short : (w : List ℕ) (n : ℕ) → numberOf w ≡ Number n → length w ≤ 4
-unfolding numberOf
-number-short w n h =
-    let u = unless (eqb (length w) 0) (cond (ltb 4 (length w)) Other (cond (isPadded w) Other (digitsFrom 0 w))) n h in
-    let x = unless (ltb 4 (length w)) (cond (isPadded w) Other (digitsFrom 0 w)) n (u .1) in
-    ltb-false 4 (length w) (x .0)
-
-short-words : (ws : List (List ℕ)) (q : Question) → three ws ≡ Enquiry q → length (joined ws) ≤ 14
-short-words [] q h = absurd (wrong q h)
-short-words (a ∷ []) q h = absurd (wrong q h)
-short-words (a ∷ b ∷ []) q h = absurd (wrong q h)
-short-words (a ∷ b ∷ c ∷ []) q h =
-    let n = numbers (numberOf a) (numberOf b) (numberOf c) q h in
-    simp length-append (omega (arith, number-short a (q .age) (n .age), number-short b (q .deferment) (n .deferment), number-short c (q .year) (n .year)))
-short-words (a ∷ b ∷ c ∷ d ∷ ws) q h = absurd (wrong q h)
-
-short : (text : List ℕ) (q : Question) → lineOf text ≡ Enquiry q → length text ≤ 14
-unfolding lineOf
-short text q h = rw (ap length (joined-words text)) at (short-words (words text) q h)
+-- A line that reads as an enquiry is its question, printed, and four digits hold each of its numbers: at most 14 bytes.
+pub enquiry-printed : (text : List ℕ) (q : Question) → lineOf text ≡ Enquiry q → Printed text q
+enquiry-printed text q h = rw (joined-words [] text) at (printed-words (wordsFrom [] text) q (line-is text ∙ h))
 
 -- A line of more than 14 bytes is malformed.
 pub long-malformed : (text : List ℕ) → 14 < length text → lineOf text ≡ Malformed
 long-malformed text l = by (lineOf text) refl
   where
     by : (p : Line) → lineOf text ≡ p → p ≡ Malformed
-    by (Enquiry q) h = absurd (omega (arith, short text q h))
+    by (Enquiry q) h = absurd (omega (arith, enquiry-printed text q h .short))
     by Malformed h = refl

@@ -2,46 +2,49 @@
 use Prim.Native.Nat.{ℕ, zero, suc, _+_, _*_, _-_, _≤_, _<_}
 use mathlib.Core.Path.{_≡_, refl, ap, sym, _∙_}
 use mathlib.Core.Bool.{Bool, true, false, cond}
-use mathlib.Core.List.{List, [], _∷_}
+use mathlib.Core.List.{List, [], _∷_, _++_}
 use native.Mathlib.Omega.{arith}
 use native.Mathlib.Numerals.{add-one}
-use lib.Dec.{eqb}
-use lib.ListN.{length, getD, take, drop, length-drop}
-use lib.Seq.{drop-cons, take-all}
+use lib.Dec.{ltb, eqb}
+use lib.ListN.{length, getD, take, drop, length-drop, drop-of-length-le}
+use lib.Seq.{drop-cons, take-suc, take-all}
 use borrow.Author.Tests.{eq-eqb, ne-eqb, lt-ltb, le-ltb}
-use Rattle.enquiry_text.specs.Line.{glue, words, digitsFrom, spaceAt, three, lineOf, enquiryOf, numberOf}
+use Rattle.enquiry_text.specs.Line.{wordsFrom, digitsFrom, numberOf, enquiryOf, lineOf}
 use Rattle.enquiry_text.specs.declared.Word.the-variants.{Number, Other}
+use Rattle.enquiry_text.specs.declared.Line.{Line}
 use Rattle.enquiry_text.specs.declared.Line.the-variants.{Malformed}
 
--- ---- the first space
-pub space-here : (s : List ℕ) (i : ℕ) → i < length s → getD s i 0 ≡ 32 → spaceAt (drop i s) ≡ 0
-unfolding spaceAt
-space-here s i h e = rw (drop-cons s i 0) (simp (eq-eqb _ _ e))
+-- ---- the first word, of which i bytes are passed: a space, another byte, or the end
+module _ (s : List ℕ) (i : ℕ) where
+  pub ends-here : i < length s → getD s i 0 ≡ 32 → wordsFrom (take i s) (drop i s) ≡ take i s ∷ wordsFrom [] (drop (i + 1) s)
+  unfolding wordsFrom
+  ends-here h e = rw (drop-cons s i 0 h, add-one i) (simp (eq-eqb _ _ e))
 
-pub space-later : (s : List ℕ) (i : ℕ) → i < length s → (getD s i 0 ≡ 32 → ⊥) → spaceAt (drop i s) ≡ suc (spaceAt (drop (suc i) s))
-unfolding spaceAt
-space-later s i h e = rw (drop-cons s i 0) (simp (ne-eqb _ _ e))
+  pub goes-on : i < length s → (getD s i 0 ≡ 32 → ⊥) → wordsFrom (take (i + 1) s) (drop (i + 1) s) ≡ wordsFrom (take i s) (drop i s)
+  unfolding wordsFrom
+  goes-on h e = rw (drop-cons s i 0 h, add-one i, take-suc s i 0 h) (simp (ne-eqb _ _ e))
 
-pub space-none : spaceAt [] ≡ 0
-unfolding spaceAt
-space-none = refl
+  pub is-last : length s ≤ i → wordsFrom (take i s) (drop i s) ≡ take i s ∷ []
+  unfolding wordsFrom
+  is-last h = rw (drop-of-length-le s {i = i} h) refl
 
 -- ---- digits
-pub digit-low : (v : ℕ) (w : List ℕ) (i : ℕ) → i < length w → getD w i 0 < 48 → digitsFrom v (drop i w) ≡ Other
-unfolding digitsFrom
-digit-low v w i h e = rw (drop-cons w i 0) (simp (lt-ltb _ _ e))
+module _ (v : ℕ) (w : List ℕ) (i : ℕ) where
+  pub digit-low : i < length w → getD w i 0 < 48 → digitsFrom v (drop i w) ≡ Other
+  unfolding digitsFrom
+  digit-low h e = rw (drop-cons w i 0) (simp (lt-ltb _ _ e))
 
-pub digit-high : (v : ℕ) (w : List ℕ) (i : ℕ) → i < length w → 48 ≤ getD w i 0 → 57 < getD w i 0 → digitsFrom v (drop i w) ≡ Other
-unfolding digitsFrom
-digit-high v w i h e f = rw (drop-cons w i 0) (simp (le-ltb _ _ e, lt-ltb _ _ f))
+  pub digit-high : i < length w → 48 ≤ getD w i 0 → 57 < getD w i 0 → digitsFrom v (drop i w) ≡ Other
+  unfolding digitsFrom
+  digit-high h e f = rw (drop-cons w i 0) (simp (le-ltb _ _ e, lt-ltb _ _ f))
 
-pub digit-next : (v : ℕ) (w : List ℕ) (i : ℕ) → i < length w → 48 ≤ getD w i 0 → getD w i 0 ≤ 57 → digitsFrom v (drop i w) ≡ digitsFrom (10 * v + (getD w i 0 - 48)) (drop (suc i) w)
-unfolding digitsFrom
-digit-next v w i h e f = rw (drop-cons w i 0) (simp (le-ltb _ _ e, le-ltb _ _ f))
+  pub digit-next : i < length w → 48 ≤ getD w i 0 → getD w i 0 ≤ 57 → digitsFrom v (drop i w) ≡ digitsFrom (10 * v + (getD w i 0 - 48)) (drop (suc i) w)
+  unfolding digitsFrom
+  digit-next h e f = rw (drop-cons w i 0) (simp (le-ltb _ _ e, le-ltb _ _ f))
 
-pub digits-end : (v : ℕ) → digitsFrom v [] ≡ Number v
-unfolding digitsFrom
-digits-end v = refl
+  pub digits-end : length w ≤ i → digitsFrom v (drop i w) ≡ Number v
+  unfolding digitsFrom
+  digits-end h = rw (drop-of-length-le w {i = i} h) refl
 
 -- what i digits come to, at most
 abbrev pub most : ℕ → ℕ
@@ -55,67 +58,66 @@ most-four (suc (suc zero)) h = omega arith
 most-four (suc (suc (suc zero))) h = omega arith
 most-four (suc (suc (suc (suc i)))) h = absurd (omega arith)
 
--- ---- words, cut at the first space
-cut : (s : List ℕ) → spaceAt s < length s → words s ≡ take (spaceAt s) s ∷ words (drop (suc (spaceAt s)) s)
-unfolding spaceAt words
-cut [] h = absurd (omega arith)
-cut (b ∷ s) h = by (eqb b 32) h (cut s)
-  where
-    by : (t : Bool) → cond t 0 (suc (spaceAt s)) < suc (length s) → (spaceAt s < length s → words s ≡ take (spaceAt s) s ∷ words (drop (suc (spaceAt s)) s)) →
-        cond t ([] ∷ words s) (glue b (words s)) ≡ take (cond t 0 (suc (spaceAt s))) (b ∷ s) ∷ words (drop (cond t 0 (suc (spaceAt s))) s)
-    by true h k = refl
-    by false h k = rw (k (omega arith)) refl
+-- ---- a text whose first word is its first r bytes
+abbrev pub First : List ℕ → ℕ → Type 0
+First s r = wordsFrom [] s ≡ take r s ∷ cond (ltb r (length s)) (wordsFrom [] (drop (r + 1) s)) []
 
-uncut : (s : List ℕ) → spaceAt s ≡ length s → words s ≡ s ∷ []
-unfolding spaceAt words
-uncut [] h = refl
-uncut (b ∷ s) h = by (eqb b 32) h (uncut s)
-  where
-    by : (t : Bool) → cond t 0 (suc (spaceAt s)) ≡ suc (length s) → (spaceAt s ≡ length s → words s ≡ s ∷ []) →
-        cond t ([] ∷ words s) (glue b (words s)) ≡ (b ∷ s) ∷ []
-    by true h k = absurd (omega arith)
-    by false h k = rw (k (omega arith)) refl
-
--- what follows a place, as `&s[a + 1..]` reads
+-- what follows a place, as `&s[r + 1..]` reads
 abbrev pub rest : List ℕ → ℕ → List ℕ
-rest s a = take (length s - (a + 1)) (drop (a + 1) s)
+rest s r = take (length s - (r + 1)) (drop (r + 1) s)
 
-rest-is : (s : List ℕ) (a : ℕ) → rest s a ≡ drop (suc a) s
-rest-is s a = take-all (length s - (a + 1)) (drop (a + 1) s) (rw length-drop (omega arith)) ∙ ap (λ k. drop k s) (add-one a)
+rest-is : (s : List ℕ) (r : ℕ) → rest s r ≡ drop (r + 1) s
+rest-is s r = take-all (length s - (r + 1)) (drop (r + 1) s) (rw length-drop (omega arith))
 
-next : (s : List ℕ) (a : ℕ) → a ≡ spaceAt s → a < length s → words s ≡ take a s ∷ words (rest s a)
-next s a e f = rw (rest-is s a, e) (cut s (omega arith))
+module _ (s : List ℕ) (r : ℕ) (e : First s r) where
+  more : r < length s → wordsFrom [] s ≡ take r s ∷ wordsFrom [] (rest s r)
+  more h = rw (rest-is s r) (e ∙ ap (λ b. take r s ∷ cond b (wordsFrom [] (drop (r + 1) s)) []) (lt-ltb r (length s) h))
 
--- a fourth word is one too many
-many : (a d y s : List ℕ) → Malformed ≡ three (a ∷ d ∷ y ∷ words s)
-unfolding words
-many a d y [] = refl
-many a d y (x ∷ s) = by (eqb x 32) (words s)
+  alone : r ≡ length s → wordsFrom [] s ≡ s ∷ []
+  alone h =
+      let whole : take r s ≡ s = take-all r s (omega arith) in
+      e ∙ ap (λ b. take r s ∷ cond b (wordsFrom [] (drop (r + 1) s)) []) (le-ltb r (length s) (omega arith)) ∙ ap (λ w. w ∷ []) whole
+
+-- ---- a line by its words: one, two, three, more
+abbrev pub three : List (List ℕ) → Line
+three w = cond (eqb (length w) 3) (enquiryOf (numberOf (getD w 0 [])) (numberOf (getD w 1 [])) (numberOf (getD w 2 []))) Malformed
+
+pub line-is : (s : List ℕ) → three (wordsFrom [] s) ≡ lineOf s
+unfolding lineOf
+line-is s = refl
+
+pub words-some : (w s : List ℕ) → 1 ≤ length (wordsFrom w s)
+unfolding wordsFrom
+words-some w [] = omega arith
+words-some w (b ∷ s) = by (eqb b 32) (words-some [] s) (words-some (w ++ b ∷ []) s)
   where
-    by : (t : Bool) (ws : List (List ℕ)) → Malformed ≡ three (a ∷ d ∷ y ∷ cond t ([] ∷ ws) (glue x ws))
-    by true ws = refl
-    by false [] = refl
-    by false (w ∷ ws) = refl
+    by : (t : Bool) → 1 ≤ length (wordsFrom [] s) → 1 ≤ length (wordsFrom (w ++ b ∷ []) s) →
+        1 ≤ length (cond t (w ∷ wordsFrom [] s) (wordsFrom (w ++ b ∷ []) s))
+    by true h k = omega arith
+    by false h k = k
 
--- ---- a line by its spaces: none, one, more than two, two
-module _ (s : List ℕ) (a : ℕ) (e : a ≡ spaceAt s) where
-  pub no-space : a ≡ length s → Malformed ≡ lineOf s
-  unfolding lineOf
-  no-space f = ap three (sym (uncut s (sym e ∙ f)))
+many : (a d y s : List ℕ) → three (a ∷ d ∷ y ∷ wordsFrom [] s) ≡ Malformed
+many a d y s = let h = words-some [] s in simp (ne-eqb (length (a ∷ d ∷ y ∷ wordsFrom [] s)) 3 (λ z. omega arith))
 
-  module _ (l : a < length s) (d : ℕ) (g : d ≡ spaceAt (rest s a)) where
-    pub one-space : d ≡ length (rest s a) → Malformed ≡ lineOf s
-    unfolding lineOf
-    one-space f = ap three (sym (next s a e l ∙ ap (λ ws. take a s ∷ ws) (uncut (rest s a) (sym g ∙ f))))
+module _ (s : List ℕ) (a : ℕ) (e : First s a) where
+  pub one-word : a ≡ length s → Malformed ≡ lineOf s
+  one-word f = sym (ap three (alone s a e f)) ∙ line-is s
 
-    module _ (m : d < length (rest s a)) (y : ℕ) (h : y ≡ spaceAt (rest (rest s a) d)) where
-      after-two : words s ≡ take a s ∷ take d (rest s a) ∷ words (rest (rest s a) d)
-      after-two = next s a e l ∙ ap (λ ws. take a s ∷ ws) (next (rest s a) d g m)
+  module _ (l : a < length s) (d : ℕ) (g : First (rest s a) d) where
+    pub two-words : d ≡ length (rest s a) → Malformed ≡ lineOf s
+    two-words f = sym (ap three (more s a e l ∙ ap (λ ws. take a s ∷ ws) (alone (rest s a) d g f))) ∙ line-is s
 
-      pub three-spaces : y < length (rest (rest s a) d) → Malformed ≡ lineOf s
-      unfolding lineOf
-      three-spaces f = many (take a s) (take d (rest s a)) (take y (rest (rest s a) d)) (rest (rest (rest s a) d) y) ∙ ap three (sym (after-two ∙ ap (λ ws. take a s ∷ take d (rest s a) ∷ ws) (next (rest (rest s a) d) y h f)))
+    module _ (m : d < length (rest s a)) (y : ℕ) (h : First (rest (rest s a) d) y) where
+      after-two : wordsFrom [] s ≡ take a s ∷ take d (rest s a) ∷ wordsFrom [] (rest (rest s a) d)
+      after-two = more s a e l ∙ ap (λ ws. take a s ∷ ws) (more (rest s a) d g m)
 
-      pub two-spaces : y ≡ length (rest (rest s a) d) → enquiryOf (numberOf (take a s)) (numberOf (take d (rest s a))) (numberOf (rest (rest s a) d)) ≡ lineOf s
-      unfolding lineOf
-      two-spaces f = ap three (sym (after-two ∙ ap (λ ws. take a s ∷ take d (rest s a) ∷ ws) (uncut (rest (rest s a) d) (sym h ∙ f))))
+      behind : {ws : List (List ℕ)} → wordsFrom [] (rest (rest s a) d) ≡ ws → three (take a s ∷ take d (rest s a) ∷ ws) ≡ lineOf s
+      behind {ws} f = sym (ap three (after-two ∙ ap (λ ws. take a s ∷ take d (rest s a) ∷ ws) f)) ∙ line-is s
+
+      pub four-words : y < length (rest (rest s a) d) → Malformed ≡ lineOf s
+      four-words f =
+          sym (many (take a s) (take d (rest s a)) (take y (rest (rest s a) d)) (rest (rest (rest s a) d) y)) ∙ behind (more (rest (rest s a) d) y h f)
+
+      pub three-words : y ≡ length (rest (rest s a) d) →
+          enquiryOf (numberOf (take a s)) (numberOf (take d (rest s a))) (numberOf (rest (rest s a) d)) ≡ lineOf s
+      three-words f = behind (alone (rest (rest s a) d) y h f)

@@ -1,7 +1,7 @@
 -- A line (01, refusal 12): three decimal numbers of 1 to 4 digits, single spaces between, no needless leading zero.
-use Prim.Native.Nat.{ℕ, zero, suc, _+_, _*_, _-_}
+use Prim.Native.Nat.{ℕ, _+_, _*_, _-_}
 use mathlib.Core.Bool.{Bool, false, cond}
-use mathlib.Core.List.{List, [], _∷_}
+use mathlib.Core.List.{List, [], _∷_, _++_}
 use lib.Dec.{ltb, eqb}
 use lib.ListN.{length, getD}
 use Rattle.enquiry_text.specs.declared.Word.{Word}
@@ -9,19 +9,13 @@ use Rattle.enquiry_text.specs.declared.Word.the-variants.{Number, Other}
 use Rattle.enquiry_text.specs.declared.Line.{Line}
 use Rattle.enquiry_text.specs.declared.Line.the-variants.{Enquiry, Malformed}
 
--- ---- words
--- a byte before a text, in its first word
-abbrev pub glue : ℕ → List (List ℕ) → List (List ℕ)
-glue b [] = (b ∷ []) ∷ []
-glue b (w ∷ ws) = (b ∷ w) ∷ ws
+-- the words of a text that goes on a first word; two spaces together have an empty word between them
+unfoldable pub wordsFrom : List ℕ → List ℕ → List (List ℕ)
+wordsFrom word [] = word ∷ []
+wordsFrom word (b ∷ s) = cond (eqb b 32) (word ∷ wordsFrom [] s) (wordsFrom (word ++ b ∷ []) s)
 
--- what stands between the spaces of a text: one word more than there are spaces, and an empty word where two meet
-unfoldable pub words : List ℕ → List (List ℕ)
-words [] = [] ∷ []
-words (b ∷ s) = cond (eqb b 32) ([] ∷ words s) (glue b (words s))
-
--- ---- numbers
--- digits that follow those of a value; any other byte makes it no number
+-- ---- a word
+-- digits that go on those of a value; with any other byte it is no number
 unfoldable pub digitsFrom : ℕ → List ℕ → Word
 digitsFrom value [] = Number value
 digitsFrom value (d ∷ w) = cond (ltb d 48) Other (cond (ltb 57 d) Other (digitsFrom (10 * value + (d - 48)) w))
@@ -42,18 +36,7 @@ enquiryOf (Number a) Other y = Malformed
 enquiryOf Other d y = Malformed
 
 -- three words, each of them a number
-abbrev pub three : List (List ℕ) → Line
-three [] = Malformed
-three (a ∷ []) = Malformed
-three (a ∷ d ∷ []) = Malformed
-three (a ∷ d ∷ y ∷ []) = enquiryOf (numberOf a) (numberOf d) (numberOf y)
-three (a ∷ d ∷ y ∷ w ∷ ws) = Malformed
-
 unfoldable pub lineOf : List ℕ → Line
-lineOf text = three (words text)
-
--- ---- how the code finds words
--- the place of the first space, or the length where there is none
-unfoldable pub spaceAt : List ℕ → ℕ
-spaceAt [] = 0
-spaceAt (b ∷ s) = cond (eqb b 32) 0 (suc (spaceAt s))
+lineOf text =
+    let w = wordsFrom [] text in
+    cond (eqb (length w) 3) (enquiryOf (numberOf (getD w 0 [])) (numberOf (getD w 1 [])) (numberOf (getD w 2 []))) Malformed

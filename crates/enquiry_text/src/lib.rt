@@ -1,9 +1,7 @@
-// The text of the points program: a line of bytes as an enquiry, and an answer as a line of bytes.
+// Reading for the points program: a line of bytes as an enquiry.
 use model_points::Question;
 
-pub mod digits;
 pub mod parse;
-pub mod reply;
 
 // A word of a line: a number of 1 to 4 digits with no needless leading zero, or something else.
 pub enum Word {
@@ -15,10 +13,4 @@ pub enum Word {
 pub enum Line {
     Enquiry(Question),
     Malformed,
-}
-
-// A reply by value: its first `len` bytes.
-pub struct ReplyText {
-    pub bytes: [u8; 192],
-    pub len: usize,
 }

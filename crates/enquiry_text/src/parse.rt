@@ -1,8 +1,11 @@
 // Reading a line: three decimal numbers of 1 to 4 digits, single spaces between, no needless leading zero.
 ghost use mathlib.Core.Path.{_≡_};
-ghost use Prim.Native.Nat.{_≤_};
-ghost use lib.ListN.{length};
-ghost use Rattle.enquiry_text.specs.Line.{lineOf, numberOf, enquiryOf, spaceAt, isPadded, digitsFrom};
+ghost use mathlib.Core.Bool.{cond};
+ghost use mathlib.Core.List.{[], _∷_};
+ghost use Prim.Native.Nat.{_+_, _≤_};
+ghost use lib.Dec.{ltb};
+ghost use lib.ListN.{length, take, drop};
+ghost use Rattle.enquiry_text.specs.Line.{wordsFrom, digitsFrom, isPadded, numberOf, enquiryOf, lineOf};
 use crate::Line;
 use crate::Word;
 use model_points::Question;
@@ -50,10 +53,10 @@ fn enquiry(a: Word, d: Word, y: Word) -> Line
     }
 }
 
-// The place of the first space, or the length where there is none.
+// The place of the first space, or the length where there is none: where the first word ends.
 fn first_space(s: &[u8]) -> usize
-    ensures { λ r. ⌜ r ≡ spaceAt (now (s .entry)) ⌝ }
     ensures { λ r. ⌜ r ≤ length (now (s .entry)) ⌝ }
+    ensures { λ r. ⌜ wordsFrom [] (now (s .entry)) ≡ take r (now (s .entry)) ∷ cond (ltb r (length (now (s .entry)))) (wordsFrom [] (drop (r + 1) (now (s .entry)))) [] ⌝ }
 {
     let mut i = 0;
     while i < s.len() {
@@ -106,14 +109,8 @@ fn value_of(word: &[u8]) -> Word
         if b'9' < d {
             return Word::Other;
         }
-        value = 10 * value + wide(d - b'0');
+        value = 10 * value + (d - b'0') as u32;
         i += 1;
     }
     Word::Number(value)
-}
-
-fn wide(d: u8) -> u32
-    ensures { λ r. ⌜ r ≡ d ⌝ }
-{
-    d as u32
 }

@@ -1,11 +1,12 @@
 // The points program: answers the lines of standard input by the basis in basis.bin, on standard output. It moves
 // bytes; what they mean is enquiry_lines' to say.
 ghost use mathlib.Core.Path.{_≡_};
-ghost use Prim.Native.Nat.{_+_, _≤_};
+ghost use Prim.Native.Nat.{_+_, _*_, _≤_};
 ghost use lib.ListN.{length};
 ghost use Rattle.basis.specs.Basis.{Accepted};
 ghost use Rattle.io.specs.Counts.{Counts};
-ghost use Rattle.points.specs.Going.{Going};
+ghost use Rattle.enquiry_lines.specs.Inner.State.{Sound};
+use basis::Check;
 use enquiry_lines::Pending;
 use enquiry_lines::lines;
 use enquiry_lines::open_basis;
@@ -52,12 +53,13 @@ fn read_basis(file: &mut [u8]) -> usize
     n
 }
 
-// Reads a block and answers the lines that end in it. The last block is empty, or one whose replies are not taken.
+// Reads a block and answers the lines that end in it; `blocks` more can follow. The last block is empty, or one whose
+// replies are not taken.
 fn answer_block(run: &[u8], s: Pending, part: &mut [u8], out: &mut [u8], blocks: u64) -> Turn
     requires { ⌜ Accepted (now run) ⌝ }
     requires { ⌜ (length (now part) ≤ 4096) × (786432 ≤ length (now out)) ⌝ }
-    requires { ⌜ Going s (blocks + 1) ⌝ }
-    ensures { λ r. ⌜ Going (r .pending) blocks ⌝ }
+    requires { ⌜ (Sound s) × (s .complete + 4096 * (blocks + 1) ≤ 4096000000000000000) ⌝ }
+    ensures { λ r. ⌜ (Sound (r .pending)) × (r .pending .complete + 4096 * blocks ≤ 4096000000000000000) ⌝ }
 {
     let got = libc::read(STDIN_FILENO, part);
     let n = io::count(got, part);
@@ -76,7 +78,7 @@ fn answer_block(run: &[u8], s: Pending, part: &mut [u8], out: &mut [u8], blocks:
 fn answer_blocks(run: &[u8], part: &mut [u8], out: &mut [u8]) -> Turn
     requires { ⌜ Accepted (now run) ⌝ }
     requires { ⌜ (length (now part) ≤ 4096) × (786432 ≤ length (now out)) ⌝ }
-    ensures { λ r. ⌜ Going (r .pending) 0 ⌝ }
+    ensures { λ r. ⌜ (Sound (r .pending)) × (r .pending .complete ≤ 4096000000000000000) ⌝ }
 {
     let mut pending = lines::begin();
     let mut is_written = true;
@@ -119,7 +121,11 @@ fn main() {
     let o = open_basis::open_file(&file[..n], &mut run, &mut out);
     let at = o.at;
     let is_written = io::write_all(STDOUT_FILENO, &out[..at]);
-    if o.accepted && is_written {
+    let check = o.check;
+    let Check::Passed = check else {
+        return;
+    };
+    if is_written {
         let mut part = io::buffer();
         answer_input(&run, &mut part, &mut out);
     }

@@ -26,7 +26,7 @@ slice-reshare-prefix-write-all c = search needs
 
 slice-aggregate-write-all : tie.Need-slice-aggregate-write-all
 slice-aggregate-write-all c = let f = c .before .before .before .feed in
-    let p = f .ensures .1 .0 in
+    let p = f .ensures .1 .1 .0 in
     sym (length-take-le (f .result .at) (f .last .1 .1 .1 .0) (omega (arith, p .next, p .fits, p .same)))
 
 write-all-requires : tie.Need-write-all-requires

@@ -1,14 +1,16 @@
 -- Each block uses up one of the blocks that the count of lines has room for.
-use mathlib.Core.Path.{_≡_, refl, ap}
+use Prim.Native.Nat.{_+_, _*_, _≤_}
+use mathlib.Core.Path.{_≡_, refl}
 use native.Mathlib.Omega.{arith}
 use lib.ListN.{length}
+use Rattle.enquiry_lines.specs.Inner.State.{Sound}
 use borrow.Author.Needs.{needs}
-use Rattle.points.specs.Going.{Going}
 use Rattle.points.proofs.answer_blocks.Statement.{statement}
 use Rattle.points.proofs.answer_blocks.Tie as tie
 
 abbrev Inv-loop : tie.InvT-loop
-Inv-loop run part₀ out₀ pending₀ is-written₀ blocks₀ part out pending is-written blocks = (length part ≡ length part₀) × (length out ≡ length out₀) × (Going pending blocks)
+Inv-loop run part₀ out₀ pending₀ is-written₀ blocks₀ part out pending is-written blocks =
+    (length part ≡ length part₀) × (length out ≡ length out₀) × (Sound pending) × (pending .complete + 4096 * blocks ≤ 4096000000000000000)
 
 abbrev μ-loop : tie.MeasureT-loop
 μ-loop run part₀ out₀ pending₀ is-written₀ blocks₀ part out pending is-written blocks = blocks
@@ -17,8 +19,7 @@ begin-requires : tie.Need-begin-requires Inv-loop μ-loop
 begin-requires c κs = search needs
 
 loop-holds : tie.Need-loop-holds Inv-loop μ-loop
-loop-holds c = let e : c .begin .result .complete ≡ 0 = ap (λ t. t .complete) (c .begin .ensures .0) in
-    (refl, refl, record { sound = c .begin .ensures .1; few = omega arith })
+loop-holds c = (refl, refl, c .begin .ensures .1 .1, omega (arith, c .begin .ensures .1 .0))
 
 sub-blocks : tie.Need-sub-blocks Inv-loop μ-loop
 sub-blocks c = search needs

@@ -48,6 +48,15 @@ slice-aggregate-write-all c = let f = c .before .before .before .open-file in
 write-all-requires : tie.Need-write-all-requires
 write-all-requires c κs = search needs
 
+enum-told : tie.Need-enum-told
+enum-told c = search needs
+
+enum-told-2 : tie.Need-enum-told-2
+enum-told-2 c = search needs
+
+returns : tie.Need-returns
+returns c = search needs
+
 buffer-requires : tie.Need-buffer-requires
 buffer-requires c κs = search needs
 
@@ -61,18 +70,19 @@ slice-aggregate-answer-input-3 : tie.Need-slice-aggregate-answer-input-3
 slice-aggregate-answer-input-3 c = search needs
 
 answer-input-requires : tie.Need-answer-input-requires
-answer-input-requires c κs = let o = c .before .before .before .before .before .before .before .before .before .before .open-file in
-    let run = c .before .before .before .before .before .before .before .before .before .before .before .before .before .before .before .before .before .before .run-room in
-    let e = sym (o .ensures .0) ∙ c .before .before .before .before .before .if1 .taken in (
-      rw (o .ensures .1 .0) (opened-accepted _ (run .result) (sym (run .ensures)) e),
-      (omega (arith, c .before .before .before .buffer .ensures), omega (arith, o .ensures .1 .1 .same, c .before .before .before .before .before .before .before .before .before .before .before .before .before .before .before .before .before .reply-room .ensures)),
+answer-input-requires c κs = let t = c .before .before .before .before .before in
+    let o = t .before .before .before .before .before .before in
+    let r = o .before .before .before .before .before .before .before in
+    let e = sym (o .open-file .ensures .0) ∙ t .enum-told .given .1 in (
+      rw (o .open-file .ensures .1 .0) (opened-accepted _ (r .before .run-room .result) (sym (r .before .run-room .ensures)) e),
+      (omega (arith, c .before .before .before .buffer .ensures), omega (arith, o .open-file .ensures .1 .1 .same, r .reply-room .ensures)),
     )
-
-returns : tie.Need-returns
-returns c = search needs
 
 returns-2 : tie.Need-returns-2
 returns-2 c = search needs
+
+returns-3 : tie.Need-returns-3
+returns-3 c = search needs
 
 pub main-spec : {M : Type 1} → statement M
 main-spec =
@@ -91,10 +101,13 @@ main-spec =
     array-share-prefix-out
     slice-aggregate-write-all
     write-all-requires
+    enum-told
+    enum-told-2
+    returns
     buffer-requires
     slice-aggregate-answer-input
     slice-aggregate-answer-input-2
     slice-aggregate-answer-input-3
     answer-input-requires
-    returns
-    returns-2)
+    returns-2
+    returns-3)

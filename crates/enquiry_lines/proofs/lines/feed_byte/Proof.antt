@@ -4,9 +4,8 @@ use native.Mathlib.Omega.{arith}
 use lib.ListN.{length-set}
 use lib.Seq.{length-take-le}
 use Rattle.basis.specs.Basis.{basisOf}
-use Rattle.enquiry_text.proofs.Puts.{nothing}
-use Rattle.enquiry_lines.specs.Parts.{tailOf}
-use Rattle.enquiry_lines.proofs.Parting.{step-end, says-end, says-none, kept-more, kept-full}
+use Rattle.enquiry_lines.specs.Inner.State.{kept}
+use Rattle.enquiry_lines.proofs.SoFar.{line-ends, line-grows, line-full, put-ended, put-none}
 use borrow.Author.Needs.{needs}
 use Rattle.enquiry_lines.proofs.lines.feed_byte.Statement.{statement}
 use Rattle.enquiry_lines.proofs.lines.feed_byte.Tie as tie
@@ -32,11 +31,12 @@ same-length : tie.Need-same-length
 same-length c = search needs
 
 returns : tie.Need-returns
-returns c = let s = c .before .before .before .before .before .before .before .before .before .before .before in
-    let p = c .before .before .before .put-line .ensures in
-    let e = c .before .before .before .before .before .before .before .if1 .taken in
-    let t = tailOf (s .args .s) in
-    (sym (step-end t (s .args .b) e), (rw (says-end (basisOf (s .args .run .now)) t (s .args .b) e) (p .0), (p .1, record { short = omega arith; room = s .pre .1 .1 .0 .room }, omega arith)))
+returns c = let p = c .before .before .before in
+    let t = p .before .before .before .before in
+    let s = t .before .before .before .before in
+    let l = line-ends (s .args .s) (s .args .b) (t .if1 .taken) in
+    let reply = put-ended (basisOf (s .args .run .now)) _ (kept (s .args .s)) (s .args .b) _ _ (t .if1 .taken) (p .put-line .ensures .0) in
+    (l .begun, (l .complete, (reply, (record { short = omega arith; room = s .pre .1 .1 .0 .room }, p .put-line .ensures .1))))
 
 array-write-bytes : tie.Need-array-write-bytes
 array-write-bytes c = search needs
@@ -46,15 +46,20 @@ add-t20 c = search needs
 
 returns-2 : tie.Need-returns-2
 returns-2 c = let s = c .before .before .before .before .before in
-    let p = s .args .s in
-    let h = c .before .if1 .left in
-    (kept-more (p .bytes) (p .len) (s .args .b) (p .complete) (s .pre .1 .1 .0 .room) (omega arith) h, (rw (says-none (basisOf (s .args .run .now)) (tailOf p) (s .args .b) h) (nothing (s .args .out .now) (s .args .at) (omega (arith, s .pre .1 .0))), (omega arith, record { short = omega arith; room = length-set (p .bytes) (p .len) (s .args .b) ∙ s .pre .1 .1 .0 .room }, omega arith)))
+    let a = s .args in
+    let h = s .pre .1 .1 .0 in
+    let l = line-grows (a .s) (a .b) h (c .before .if1 .left) (omega arith) in
+    let room = length-set (a .s .bytes) (a .s .len) (a .b) ∙ h .room in
+    let none = put-none (basisOf (a .run .now)) _ (kept (a .s)) (a .b) (a .out .now) (a .at) (c .before .if1 .left) (omega arith) in
+    (l .begun, (l .complete, (none, (record { short = omega arith; room = room }, omega arith))))
 
 returns-3 : tie.Need-returns-3
 returns-3 c = let s = c .before .before .before .before .before in
-    let p = s .args .s in
-    let h = c .before .if1 .left in
-    (kept-full (p .bytes) (p .len) (s .args .b) (p .complete) (s .pre .1 .1 .0 .room) (omega (arith, s .pre .1 .1 .0 .short)) h, (rw (says-none (basisOf (s .args .run .now)) (tailOf p) (s .args .b) h) (nothing (s .args .out .now) (s .args .at) (omega (arith, s .pre .1 .0))), (omega arith, s .pre .1 .1 .0, omega arith)))
+    let a = s .args in
+    let h = s .pre .1 .1 .0 in
+    let l = line-full (a .s) (a .b) h (c .before .if1 .left) (omega arith) in
+    let none = put-none (basisOf (a .run .now)) _ (kept (a .s)) (a .b) (a .out .now) (a .at) (c .before .if1 .left) (omega arith) in
+    (l .begun, (l .complete, (none, (h, omega arith))))
 
 pub feed-byte-spec : {M : Type 1} → statement M
 feed-byte-spec =

@@ -1,11 +1,14 @@
 -- Nothing kept is no line; anything kept is the last line.
+use Prim.Native.Nat.{_+_}
 use mathlib.Core.Path.{sym, _∙_}
 use native.Mathlib.Omega.{arith}
+use lib.ListN.{length}
 use lib.Seq.{length-take-le}
+use borrow.Author.Tests.{eq-eqb, ne-eqb}
 use Rattle.basis.specs.Basis.{basisOf}
-use Rattle.enquiry_text.proofs.Puts.{nothing}
-use Rattle.enquiry_lines.specs.Parts.{tailOf}
-use Rattle.enquiry_lines.proofs.Parting.{ending-none, ending-line}
+use Rattle.reply_text.proofs.Puts.{nothing}
+use Rattle.enquiry_lines.specs.Inner.State.{kept}
+use Rattle.enquiry_lines.proofs.Parting.{no-replies, reply-alone}
 use borrow.Author.Needs.{needs}
 use Rattle.enquiry_lines.proofs.lines.finish.Statement.{statement}
 use Rattle.enquiry_lines.proofs.lines.finish.Tie as tie
@@ -14,7 +17,8 @@ returns : tie.Need-returns
 returns c = let s = c .before .before .before in
     let h = s .pre .1 .1 .0 in
     let e = length-take-le (s .args .s .len) (s .args .s .bytes) (omega (arith, h .short, h .room)) in
-    rw (ending-none (basisOf (s .args .run .now)) (tailOf (s .args .s)) (e ∙ c .if1 .taken)) (nothing (s .args .out .now) 0 (omega arith))
+    let none = eq-eqb (length (kept (s .args .s))) 0 (e ∙ c .if1 .taken) in
+    rw (none, no-replies (basisOf (s .args .run .now)) (s .args .s .complete + 1)) (nothing (s .args .out .now) 0 (omega arith))
 
 add-put-line : tie.Need-add-put-line
 add-put-line c = search needs
@@ -34,10 +38,13 @@ same-length : tie.Need-same-length
 same-length c = search needs
 
 returns-2 : tie.Need-returns-2
-returns-2 c = let s = c .before .before .before .before .before .before .before .before .before .before in
+returns-2 c = let p = c .before .before in
+    let t = p .before .before .before .before .before in
+    let s = t .before .before .before in
     let h = s .pre .1 .1 .0 in
     let e = length-take-le (s .args .s .len) (s .args .s .bytes) (omega (arith, h .short, h .room)) in
-    rw (ending-line (basisOf (s .args .run .now)) (tailOf (s .args .s)) (λ z. c .before .before .before .before .before .before .before .if1 .left (sym e ∙ z))) (c .before .before .put-line .ensures .0)
+    let some = ne-eqb (length (kept (s .args .s))) 0 (λ z. t .if1 .left (sym e ∙ z)) in
+    rw (some, reply-alone (basisOf (s .args .run .now)) (s .args .s .complete + 1) (kept (s .args .s))) (p .put-line .ensures .0)
 
 pub finish-spec : {M : Type 1} → statement M
 finish-spec =

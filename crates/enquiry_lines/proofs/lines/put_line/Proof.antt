@@ -1,7 +1,7 @@
 -- A line that is an enquiry is answered by its point, and any other by refusal 12.
 use mathlib.Core.Path.{ap, sym, _∙_}
 use Rattle.basis.specs.Basis.{basisOf}
-use Rattle.enquiry_lines.specs.Lines.{replyTo, replyAt}
+use Rattle.enquiry_lines.specs.Lines.{replyTo}
 use borrow.Author.Needs.{needs}
 use Rattle.enquiry_lines.proofs.lines.put_line.Statement.{statement}
 use Rattle.enquiry_lines.proofs.lines.put_line.Tie as tie
@@ -28,18 +28,20 @@ same-length : tie.Need-same-length
 same-length c = search needs
 
 returns : tie.Need-returns
-unfolding replyAt
-returns c = let s = c .before .before .before .before .before .before .before .before .before .before .before .before .args in
-    let e = ap (replyTo (basisOf (s .run .now)) (s .number)) (sym (c .before .before .before .before .before .before .before .before .parse-line .ensures) ∙ c .before .before .before .before .before .before .q .given .1) in
+returns c = let q = c .before .before .before .before .before .before in
+    let read = q .before .before in
+    let s = read .before .before .before .before .args in
+    let e = ap (replyTo (basisOf (s .run .now)) (s .number)) (sym (read .parse-line .ensures) ∙ q .q .given .1) in
     rw (e, ← c .before .before .before .before .point-at .ensures) (c .before .before .put-reply .ensures)
 
 same-length-2 : tie.Need-same-length-2
 same-length-2 c = search needs
 
 returns-2 : tie.Need-returns-2
-unfolding replyAt
-returns-2 c = let s = c .before .before .before .before .before .before .before .before .before .before .args in
-    let e = ap (replyTo (basisOf (s .run .now)) (s .number)) (sym (c .before .before .before .before .before .before .parse-line .ensures) ∙ c .before .before .before .before .enum-told .given .1) in
+returns-2 c = let x = c .before .before .before .before in
+    let read = x .before .before in
+    let s = read .before .before .before .before .args in
+    let e = ap (replyTo (basisOf (s .run .now)) (s .number)) (sym (read .parse-line .ensures) ∙ x .enum-told .given .1) in
     rw e (c .before .before .put-refusal .ensures)
 
 pub put-line-spec : {M : Type 1} → statement M

@@ -22,7 +22,8 @@ enum-told-3 : tie.Need-enum-told-3
 enum-told-3 c = search needs
 
 returns : tie.Need-returns
-returns c = simp (c .before .before .before .before .before .before .before .a .given .1, c .before .before .before .before .d .given .1, c .before .y .given .1)
+returns c = let d = c .before .before .before .before in
+    simp (d .before .before .before .a .given .1, d .d .given .1, c .before .y .given .1)
 
 returns-2 : tie.Need-returns-2
 returns-2 c = search needs

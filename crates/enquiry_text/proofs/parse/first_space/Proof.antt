@@ -1,43 +1,47 @@
--- Before place i no space has been met, so the first space is i places before that of the rest.
-use Prim.Native.Nat.{_+_, _-_, _≤_}
-use mathlib.Core.Path.{_≡_}
+-- No space has been passed, so the bytes passed begin the first word.
+use Prim.Native.Nat.{_-_, _≤_}
+use mathlib.Core.Path.{_≡_, refl, sym, _∙_}
+use mathlib.Core.List.{[]}
 use native.Mathlib.Omega.{arith}
-use native.Mathlib.Numerals.{add-one}
-use lib.ListN.{length, drop, drop-of-length-le}
-use Rattle.enquiry_text.specs.Line.{spaceAt}
-use Rattle.enquiry_text.proofs.Words.{space-here, space-later, space-none}
+use lib.ListN.{length, take, drop}
+use borrow.Author.Tests.{lt-ltb, le-ltb}
+use Rattle.enquiry_text.specs.Line.{wordsFrom}
+use Rattle.enquiry_text.proofs.Words.{ends-here, goes-on, is-last}
+use borrow.Author.Needs.{needs}
 use Rattle.enquiry_text.proofs.parse.first_space.Statement.{statement}
 use Rattle.enquiry_text.proofs.parse.first_space.Tie as tie
 
 abbrev Inv-loop : tie.InvT-loop
-Inv-loop s i₀ i = (i ≤ length s) × (i + spaceAt (drop i s) ≡ spaceAt s)
+Inv-loop s i₀ i = (i ≤ length s) × (wordsFrom (take i s) (drop i s) ≡ wordsFrom [] s)
 
 abbrev μ-loop : tie.MeasureT-loop
 μ-loop s i₀ i = length s - i
 
 loop-holds : tie.Need-loop-holds Inv-loop μ-loop
-loop-holds c = (omega arith, omega arith)
+loop-holds c = (omega arith, refl)
 
 shared-slice-read-if1 : tie.Need-shared-slice-read-if1 Inv-loop μ-loop
-shared-slice-read-if1 c = omega arith
+shared-slice-read-if1 c = search needs
 
 returns : tie.Need-returns Inv-loop μ-loop
 returns c = let l = c .before .before .before in
-    let e = space-here (l .before .args .s .now) (l .loop .i) (omega arith) (c .if1 .taken) in (omega arith, omega arith)
+    let s = l .before .args .s .now in
+    (l .loop .inv .0, rw (lt-ltb (l .loop .i) (length s) (omega arith)) (sym (l .loop .inv .1) ∙ ends-here s (l .loop .i) (omega arith) (c .if1 .taken)))
 
 add-i : tie.Need-add-i Inv-loop μ-loop
-add-i c = omega arith
+add-i c = search needs
 
 loop-less : tie.Need-loop-less Inv-loop μ-loop
-loop-less c = omega arith
+loop-less c = search needs
 
 loop-again : tie.Need-loop-again Inv-loop μ-loop
 loop-again c = let l = c .before .before .before in
-    let e = space-later (l .before .args .s .now) (l .loop .i) (omega arith) (c .if1 .left) in (omega arith, rw add-one (omega arith))
+    (omega arith, goes-on (l .before .args .s .now) (l .loop .i) (omega arith) (c .if1 .left) ∙ l .loop .inv .1)
 
 returns-2 : tie.Need-returns-2 Inv-loop μ-loop
 returns-2 c = let l = c .before in
-    let e : spaceAt (drop (l .loop .i) (l .before .args .s .now)) ≡ 0 = rw (drop-of-length-le (l .before .args .s .now) {i = l .loop .i} (omega arith)) space-none in (omega arith, omega arith)
+    let s = l .before .args .s .now in
+    (l .loop .inv .0, rw (le-ltb (l .loop .i) (length s) (omega arith)) (sym (l .loop .inv .1) ∙ is-last s (l .loop .i) (omega arith)))
 
 pub first-space-spec : {M : Type 1} → statement M
 first-space-spec =

@@ -19,14 +19,18 @@ is-padded-requires c κs = search needs
 
 returns-3 : tie.Need-returns-3
 unfolding numberOf
-returns-3 c = let e = sym (c .before .is-padded .ensures) ∙ c .if3 .taken in simp (ne-eqb _ _ (c .before .before .before .if1 .left), le-ltb _ _ (c .before .before .if2 .left), e)
+returns-3 c = let e = sym (c .before .is-padded .ensures) ∙ c .if3 .taken in
+    let t = c .before .before in
+    simp (ne-eqb _ _ (t .before .if1 .left), le-ltb _ _ (t .if2 .left), e)
 
 value-of-requires : tie.Need-value-of-requires
 value-of-requires c κs = search needs
 
 returns-4 : tie.Need-returns-4
 unfolding numberOf
-returns-4 c = let e = sym (c .before .before .is-padded .ensures) ∙ c .before .if3 .left in simp (ne-eqb _ _ (c .before .before .before .before .if1 .left), le-ltb _ _ (c .before .before .before .if2 .left), e) (c .value-of .ensures)
+returns-4 c = let e = sym (c .before .before .is-padded .ensures) ∙ c .before .if3 .left in
+    let t = c .before .before .before in
+    simp (ne-eqb _ _ (t .before .if1 .left), le-ltb _ _ (t .if2 .left), e) (c .value-of .ensures)
 
 pub number-spec : {M : Type 1} → statement M
 number-spec =

@@ -4,7 +4,7 @@ use mathlib.Core.Path.{_≡_, sym, _∙_}
 use native.Mathlib.Omega.{arith}
 use lib.ListN.{length}
 use lib.Seq.{length-take-le}
-use Rattle.enquiry_text.proofs.Words.{rest, no-space, one-space, three-spaces, two-spaces}
+use Rattle.enquiry_text.proofs.Words.{rest, one-word, two-words, three-words, four-words}
 use borrow.Author.Needs.{needs}
 use Rattle.enquiry_text.proofs.parse.parse_line.Statement.{statement}
 use Rattle.enquiry_text.proofs.parse.parse_line.Tie as tie
@@ -13,7 +13,7 @@ first-space-requires : tie.Need-first-space-requires
 first-space-requires c κs = search needs
 
 returns : tie.Need-returns
-returns c = no-space _ _ (c .before .first-space .ensures .0) (c .if1 .taken)
+returns c = one-word _ _ (c .before .first-space .ensures .1) (c .if1 .taken)
 
 add-rest : tie.Need-add-rest
 add-rest c = search needs
@@ -33,7 +33,7 @@ first-space-requires-2 c κs = search needs
 returns-2 : tie.Need-returns-2
 returns-2 c = let a = c .before .before .before .before in
     let l : a .first-space .result < length (a .before .before .args .text .now) = omega arith in
-    one-space _ _ (a .first-space .ensures .0) l _ (c .before .first-space2 .ensures .0) (c .if2 .taken)
+    two-words _ _ (a .first-space .ensures .1) l _ (c .before .first-space2 .ensures .1) (c .if2 .taken)
 
 add-last : tie.Need-add-last
 add-last c = search needs
@@ -56,7 +56,7 @@ returns-3 c = let a = c .before .before .before .before .before .before .before 
     let b = c .before .before .before .before in
     let l : a .first-space .result < length s = omega arith in
     let m : b .first-space2 .result < length (rest s (a .first-space .result)) = omega arith in
-    three-spaces s _ (a .first-space .ensures .0) l _ (b .first-space2 .ensures .0) m _ (c .before .first-space3 .ensures .0) (c .if3 .taken)
+    four-words s _ (a .first-space .ensures .1) l _ (b .first-space2 .ensures .1) m _ (c .before .first-space3 .ensures .1) (c .if3 .taken)
 
 slice-aggregate-number : tie.Need-slice-aggregate-number
 slice-aggregate-number c = let a = c .before .before .before .before .before .before .before .before in
@@ -68,7 +68,7 @@ number-requires c κs = search needs
 slice-aggregate-number-2 : tie.Need-slice-aggregate-number-2
 slice-aggregate-number-2 c = let b = c .before .before .before .before .before .before .before in
     let a = b .before .before .before in
-    sym (length-take-le _ (rest (a .before .before .args .text .now) (a .first-space .result)) (b .first-space2 .ensures .1))
+    sym (length-take-le _ (rest (a .before .before .args .text .now) (a .first-space .result)) (b .first-space2 .ensures .0))
 
 number-requires-2 : tie.Need-number-requires-2
 number-requires-2 c κs = search needs
@@ -87,7 +87,9 @@ returns-4 c = let d = c .before .before .before .before .before .before .before 
     let l : a .first-space .result < length s = omega arith in
     let m : b .first-space2 .result < length (rest s (a .first-space .result)) = omega arith in
     let f : d .first-space3 .result ≡ length (rest (rest s (a .first-space .result)) (b .first-space2 .result)) = omega arith in
-    c .enquiry .ensures ∙ rw (c .before .before .before .before .number .ensures, c .before .before .number2 .ensures, c .before .number3 .ensures) (two-spaces s _ (a .first-space .ensures .0) l _ (b .first-space2 .ensures .0) m _ (d .first-space3 .ensures .0) f)
+    let words = three-words s _ (a .first-space .ensures .1) l _ (b .first-space2 .ensures .1) m _ (d .first-space3 .ensures .1) f in
+    let n = c .before .before .before .before in
+    c .enquiry .ensures ∙ rw (n .number .ensures, c .before .before .number2 .ensures, c .before .number3 .ensures) words
 
 pub parse-line-spec : {M : Type 1} → statement M
 parse-line-spec =

@@ -1,12 +1,12 @@
 -- The digits passed have the value so far: the rest, read after it, is the whole word.
 use Prim.Native.Nat.{_-_, _≤_}
-use mathlib.Core.Path.{_≡_, refl, ap, sym, _∙_}
+use mathlib.Core.Path.{_≡_, refl, sym, _∙_}
 use native.Mathlib.Omega.{arith}
 use native.Mathlib.Numerals.{add-one}
-use lib.ListN.{length, drop, drop-of-length-le}
-use borrow.Author.Needs.{needs}
+use lib.ListN.{length, drop}
 use Rattle.enquiry_text.specs.Line.{digitsFrom}
 use Rattle.enquiry_text.proofs.Words.{digit-low, digit-high, digit-next, digits-end, most, most-four}
+use borrow.Author.Needs.{needs}
 use Rattle.enquiry_text.proofs.parse.value_of.Statement.{statement}
 use Rattle.enquiry_text.proofs.parse.value_of.Tie as tie
 
@@ -23,19 +23,23 @@ shared-slice-read-d : tie.Need-shared-slice-read-d Inv-loop μ-loop
 shared-slice-read-d c = search needs
 
 returns : tie.Need-returns Inv-loop μ-loop
-returns c = let l = c .before .before .before in sym (digit-low (l .loop .value) (l .before .before .args .word .now) (l .loop .i) (omega arith) (c .if1 .taken)) ∙ l .loop .inv .1
+returns c = let l = c .before .before .before in
+    let w = l .before .args .word .now in
+    sym (digit-low (l .loop .value) w (l .loop .i) (omega arith) (c .if1 .taken)) ∙ l .loop .inv .1
 
 returns-2 : tie.Need-returns-2 Inv-loop μ-loop
-returns-2 c = let l = c .before .before .before .before in sym (digit-high (l .loop .value) (l .before .before .args .word .now) (l .loop .i) (omega arith) (omega arith) (c .if2 .taken)) ∙ l .loop .inv .1
+returns-2 c = let l = c .before .before .before .before in
+    let w = l .before .args .word .now in
+    sym (digit-high (l .loop .value) w (l .loop .i) (omega arith) (omega arith) (c .if2 .taken)) ∙ l .loop .inv .1
 
 mul-value : tie.Need-mul-value Inv-loop μ-loop
 mul-value c = let l = c .before .before .before .before in let m = most-four (l .loop .i) (omega arith) in omega arith
 
-wide-requires : tie.Need-wide-requires Inv-loop μ-loop
-wide-requires c κs = search needs
+cast-value : tie.Need-cast-value Inv-loop μ-loop
+cast-value c = search needs
 
 add-value : tie.Need-add-value Inv-loop μ-loop
-add-value c = let l = c .before .before .before .before .before in let m = most-four (l .loop .i) (omega arith) in omega arith
+add-value c = let l = c .before .before .before .before in let m = most-four (l .loop .i) (omega arith) in omega arith
 
 add-i : tie.Need-add-i Inv-loop μ-loop
 add-i c = search needs
@@ -44,13 +48,14 @@ loop-less : tie.Need-loop-less Inv-loop μ-loop
 loop-less c = search needs
 
 loop-again : tie.Need-loop-again Inv-loop μ-loop
-loop-again c = let l = c .before .before .before .before .before in
-    let e = digit-next (l .loop .value) (l .before .before .args .word .now) (l .loop .i) (omega arith) (omega arith) (omega arith) in
-    (omega arith, rw (c .wide .ensures, add-one) (sym e ∙ l .loop .inv .1), rw add-one (omega arith))
+loop-again c = let l = c .before .before .before .before in
+    let w = l .before .args .word .now in
+    let e = digit-next (l .loop .value) w (l .loop .i) (omega arith) (omega arith) (omega arith) in
+    (omega arith, rw add-one (sym e ∙ l .loop .inv .1), rw add-one (omega arith))
 
 returns-3 : tie.Need-returns-3 Inv-loop μ-loop
 returns-3 c = let l = c .before in
-    sym (digits-end _) ∙ ap (digitsFrom (l .loop .value)) (sym (drop-of-length-le (l .before .before .args .word .now) {i = l .loop .i} (omega arith))) ∙ l .loop .inv .1
+    sym (digits-end (l .loop .value) (l .before .args .word .now) (l .loop .i) (omega arith)) ∙ l .loop .inv .1
 
 pub value-of-spec : {M : Type 1} → statement M
 value-of-spec =
@@ -63,7 +68,7 @@ value-of-spec =
     returns
     returns-2
     mul-value
-    wide-requires
+    cast-value
     add-value
     add-i
     loop-less

@@ -1,0 +1,48 @@
+-- The laws of texts put into a buffer, one after another. Assumes nothing.
+use Prim.Native.Nat.{ℕ, suc, _+_, _≤_, _<_}
+use mathlib.Core.Path.{_≡_, refl, ap, sym, _∙_}
+use mathlib.Core.List.{List, [], _∷_, _++_, append-assoc}
+use native.Mathlib.Omega.{arith}
+use native.Mathlib.Numerals.{add-one}
+use lib.ListN.{length, take, drop, set, length-append, length-set}
+use lib.Seq.{drop-set-lt, take-suc-set, take-at}
+use Rattle.lent.specs.Lent.{placed}
+use Rattle.lent.proofs.Lent.{placed-none, placed-next}
+use Rattle.reply_text.specs.Inner.Put.{Put}
+
+-- a text's first byte first
+pub front : (out : List ℕ) (p x : ℕ) (t : List ℕ) → p < length out → placed (set out p x) (p + 1) t ≡ placed out p (x ∷ t)
+front out p x t h =
+    let e : p + 1 + length t ≡ p + suc (length t) = omega arith in
+    rw (drop-set-lt (p + 1 + length t) out p x (omega arith), e, add-one, take-suc-set out p x h) (simp append-assoc)
+
+-- ---- putting
+-- no text at all
+pub nothing : (out : List ℕ) (at : ℕ) → at ≤ length out → Put out at [] out at
+nothing out at h = record { next = omega arith; fits = omega arith; same = refl; all = sym (placed-none out at) }
+
+-- one byte
+pub byte : (out : List ℕ) (p x : ℕ) → p < length out → Put out p (x ∷ []) (set out p x) (p + 1)
+byte out p x h = record {
+  next = refl;
+  fits = omega arith;
+  same = length-set out p x;
+  all = sym (placed-none (set out p x) (p + 1)) ∙ front out p x [] h;
+}
+
+-- one text, then another
+pub then : {out after last : List ℕ} {at r s : ℕ} {t u : List ℕ} → Put out at t after r → Put after r u last s → Put out at (t ++ u) last s
+then {out} {after} {last} {at} {r} {s} {t} {u} p q = record {
+  next = rw length-append (omega (arith, p .next, q .next));
+  fits = rw length-append (omega (arith, p .next, q .fits, p .same));
+  same = q .same ∙ p .same;
+  all = q .all ∙ ap (λ o. placed o r u) (p .all) ∙ ap (λ k. placed (placed out at t) k u) (p .next) ∙ placed-next out at t (p .fits) u;
+}
+
+-- the same text and place, written otherwise
+pub being : {out after : List ℕ} {at r s : ℕ} {t u : List ℕ} → t ≡ u → r ≡ s → Put out at t after r → Put out at u after s
+being {out} {after} {at} {r} {s} {t} {u} e f p = rw (← e, ← f) p
+
+-- a text at the start of a buffer
+pub at-start : {out after : List ℕ} {t : List ℕ} {r : ℕ} → Put out 0 t after r → take r after ≡ t
+at-start {out} {after} {t} {r} p = let e : length t ≡ r = omega (arith, p .next) in ap (take r) (p .all) ∙ take-at t (drop (0 + length t) out) r e

@@ -1,0 +1,45 @@
+-- The whole units with the point, nine digits of the rest, then the byte.
+use native.Mathlib.Omega.{arith}
+use Rattle.reply_text.proofs.Turns.{units-put}
+use borrow.Author.Needs.{needs}
+use Rattle.reply_text.proofs.digits.put_units.Statement.{statement}
+use Rattle.reply_text.proofs.digits.put_units.Tie as tie
+
+put-number-requires : tie.Need-put-number-requires
+put-number-requires c κs = search needs
+
+put-digits-requires : tie.Need-put-digits-requires
+put-digits-requires c κs = search needs
+
+add-out : tie.Need-add-out
+add-out c = search needs
+
+slice-write-out : tie.Need-slice-write-out
+slice-write-out c = search needs
+
+add-result : tie.Need-add-result
+add-result c = search needs
+
+same-length : tie.Need-same-length
+same-length c = let s = c .before .before .before .before .before .before .before .before .before .args in
+    let p = c .before .before .before .before .before .before .put-number in
+    let d = c .before .before .put-digits in
+    units-put (s .v) (s .then) (d .last .0) (p .ensures .0) (omega (arith, p .ensures .0 .same)) (d .ensures) .same
+
+returns : tie.Need-returns
+returns c = let s = c .before .before .before .before .before .before .before .before .before .args in
+    let p = c .before .before .before .before .before .before .put-number in
+    let d = c .before .before .put-digits in
+    (units-put (s .v) (s .then) (d .last .0) (p .ensures .0) (omega (arith, p .ensures .0 .same)) (d .ensures), omega arith)
+
+pub put-units-spec : {M : Type 1} → statement M
+put-units-spec =
+    tie.close
+    (tie.spec
+    put-number-requires
+    put-digits-requires
+    add-out
+    slice-write-out
+    add-result
+    same-length
+    returns)
