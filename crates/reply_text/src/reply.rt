@@ -74,7 +74,7 @@ pub fn put_reply(out: &mut [u8], at: usize, q: Question, a: PointAnswer) -> usiz
 }
 
 // The same by value, which asks for nothing.
-pub fn reply_text(q: Question, a: PointAnswer) -> ReplyText
+pub fn reply_of(q: Question, a: PointAnswer) -> ReplyText
     ensures { λ r. ⌜ take (r .len) (r .bytes) ≡ replyOf q a ⌝ }
 {
     let mut bytes = [0u8; 192];

@@ -1,4 +1,4 @@
--- What the code holds of an unfinished line.
+-- What the code holds of an unfinished line, from one part of the input to the next.
 use Prim.Native.Nat.{ℕ, _≤_}
 use mathlib.Core.Path.{_≡_}
 use mathlib.Core.List.{List}

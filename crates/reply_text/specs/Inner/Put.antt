@@ -1,4 +1,4 @@
--- A text put into a lent buffer at a place.
+-- A text put into a lent buffer at a place: what every function that prints promises to the one that calls it.
 use Prim.Native.Nat.{ℕ, _+_, _≤_}
 use mathlib.Core.Path.{_≡_}
 use mathlib.Core.List.{List}

@@ -1,8 +1,8 @@
 -- What is put at the start of the bytes is their first part.
 use Rattle.reply_text.proofs.Puts.{at-start}
 use borrow.Author.Needs.{needs}
-use Rattle.reply_text.proofs.reply.reply_text.Statement.{statement}
-use Rattle.reply_text.proofs.reply.reply_text.Tie as tie
+use Rattle.reply_text.proofs.reply.reply_of.Statement.{statement}
+use Rattle.reply_text.proofs.reply.reply_of.Tie as tie
 
 slice-aggregate-put-reply : tie.Need-slice-aggregate-put-reply
 slice-aggregate-put-reply c = search needs
@@ -13,5 +13,5 @@ put-reply-requires c κs = search needs
 returns : tie.Need-returns
 returns c = at-start (c .before .put-reply .ensures .0)
 
-pub reply-text-spec : {M : Type 1} → statement M
-reply-text-spec = tie.close (tie.spec slice-aggregate-put-reply put-reply-requires returns)
+pub reply-of-spec : {M : Type 1} → statement M
+reply-of-spec = tie.close (tie.spec slice-aggregate-put-reply put-reply-requires returns)
