@@ -6,7 +6,7 @@ use lib.ListN.{length, take}
 use lib.IntN.{ℤ, pos, natAbs, _+ℤ_}
 use lib.Signed.{_≤ℤ_}
 use Rattle.arithmetic.specs.Fraction.{U}
-use Rattle.basis.specs.Bytes.{byteAt, u16At, u32At, i32At}
+use Rattle.little_endian.specs.Bytes.{byteAt, u16At, u32At, i32At}
 use Rattle.basis.specs.declared.Convergence.{Convergence}
 
 -- F, B, the constant addition, the rate of discount, the base rates by age, the terms of improvement by age and by birth year

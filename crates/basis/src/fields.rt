@@ -4,7 +4,6 @@ ghost use Prim.Native.Nat.{_+_, _*_, _≤_, _<_};
 ghost use lib.ListN.{length};
 ghost use Rattle.basis.specs.Basis.{basisOf, accumulationOf, termsAt, Accepted};
 use crate::Convergence;
-use crate::little_endian;
 
 pub fn foundation_year(run: &[u8]) -> u32
     requires { ⌜ Accepted (now run) ⌝ }

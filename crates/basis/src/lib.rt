@@ -1,6 +1,5 @@
 // The basis: what an accepted data run holds, and the types that every layer above speaks in.
 pub mod fields;
-pub mod little_endian;
 
 ghost use mathlib.Core.Path.{_≡_};
 ghost use Rattle.basis.specs.Outcome.{firstOf};

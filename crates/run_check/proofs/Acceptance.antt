@@ -10,15 +10,17 @@ use lib.Seq.{getD-take}
 use lib.Dec.{eqb, eqb→eq}
 use lib.IntN.{pos, negℤ}
 use Rattle.basis.specs.declared.Check.the-variants.{Passed, Refused}
-use Rattle.basis.specs.Bytes.{byteAt, i32At}
+use Rattle.little_endian.specs.Bytes.{byteAt, i32At}
 use Rattle.basis.specs.Outcome.{refusal}
 use Rattle.basis.specs.Basis.{basisOf, termsAt, ConvergenceLimits, Accepted}
-use Rattle.run_check.specs.declared.Number.the-variants.{Byte, Word, SignedWord}
-use Rattle.run_check.specs.declared.Limit.the-variants.{Is}
-use Rattle.run_check.specs.Run.{field, fieldsCheck, runFields, runCheck}
+use Rattle.field_check.specs.declared.Number.the-variants.{Byte, Word, SignedWord}
+use Rattle.field_check.specs.declared.Limit.the-variants.{Is}
+use Rattle.field_check.specs.Field.{field}
+use Rattle.field_check.proofs.Limits.{Between, least, most, natural, size, sized}
+use Rattle.field_check.proofs.Holds.{Holds, single}
+use Rattle.run_check.specs.Run.{fieldsCheck, runFields, runCheck}
 use Rattle.run_check.proofs.Turns.{whole}
-use Rattle.run_check.proofs.Limits.{Between, least, most, natural, size, sized}
-use Rattle.run_check.proofs.Fields.{Holds, single, AllHold, none, _and_, all-hold, all-pass}
+use Rattle.run_check.proofs.Fields.{AllHold, none, _and_, all-hold, all-pass}
 
 -- ---- the terms of improvement, by age and by birth year: four rows of n numbers each
 module _ (run : List ℕ) (n : ℕ) where

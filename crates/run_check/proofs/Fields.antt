@@ -1,68 +1,15 @@
 -- A table of fields passes exactly if every number of every row is between its limits. Assumes nothing.
 use mathlib.Core.Path.{_≡_, refl}
-use mathlib.Core.Bool.{Bool, true, false, cond}
 use mathlib.Core.List.{List, [], _∷_}
-use Prim.Native.Nat.{ℕ, zero, suc, _+_, _*_, _<_}
-use native.Mathlib.Nat.{not-suc-le-zero, le-of-suc-le-suc}
-use native.Mathlib.Omega.{arith}
-use lib.IntN.{ℤ}
-use Rattle.basis.specs.declared.Check.the-variants.{Passed, Refused}
-use Rattle.basis.specs.Outcome.{refusal}
+use Prim.Native.Nat.{ℕ}
+use Rattle.basis.specs.declared.Check.the-variants.{Passed}
 use Rattle.basis.proofs.Outcome.{both-passed}
-use Rattle.run_check.specs.declared.Number.{Number}
-use Rattle.run_check.specs.declared.Field.{Field}
-use Rattle.run_check.specs.Run.{widthOf, valueAt, limitOf, between, entriesCheck, fieldCheck, fieldsCheck}
-use Rattle.run_check.proofs.Limits.{Between, opened, closed}
-
--- ---- a row of the table: every number that stands there is between its limits
-pub record Holds (run : List ℕ) (f : Field) : Type 0 where
-  pub within : (i : ℕ) → i < f .5 → Between (limitOf run (f .2)) (valueAt (f .1) run (f .4 + widthOf (f .1) * i)) (f .3)
-
--- a row of one number
-pub single : {run : List ℕ} {f : Field} → f .5 ≡ 1 → Between (limitOf run (f .2)) (valueAt (f .1) run (f .4)) (f .3) → Holds run f
-single {run} {f} e b = record { within = λ i l. let z : f .4 + widthOf (f .1) * i ≡ f .4 = by i (rw e at l) in rw z b }
-  where
-    by : (i : ℕ) → i < 1 → f .4 + widthOf (f .1) * i ≡ f .4
-    by zero l = omega arith
-    by (suc i) l = absurd (omega arith)
-
-module _ (run : List ℕ) (number : ℕ) (kind : Number) (low high : ℤ) where
-  abbrev Entries : ℕ → ℕ → Type 0
-  Entries at n = (i : ℕ) → i < n → Between low (valueAt kind run (at + widthOf kind * i)) high
-
-  entries-hold : (at n : ℕ) → entriesCheck run number kind low high at n ≡ Passed → Entries at n
-  unfolding entriesCheck
-  entries-hold at zero h i l = absurd (not-suc-le-zero l)
-  entries-hold at (suc n) h i l = by (λ k i l. entries-hold (at + widthOf kind) n k i l) (between low high (valueAt kind run at)) refl h i l
-    where
-      by : (entriesCheck run number kind low high (at + widthOf kind) n ≡ Passed → Entries (at + widthOf kind) n)
-          → (t : Bool) → between low high (valueAt kind run at) ≡ t
-          → cond t (entriesCheck run number kind low high (at + widthOf kind) n) (Refused (refusal number at 0)) ≡ Passed → Entries at (suc n)
-      by rest true p k zero l = let e : at + widthOf kind * 0 ≡ at = omega arith in rw e (opened low high (valueAt kind run at) p)
-      by rest true p k (suc i) l =
-          let e : at + widthOf kind * suc i ≡ at + widthOf kind + widthOf kind * i = omega arith in
-          rw e (rest k i (le-of-suc-le-suc l))
-      by rest false p k i l = let z : _≡_ {A = ℕ} 0 1 = cc in absurd (omega arith)
-
-  entries-pass : (at n : ℕ) → Entries at n → entriesCheck run number kind low high at n ≡ Passed
-  unfolding entriesCheck
-  entries-pass at zero b = refl
-  entries-pass at (suc n) b =
-      let here : at + widthOf kind * 0 ≡ at = omega arith in
-      let next : (i : ℕ) → at + widthOf kind * suc i ≡ at + widthOf kind + widthOf kind * i = λ i. omega arith in
-      rw (closed low high (valueAt kind run at) (rw here at (b 0 (omega arith))))
-      (entries-pass (at + widthOf kind) n (λ i l. rw (next i) at (b (suc i) (omega arith))))
+use Rattle.field_check.specs.declared.Field.{Field}
+use Rattle.field_check.specs.Field.{fieldCheck}
+use Rattle.field_check.proofs.Holds.{Holds, field-holds, field-passes}
+use Rattle.run_check.specs.Run.{fieldsCheck}
 
 module _ (run : List ℕ) where
-  field-holds : (f : Field) → fieldCheck run f ≡ Passed → Holds run f
-  unfolding fieldCheck
-  field-holds f h = record { within = entries-hold run (f .0) (f .1) (limitOf run (f .2)) (f .3) (f .4) (f .5) h }
-
-  field-passes : (f : Field) → Holds run f → fieldCheck run f ≡ Passed
-  unfolding fieldCheck
-  field-passes f h = entries-pass run (f .0) (f .1) (limitOf run (f .2)) (f .3) (f .4) (f .5) (h .within)
-
-  -- ---- the table
   infixr 4 _and_
   pub data AllHold : List Field → Type 0 where
     none : AllHold []
@@ -73,9 +20,9 @@ module _ (run : List ℕ) where
   all-hold [] h = none
   all-hold (f ∷ fs) h =
       let p = both-passed (fieldCheck run f) (fieldsCheck run fs) h in
-      field-holds f (p .0) and all-hold fs (p .1)
+      field-holds run f (p .0) and all-hold fs (p .1)
 
   pub all-pass : {fs : List Field} → AllHold fs → fieldsCheck run fs ≡ Passed
   unfolding fieldsCheck
   all-pass none = refl
-  all-pass (_and_ {f} {fs} h hs) = rw (field-passes f h) (all-pass hs)
+  all-pass (_and_ {f} {fs} h hs) = rw (field-passes run f h) (all-pass hs)

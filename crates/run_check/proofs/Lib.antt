@@ -1,4 +1,3 @@
 mod Turns
-pub mod Limits
 mod Fields
 pub mod Acceptance

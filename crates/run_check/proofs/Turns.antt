@@ -1,39 +1,16 @@
--- A turn of the walk over the numbers of a field, and of the table of fields row by row. Assumes nothing.
+-- The table of fields row by row, and its four parts. Assumes nothing.
 use mathlib.Core.Path.{_≡_, refl, sym, ap, _∙_}
-use mathlib.Core.Bool.{Bool, true, false}
 use mathlib.Core.List.{List, [], _∷_, _++_}
-use Prim.Native.Nat.{ℕ, zero, suc, _+_, _*_, _-_, _<_}
-use native.Mathlib.Nat.{not-suc-le-zero, suc-mul}
-use native.Mathlib.Numerals.{sub-one}
+use Prim.Native.Nat.{ℕ}
 use lib.ListN.{length, take, drop}
-use lib.IntN.{ℤ}
 use borrow.Author.Tests.{eq-eqb}
 use Rattle.basis.specs.declared.Check.{Check}
 use Rattle.basis.specs.declared.Check.the-variants.{Passed, Refused}
-use Rattle.basis.specs.Outcome.{refusal, firstOf}
-use Rattle.run_check.specs.declared.Number.{Number}
-use Rattle.run_check.specs.declared.Field.{Field}
-use Rattle.run_check.specs.Run.{widthOf, valueAt, between, entriesCheck, fieldCheck, fieldsCheck, runFields, runCheck}
+use Rattle.basis.specs.Outcome.{firstOf}
+use Rattle.field_check.specs.declared.Field.{Field}
+use Rattle.field_check.specs.Field.{fieldCheck}
+use Rattle.run_check.specs.Run.{fieldsCheck, runFields, runCheck}
 
--- ---- the numbers of a field
-pub room : (n w : ℕ) → 0 < n → n * w ≡ (n - 1) * w + w
-room zero w h = absurd (not-suc-le-zero h)
-room (suc n) w h = rw (sub-one, suc-mul)
-
-module _ (run : List ℕ) (number : ℕ) (kind : Number) (low high : ℤ) (at : ℕ) where
-  pub inside : (n : ℕ) → 0 < n → {ok : Bool} → ok ≡ between low high (valueAt kind run at) → ok ≡ true
-      → entriesCheck run number kind low high at n ≡ entriesCheck run number kind low high (at + widthOf kind) (n - 1)
-  unfolding entriesCheck
-  inside zero h b e = absurd (not-suc-le-zero h)
-  inside (suc n) h b e = rw (sub-one, ← b, e)
-
-  pub outside : (n : ℕ) → 0 < n → {ok : Bool} → ok ≡ between low high (valueAt kind run at) → ok ≡ false
-      → entriesCheck run number kind low high at n ≡ Refused (refusal number at 0)
-  unfolding entriesCheck
-  outside zero h b e = absurd (not-suc-le-zero h)
-  outside (suc n) h b e = rw (← b, e)
-
--- ---- the rows of the table
 -- a row before others: the first refusal of both is that of the longer table
 pub row-first : (run : List ℕ) (f : Field) (fs : List Field) {c rest r : Check}
     → c ≡ fieldCheck run f → rest ≡ fieldsCheck run fs → r ≡ firstOf c rest → r ≡ fieldsCheck run (f ∷ fs)

@@ -1,54 +1,17 @@
 -- The fields of a data run with their limits, and the first refusal of a run (01, "The basis file"; refusals 1, 4 and 5).
-use Prim.Native.Nat.{ℕ, zero, suc, _+_}
-use mathlib.Core.Bool.{Bool, cond, _&&_}
+use Prim.Native.Nat.{ℕ}
+use mathlib.Core.Bool.{cond}
 use mathlib.Core.List.{List, [], _∷_}
 use lib.ListN.{length}
 use lib.Dec.{eqb}
-use lib.IntN.{ℤ, pos, negℤ}
-use lib.Signed.{leZ}
+use lib.IntN.{pos, negℤ}
 use Rattle.basis.specs.declared.Check.{Check}
 use Rattle.basis.specs.declared.Check.the-variants.{Passed, Refused}
-use Rattle.basis.specs.Bytes.{byteAt, u16At, u32At, i32At}
 use Rattle.basis.specs.Outcome.{refusal, firstOf}
-use Rattle.run_check.specs.declared.Limit.{Limit}
-use Rattle.run_check.specs.declared.Limit.the-variants.{Is, FoundationYear}
-use Rattle.run_check.specs.declared.Number.{Number}
-use Rattle.run_check.specs.declared.Number.the-variants.{Byte, Half, Word, SignedWord}
-use Rattle.run_check.specs.declared.Field.{Field}
-
-abbrev pub widthOf : Number → ℕ
-widthOf Byte = 1
-widthOf Half = 2
-widthOf Word = 4
-widthOf SignedWord = 4
-
--- the number that stands at an offset
-abbrev pub valueAt : Number → List ℕ → ℕ → ℤ
-valueAt Byte run at = pos (byteAt run at)
-valueAt Half run at = pos (u16At run at)
-valueAt Word run at = pos (u32At run at)
-valueAt SignedWord run at = i32At run at
-
--- a lower limit: a number, or F
-abbrev pub limitOf : List ℕ → Limit → ℤ
-limitOf run (Is n) = n
-limitOf run FoundationYear = valueAt Half run 4
-
-abbrev pub between : ℤ → ℤ → ℤ → Bool
-between low high n = leZ low n && leZ n high
-
--- the first of n numbers, one after the other from an offset on, that is outside its limits
-unfoldable pub entriesCheck : List ℕ → ℕ → Number → ℤ → ℤ → ℕ → ℕ → Check
-entriesCheck run refused kind low high at zero = Passed
-entriesCheck run refused kind low high at (suc n) =
-    cond (between low high (valueAt kind run at)) (entriesCheck run refused kind low high (at + widthOf kind) n) (Refused (refusal refused at 0))
-
--- a field: its refusal's number, its kind of number, its limits, its offset, and how many stand there
-abbrev pub field : ℕ → Number → Limit → ℤ → ℕ → ℕ → Field
-field refused kind low high offset count = (refused, kind, low, high, offset, count)
-
-unfoldable pub fieldCheck : List ℕ → Field → Check
-fieldCheck run f = entriesCheck run (f .0) (f .1) (limitOf run (f .2)) (f .3) (f .4) (f .5)
+use Rattle.field_check.specs.declared.Field.{Field}
+use Rattle.field_check.specs.declared.Limit.the-variants.{Is, FoundationYear}
+use Rattle.field_check.specs.declared.Number.the-variants.{Byte, Half, Word, SignedWord}
+use Rattle.field_check.specs.Field.{field, fieldCheck}
 
 unfoldable pub fieldsCheck : List ℕ → List Field → Check
 fieldsCheck run [] = Passed

@@ -3,12 +3,12 @@
 ghost use mathlib.Core.Path.{_≡_};
 ghost use lib.ListN.{length, take, drop};
 ghost use Rattle.run_check.specs.Run.{runFields, fieldsCheck};
-use crate::Field;
-use crate::Limit;
-use crate::Number;
-use crate::field_check::check_field;
 use basis::Check;
 use basis::first_of;
+use field_check::Field;
+use field_check::Limit;
+use field_check::Number;
+use field_check::check_field;
 
 // The letters MPB1 and the zero bytes (4).
 pub(crate) fn check_mark(run: &[u8]) -> Check

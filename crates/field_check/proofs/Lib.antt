@@ -1,0 +1,3 @@
+mod Turns
+pub mod Limits
+pub mod Holds
