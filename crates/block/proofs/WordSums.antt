@@ -7,7 +7,7 @@ use native.Mathlib.Numerals.{add-one}
 use native.Mathlib.Omega.{arith}
 use lib.Dec.{lit<}
 use lib.ListN.{length, List·getD-append}
-use Rattle.basis.specs.Bytes.{u32At}
+use Rattle.little_endian.specs.Bytes.{u32At}
 use Rattle.block.specs.Block.{wordSum, checkOf}
 
 pub turn : (block : List ℕ) (n : ℕ)

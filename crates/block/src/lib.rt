@@ -6,7 +6,6 @@ ghost use Rattle.lent.specs.Lent.{placed};
 ghost use Rattle.block.specs.Block.{checkOf, blockCheck, blockOf};
 use basis::Check;
 use basis::Refusal;
-use basis::little_endian;
 
 // A product modulo 4,294,967,296.
 fn wrapping_product(a: u32, b: u32) -> u32

@@ -11,7 +11,6 @@ ghost use lib.IntN.{natAbs};
 use basis::Answer;
 use basis::Refusal;
 use basis::SignedAnswer;
-use basis::little_endian;
 use libc::STDIN_FILENO;
 use libc::STDOUT_FILENO;
 use reply_text::digits;

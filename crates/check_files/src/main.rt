@@ -11,7 +11,6 @@ ghost use Prim.Native.Nat.{_≤_, _<_};
 ghost use lib.ListN.{length};
 use basis::Check;
 use basis::Refusal;
-use basis::little_endian;
 use basis_file::read;
 use basis_file::write;
 use libc::STDIN_FILENO;

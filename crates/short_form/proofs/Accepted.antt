@@ -6,7 +6,7 @@ use native.Mathlib.Omega.{arith}
 use lib.ListN.{length, take}
 use lib.Seq.{ext-getD, getD-take, length-take-le}
 use lib.IntN.{ℤ, pos, natAbs}
-use Rattle.basis.specs.Bytes.{signed32}
+use Rattle.little_endian.specs.Bytes.{signed32}
 use Rattle.basis.specs.Basis.{Basis, basisOf, termsAt, ConvergenceLimits, Limited, Accepted}
 use Rattle.short_form.specs.ShortForm.{longTermOf, shortFormOf, shortTerms, Shortened}
 use Rattle.short_form.proofs.LongTerm.{long-term-size}

@@ -10,9 +10,10 @@ use Rattle.basis.specs.declared.Refusal.{Refusal}
 use Rattle.basis.specs.declared.Check.{Check}
 use Rattle.basis.specs.declared.Check.the-variants.{Passed, Refused}
 use Rattle.basis.specs.Outcome.{refusal, unless, firstOf}
-use Rattle.run_check.specs.Run.{between, runCheck}
+use Rattle.field_check.specs.Field.{between}
+use Rattle.run_check.specs.Run.{runCheck}
 use Rattle.basis.proofs.Outcome.{first-stands, unless-passed, both-passed}
-use Rattle.run_check.proofs.Limits.{opened, size}
+use Rattle.field_check.proofs.Limits.{opened, size}
 use Rattle.run_check.proofs.Acceptance.{accepted}
 use Rattle.lent.specs.Lent.{roomCheck}
 use Rattle.lent.proofs.Lent.{room-passed}

@@ -6,7 +6,7 @@ use native.Mathlib.Omega.{arith}
 use lib.ListN.{length, take, drop, replicate, length-append, length-take, length-drop, length-replicate}
 use lib.Seq.{length-take-le}
 use lib.IntN.{ℤ}
-use Rattle.basis.specs.Bytes.{i32Bytes}
+use Rattle.little_endian.specs.Bytes.{i32Bytes}
 use Rattle.lent.specs.Lent.{placed}
 use Rattle.lent.proofs.Lent.{placed-none, then, then-length}
 use Rattle.short_form.specs.ShortForm.{longTermOf, longTermRates, periods, proportions, agesOf, birthYearsOf, shortFormOf}

@@ -7,8 +7,8 @@ use native.Mathlib.Omega.{arith}
 use lib.ListN.{length, getD, take, drop, replicate, length-append, length-take, length-drop, getD-replicate, List·getD-append}
 use lib.Seq.{getD-append-add, getD-take, getD-drop, length-take-le}
 use lib.IntN.{ℤ, pos, natAbs}
-use Rattle.basis.specs.Bytes.{byteAt, u16At, u32At, signed32, i32At, i32Bytes}
-use Rattle.basis.proofs.Bytes.{i32-back}
+use Rattle.little_endian.specs.Bytes.{byteAt, u16At, u32At, signed32, i32At, i32Bytes}
+use Rattle.little_endian.proofs.Bytes.{i32-back}
 use Rattle.short_form.specs.ShortForm.{longTermOf, longTermRates, periods, proportions, agesOf, birthYearsOf, shortFormOf}
 use Rattle.short_form.proofs.LongTerm.{long-term-size}
 use Rattle.short_form.proofs.Placing.{length-rates, repeated, length-ages}

@@ -8,9 +8,10 @@ use lib.IntN.{ℤ, pos, negℤ, _*ℤ_}
 use Rattle.arithmetic.specs.Round.{roundDiv}
 use Rattle.basis.specs.declared.Check.{Check}
 use Rattle.basis.specs.declared.Convergence.{Convergence}
-use Rattle.basis.specs.Bytes.{i32Bytes}
+use Rattle.little_endian.specs.Bytes.{i32Bytes}
 use Rattle.basis.specs.Outcome.{refusal, unless, firstOf}
-use Rattle.run_check.specs.Run.{between, runCheck}
+use Rattle.field_check.specs.Field.{between}
+use Rattle.run_check.specs.Run.{runCheck}
 use Rattle.basis.specs.Basis.{Basis}
 
 -- ---- the check: the run's own, then S beyond ±200,000,000 (5)

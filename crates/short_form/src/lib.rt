@@ -18,7 +18,7 @@ fn check_short_form(run: &[u8], rate: i32) -> Check
     if let Check::Refused(_) = c {
         return c;
     }
-    if run_check::in_limits(-200_000_000, 200_000_000, rate as i64) {
+    if field_check::in_limits(-200_000_000, 200_000_000, rate as i64) {
         Check::Passed
     } else {
         Check::Refused(Refusal {

@@ -6,7 +6,6 @@ ghost use lib.IntN.{natAbs};
 ghost use Rattle.lent.specs.Lent.{placed};
 ghost use Rattle.short_form.specs.ShortForm.{longTermRates, agesOf, birthYearsOf};
 use crate::rates;
-use basis::little_endian;
 
 // The age L.
 fn put_rates(rate: i32, out: &mut [u8])

@@ -9,7 +9,7 @@ use mir.Facts.{toZ-ofZ}
 use Rattle.lent.specs.Lent.{placed}
 use Rattle.short_form.specs.ShortForm.{longTermRates}
 use Rattle.short_form.proofs.Placing.{rates-length, rates-turn, rates-end}
-use Rattle.basis.specs.Bytes.{i32Bytes}
+use Rattle.little_endian.specs.Bytes.{i32Bytes}
 use Rattle.arithmetic.proofs.Machine.{got}
 use borrow.Author.Needs.{needs}
 use Rattle.short_form.proofs.parts.put_rates.Statement.{statement}
