@@ -40,7 +40,9 @@ above-sum {v} {w} {p} {q} {a} {b} h k =
 
 pub sum-above : {v w : ℤ} {p q : Fraction} {a b : ℕ} → Within v p a → Above w q b → Above (v +ℤ w) (p +ᶠ q) (a + b)
 sum-above {v} {w} {p} {q} {a} {b} h k =
-    record { proper = mul-pos (h .proper) (k .proper); over = swap v w (p .num) (q .num) (p .den) (q .den) a b (sum w v (q .num) (p .num) (q .den) (p .den) b a (k .proper) (h .proper) (k .over) (to-bounds v (p .num) (p .den) a (h .near) .low)) }
+    let low = to-bounds v (p .num) (p .den) a (h .near) .low in
+    let exchanged = sum w v (q .num) (p .num) (q .den) (p .den) b a (k .proper) (h .proper) (k .over) low in
+    record { proper = mul-pos (h .proper) (k .proper); over = swap v w (p .num) (q .num) (p .den) (q .den) a b exchanged }
 
 -- a whole number above q − 1 is not below zero if q is not
 pub above-natural : {v : ℤ} {q : Fraction} → Above v q 2 → pos 0 ≤ℤ q .num → pos 0 ≤ℤ v

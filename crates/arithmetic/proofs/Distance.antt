@@ -135,7 +135,9 @@ of-bounds v N d m b =
 -- where the whole numbers lie one way round and the fractions the other, the lesser whole number is near the lesser fraction too
 crossed : {v w : ℤ} {p q : Fraction} {m : ℕ} → v ≤ℤ w → (q .num *ℤ pos (p .den)) ≤ℤ (p .num *ℤ pos (q .den)) → Within v p m → Within w q m → Within v q m
 crossed {v} {w} {p} {q} {m} v≤ q≤ h k =
-    record { proper = k .proper; near = of-bounds v (q .num) (q .den) m (at (p .num) (q .num) (p .den) (q .den) (h .proper) q≤ (to-bounds v (p .num) (p .den) m (h .near)) (to-bounds w (q .num) (q .den) m (k .near))) }
+    let first = to-bounds v (p .num) (p .den) m (h .near) in
+    let second = to-bounds w (q .num) (q .den) m (k .near) in
+    record { proper = k .proper; near = of-bounds v (q .num) (q .den) m (at (p .num) (q .num) (p .den) (q .den) (h .proper) q≤ first second) }
   where
     at : (N M : ℤ) (d e : ℕ) → 0 < d → (M *ℤ pos d) ≤ℤ (N *ℤ pos e) → Bounds v N d m → Bounds w M e m → Bounds v M e m
     at N M d e hd M≤ h k =

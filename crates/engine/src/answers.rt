@@ -15,7 +15,7 @@ pub const NO_REFUSAL: Refusal = Refusal {
     second: 0,
 };
 
-pub fn refusal_of(check: Check) -> Refusal
+pub(crate) fn refusal_of(check: Check) -> Refusal
     ensures { λ r. ⌜ r ≡ refusalOf check ⌝ }
 {
     match check {
@@ -24,7 +24,7 @@ pub fn refusal_of(check: Check) -> Refusal
     }
 }
 
-pub fn answer_of(answer: Answer) -> CAnswer
+pub(crate) fn answer_of(answer: Answer) -> CAnswer
     ensures { λ r. ⌜ r ≡ answerOf (meaning answer) ⌝ }
 {
     match answer {
@@ -36,7 +36,7 @@ pub fn answer_of(answer: Answer) -> CAnswer
     }
 }
 
-pub fn signed_answer_of(answer: SignedAnswer) -> CSignedAnswer
+pub(crate) fn signed_answer_of(answer: SignedAnswer) -> CSignedAnswer
     ensures { λ r. ⌜ r ≡ signedAnswerOf (signedMeaning answer) ⌝ }
 {
     match answer {

@@ -1,4 +1,4 @@
-pub mod Parting
+mod Parting
 pub mod Whole
 pub mod Opened
 mod SoFar

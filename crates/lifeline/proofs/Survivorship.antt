@@ -25,7 +25,8 @@ use Rattle.survivorship.proofs.Survivors.{survivors-first, survivors-next, surv
 use Rattle.lifeline.specs.declared.Status.the-variants as status
 use Rattle.lifeline.specs.declared.Stand.{Stand}
 use Rattle.lifeline.specs.declared.Moved.{Moved}
-use Rattle.lifeline.specs.Lifeline.{standingYearCheck, survivorsCheck, standingCheck, stepCheck, moved, yearLater, lived, unlessRefused, stepAt, standAt, stepFrom, standBegun, standMoved, standAfter}
+use Rattle.lifeline.specs.Lifeline.{standingYearCheck, survivorsCheck, standingCheck, stepCheck, moved, yearLater, lived, unlessRefused, stepAt}
+use Rattle.lifeline.specs.Lifeline.{standAt, stepFrom, standBegun, standMoved, standAfter}
 use Rattle.lifeline.proofs.Standing.{start-passed, step-lived}
 
 -- the first n steps from a start have all advanced
@@ -129,7 +130,8 @@ module _ (run : List ℕ) (age year : ℕ) where
           let came = f ∙ ap value (m .1) in
           let p = before (m .0) came in
           let went = step-is-next-year n k (m .0) h (omega arith) came ∙ ap (yearLater (age + k) (year + k) (m .0)) e in
-          (and-one k (p .0) (ap (λ (x : Stand). stepFrom run x .status) (p .1) ∙ ap (λ (x : Moved). x .status) went), after-suc k _ (p .1) ∙ ap standMoved went ∙ stand-same (omega arith) (omega arith) refl)
+          let last = ap (λ (x : Stand). stepFrom run x .status) (p .1) ∙ ap (λ (x : Moved). x .status) went in
+          (and-one k (p .0) last, after-suc k _ (p .1) ∙ ap standMoved went ∙ stand-same (omega arith) (omega arith) refl)
 
   -- an answered survivorship after n years is where the lifeline stands after n steps, all of which advanced
   pub survivorship-is-steps : (n s : ℕ) → survivorshipEnquiry run Cohort age n year ≡ value (pos s) → Advances run age year n × (standAfter run age year n ≡ standAt (age + n) (year + n) s)

@@ -41,7 +41,9 @@ module _ (b : Basis) (kind : Kind) (age year from : ℕ) where
   paid-first s v p h k e =
       let z : from - from ≡ 0 = omega arith in
       let f : from ≡ from + 0 = omega arith in
-      rw z (sum-next (λ k. paymentAfter b kind age year (from + k)) 0 (pos 0) (payment v s) (sum-none _) (ap (paymentAfter b kind age year) (sym f) ∙ payment-value from s v h k) ∙ ap value (zero-left (payment v s) ∙ sym e))
+      let first = ap (paymentAfter b kind age year) (sym f) ∙ payment-value from s v h k in
+      rw z
+      (sum-next (λ k. paymentAfter b kind age year (from + k)) 0 (pos 0) (payment v s) (sum-none _) first ∙ ap value (zero-left (payment v s) ∙ sym e))
 
   paid-next : (j : ℕ) (total s v p : ℤ) → from ≤ j → Paid j total → survivorsOf b kind age year (suc j) ≡ value s → discountAfter b (suc j) ≡ v → p ≡ payment v s → Paid (suc j) (total +ℤ p)
   paid-next j total s v p l q h k e =
@@ -54,7 +56,8 @@ module _ (b : Basis) (kind : Kind) (age year from : ℕ) where
   unfolding annuityOf
   paid-refused j total r l m q h =
       let f : from + suc (j - from) ≡ suc j = omega arith in
-      sym (sum-refused (λ k. paymentAfter b kind age year (from + k)) (suc (j - from)) (suc (150 - age - from)) total r (omega arith) q (ap (paymentAfter b kind age year) f ∙ payment-refused (suc j) r h))
+      let g = ap (paymentAfter b kind age year) f ∙ payment-refused (suc j) r h in
+      sym (sum-refused (λ k. paymentAfter b kind age year (from + k)) (suc (j - from)) (suc (150 - age - from)) total r (omega arith) q g)
 
   pub refused-before : (r : Refusal) → survivorsOf b kind age year from ≡ refused r → refused r ≡ annuityOf b kind age year from
   unfolding annuityOf
@@ -79,7 +82,8 @@ pub record Paying (b : Basis) (kind : Kind) (age year from j s v total : ℕ) : 
   pub paid : Paid b kind age year from j (pos total)
 
 module _ (b : Basis) (kind : Kind) (age year from : ℕ) where
-  pub paying-first : (s v p : ℕ) → from ≤ 150 - age → s ≤ U → survivorsOf b kind age year from ≡ value (pos s) → (pos v ≡ discountAfter b from) × (v ≤ U) → (pos p ≡ payment (pos v) (pos s)) × (p ≤ U) →
+  pub paying-first : (s v p : ℕ) → from ≤ 150 - age → s ≤ U → survivorsOf b kind age year from ≡ value (pos s) →
+      (pos v ≡ discountAfter b from) × (v ≤ U) → (pos p ≡ payment (pos v) (pos s)) × (p ≤ U) →
       Paying b kind age year from from s v p
   paying-first s v p l m h k q =
       record {

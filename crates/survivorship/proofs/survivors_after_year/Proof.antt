@@ -23,7 +23,10 @@ enum-known-r c = search needs
 
 returns : tie.Need-returns
 returns c = let d = c .before in let s = d .before .before .before .before .before in
-    ap value (c .survivors-next .ensures .0) ∙ sym (year-value (basisOf (s .args .run .now)) (s .args .age) (s .args .year) (pos (s .args .s)) (pos (d .before .q .given .0 .0)) (sym (d .before .before .before .rate-at .ensures) ∙ ap meaning (d .before .q .given .1)))
+    let a = s .args in
+    let rate = sym (d .before .before .before .rate-at .ensures) ∙ ap meaning (d .before .q .given .1) in
+    ap value (c .survivors-next .ensures .0)
+    ∙ sym (year-value (basisOf (a .run .now)) (a .age) (a .year) (pos (a .s)) (pos (d .before .q .given .0 .0)) rate)
 
 returns-2 : tie.Need-returns-2
 returns-2 c = let s = c .before .before .before .before .before in

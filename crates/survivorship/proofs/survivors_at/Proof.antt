@@ -42,7 +42,8 @@ returns : tie.Need-returns Inv-loop μ-loop
 returns c = let y = c .before .before .before in let l = y .before .before .before in let s = l .before .before in let a = s .args in
     let b = basisOf (a .run .now) in
     let r = c .before .r .given .0 .0 in
-    let e = survivors-next b (a .kind) (a .age) (a .year) (l .loop .j) (pos (l .loop .s)) (refused r) (y .before .year-on .ensures) (l .loop .inv .2) (sym (ap meaning (c .before .r .given .1)) ∙ y .survivors-after-year .ensures) in
+    let g = sym (ap meaning (c .before .r .given .1)) ∙ y .survivors-after-year .ensures in
+    let e = survivors-next b (a .kind) (a .age) (a .year) (l .loop .j) (pos (l .loop .s)) (refused r) (y .before .year-on .ensures) (l .loop .inv .2) g in
     sym (survivors-refused b (a .kind) (a .age) (a .year) (suc (l .loop .j)) (a .n) r (omega arith) e)
 
 add-j : tie.Need-add-j Inv-loop μ-loop

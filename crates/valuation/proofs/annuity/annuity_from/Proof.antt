@@ -32,7 +32,8 @@ payment-requires c κs = (c .discount-after .ensures .1, omega (arith, c .before
 
 loop-holds : tie.Need-loop-holds Inv-loop μ-loop
 loop-holds c = let d = c .before in let s = d .before .before .before in let a = s .args in
-    paying-first (basisOf (a .run .now)) (a .kind) (a .age) (a .year) (a .deferment) (a .first) (d .discount-after .result) (c .payment .result) (omega arith) (s .pre .5) (s .pre .6) (d .discount-after .ensures) (c .payment .ensures)
+    paying-first (basisOf (a .run .now)) (a .kind) (a .age) (a .year) (a .deferment) (a .first) (d .discount-after .result) (c .payment .result)
+    (omega arith) (s .pre .5) (s .pre .6) (d .discount-after .ensures) (c .payment .ensures)
 
 add-survivors-after-year : tie.Need-add-survivors-after-year Inv-loop μ-loop
 add-survivors-after-year c = search needs
@@ -80,9 +81,12 @@ loop-less : tie.Need-loop-less Inv-loop μ-loop
 loop-less c = search needs
 
 loop-again : tie.Need-loop-again Inv-loop μ-loop
-loop-again c = let d = c .before in let x = d .before .before in let y = x .before .before in let l = y .before .before .before in let h = l .before in let s = h .before .before .before .before in let a = s .args in
+loop-again c = let d = c .before in let x = d .before .before in let y = x .before .before in
+    let l = y .before .before .before in let h = l .before in let s = h .before .before .before .before in let a = s .args in
     let g = sym (ap meaning (x .x .given .1)) ∙ y .survivors-after-year .ensures in
-    paying-next (basisOf (a .run .now)) (a .kind) (a .age) (a .year) (a .deferment) (l .loop .j) (l .loop .s) (l .loop .v) (l .loop .total) (x .x .given .0 .0) (d .discount-next .result) (c .payment2 .result) (l .loop .inv) (omega arith) (y .before .year-on .ensures) (h .before .before .accumulation .ensures) g (d .discount-next .ensures) (c .payment2 .ensures)
+    paying-next (basisOf (a .run .now)) (a .kind) (a .age) (a .year) (a .deferment) (l .loop .j) (l .loop .s) (l .loop .v) (l .loop .total)
+    (x .x .given .0 .0) (d .discount-next .result) (c .payment2 .result) (l .loop .inv) (omega arith) (y .before .year-on .ensures)
+    (h .before .before .accumulation .ensures) g (d .discount-next .ensures) (c .payment2 .ensures)
 
 returns-2 : tie.Need-returns-2 Inv-loop μ-loop
 returns-2 c = let l = c .before in let s = l .before .before .before .before .before in let a = s .args in

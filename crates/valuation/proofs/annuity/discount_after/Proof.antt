@@ -39,7 +39,9 @@ loop-less c = search needs
 
 loop-again : tie.Need-loop-again Inv-loop μ-loop
 loop-again c = let l = c .before .before in
-    (omega arith, c .discount-next .ensures .1, rw add-one (discount-turn (basisOf (l .before .before .before .args .run .now)) (l .loop .j) (pos (l .loop .v)) (l .before .accumulation .ensures) (l .loop .inv .2) ∙ sym (c .discount-next .ensures .0)))
+    let b = basisOf (l .before .before .before .args .run .now) in
+    let turned = discount-turn b (l .loop .j) (pos (l .loop .v)) (l .before .accumulation .ensures) (l .loop .inv .2) in
+    (omega arith, c .discount-next .ensures .1, rw add-one (turned ∙ sym (c .discount-next .ensures .0)))
 
 returns : tie.Need-returns Inv-loop μ-loop
 returns c = let l = c .before in

@@ -17,7 +17,8 @@ round-div-unsigned-requires c κs = search needs
 
 returns : tie.Need-returns
 returns c = let a = c .before .args in
-    (ap pos (c .round-div-unsigned .ensures), rounded-small (a .v * U) (a .accumulation) (c .round-div-unsigned .result) (omega arith) (omega (arith, c .before .pre .0)) (c .round-div-unsigned .ensures))
+    let r = c .round-div-unsigned in
+    (ap pos (r .ensures), rounded-small (a .v * U) (a .accumulation) (r .result) (omega arith) (omega (arith, c .before .pre .0)) (r .ensures))
 
 pub discount-next-spec : {M : Type 1} → statement M
 discount-next-spec =

@@ -48,7 +48,8 @@ enum-known-r c = search needs
 returns : tie.Need-returns Inv-loop μ-loop
 returns c = let y = c .before .before .before in let l = y .before .before .before in let s = l .before .before in let a = s .args in
     let g = sym (ap meaning (c .before .r .given .1)) ∙ y .survivors-after-year .ensures in
-    lived-refused (basisOf (a .run .now)) (a .kind) (a .age) (a .year) (a .deferment) (l .loop .j) (l .loop .s) (l .loop .total) (c .before .r .given .0 .0) refl refl (omega arith) (l .loop .inv .1) (y .before .year-on .ensures) g
+    lived-refused (basisOf (a .run .now)) (a .kind) (a .age) (a .year) (a .deferment) (l .loop .j) (l .loop .s) (l .loop .total)
+    (c .before .r .given .0 .0) refl refl (omega arith) (l .loop .inv .1) (y .before .year-on .ensures) g
 
 add-j : tie.Need-add-j Inv-loop μ-loop
 add-j c = search needs
@@ -65,7 +66,10 @@ loop-less c = search needs
 loop-again : tie.Need-loop-again Inv-loop μ-loop
 loop-again c = let y = c .before .before .before in let l = y .before .before .before in let s = l .before .before in let a = s .args in
     let g = sym (ap meaning (c .before .x .given .1)) ∙ y .survivors-after-year .ensures in
-    (omega arith, living-next (basisOf (a .run .now)) (a .kind) (a .age + a .deferment) (a .year + a .deferment) (l .loop .j) (l .loop .s) (l .loop .total) (c .before .x .given .0 .0) (l .loop .inv .1) (y .before .year-on .ensures) g)
+    let b = basisOf (a .run .now) in
+    let living = l .loop .inv .1 in
+    let x = c .before .x .given .0 .0 in
+    (omega arith, living-next b (a .kind) (a .age + a .deferment) (a .year + a .deferment) (l .loop .j) (l .loop .s) (l .loop .total) x living (y .before .year-on .ensures) g)
 
 add-t18 : tie.Need-add-t18 Inv-loop μ-loop
 add-t18 c = omega (arith, c .before .loop .inv .1 .sum)
