@@ -6,7 +6,6 @@ use Prim.Native.Nat.{ℕ, _+_, _≤_}
 use native.Mathlib.Omega.{arith}
 use lib.Dec.{leb}
 use borrow.Author.Tests.{leb-true}
-use Rattle.basis.specs.declared.Check.{Check}
 use Rattle.basis.specs.declared.Check.the-variants.{Passed}
 use Rattle.basis.specs.Basis.{Basis, basisOf, Accepted}
 use Rattle.basis.specs.Outcome.{refusal, firstOf}
@@ -35,9 +34,6 @@ unfolding yearCheck
 year-passed first year h = in-range first 2130 year (unless-passed (inRange first 2130 year) (refusal 7 year 0) h)
 
 -- ---- all of them
-pub first-same : {c d e f : Check} → c ≡ e → d ≡ f → firstOf c d ≡ firstOf e f
-first-same p q = rw (p, q) refl
-
 pub cell-passed : (first age year : ℕ) → cellCheck first age year ≡ Passed → (20 ≤ age) × (age ≤ 150) × (first ≤ year) × (year ≤ 2130)
 cell-passed first age year h =
     let p = both-passed (ageCheck age) (yearCheck first year) h in

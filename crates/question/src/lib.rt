@@ -60,7 +60,9 @@ fn check_year(first: u32, year: u32) -> Check
 pub fn check_cell(first: u32, age: u32, year: u32) -> Check
     ensures { λ r. ⌜ r ≡ cellCheck first age year ⌝ }
 {
-    basis::first_of(check_age(age), check_year(first, year))
+    let of_age = check_age(age);
+    let of_year = check_year(first, year);
+    basis::first_of(of_age, of_year)
 }
 
 // 6, then 8, then 7, for years from B on.
