@@ -76,10 +76,10 @@ three r f g N M u d e =
     through (r *ℤ pos (d * e * u)) N M (f *ℤ pos d)
     ∙ rw (rounded r f g u d e) (gathered ((pos u *ℤ r -ℤ f *ℤ g) *ℤ pos (d * e)) (f *ℤ pos d) (g *ℤ pos e) M ((f *ℤ pos d -ℤ N) *ℤ M))
 
--- f g / u rounded, where f is at most u in size and so is the fraction for g: the two distances, and one half
-pub within-product : {f g : ℤ} {F G : Fraction} {a b : ℕ} (u : ℕ) → 0 < u → Within f F a → Within g G b → natAbs f ≤ u → natAbs (G .num) ≤ u * G .den →
-    Within (roundDiv (f *ℤ g) u) (F *ᶠ G /ᶠ u) (a + b + 1)
-within-product {f} {g} {F} {G} {a} {b} u hu hF hG f≤ G≤ =
+-- f g / u rounded, where f is at most w u in size and the fraction for g at most u: the distance of f, w times that of g, and one half
+pub within-product-times : {f g : ℤ} {F G : Fraction} {a b : ℕ} (w u : ℕ) → 0 < u → Within f F a → Within g G b → natAbs f ≤ w * u → natAbs (G .num) ≤ u * G .den →
+    Within (roundDiv (f *ℤ g) u) (F *ᶠ G /ᶠ u) (a + w * b + 1)
+within-product-times {f} {g} {F} {G} {a} {b} w u hu hF hG f≤ G≤ =
     let r = roundDiv (f *ℤ g) u in
     let d = F .den in let e = G .den in let N = F .num in let M = G .num in
     let x = pos u *ℤ r -ℤ f *ℤ g in
@@ -89,28 +89,34 @@ within-product {f} {g} {F} {G} {a} {b} u hu hF hG f≤ G≤ =
     let sy : natAbs (f *ℤ pos d *ℤ y) ≡ natAbs f * d * natAbs y = natAbs-mul (f *ℤ pos d) y ∙ ap (λ (n : ℕ). n * natAbs y) (natAbs-mul f (pos d)) in
     let sz = natAbs-mul z M in
     let p : 2 * natAbs x * (d * e) ≤ u * (d * e) = mul-le-mul-right (d * e) (round-near (f *ℤ g) u hu) in
-    let q : natAbs f * d * (2 * natAbs y) ≤ u * d * (b * e) = mul-le-mul (mul-le-mul-right d f≤) (hG .near) in
+    let q : natAbs f * d * (2 * natAbs y) ≤ w * u * d * (b * e) = mul-le-mul (mul-le-mul-right d f≤) (hG .near) in
     let t : 2 * natAbs z * natAbs M ≤ a * d * (u * e) = mul-le-mul (hF .near) G≤ in
     let s₁ = natAbs-add (x *ℤ pos (d * e)) (f *ℤ pos d *ℤ y +ℤ z *ℤ M) in
     let s₂ = natAbs-add (f *ℤ pos d *ℤ y) (z *ℤ M) in
     record { proper = mul-pos (mul-pos (hF .proper) (hG .proper)) hu; near = rw (three r f g N M u d e) (omega arith) }
 
--- a rounded share m / n of f, where m is at most n: one half more
-pub within-share : {f : ℤ} {F : Fraction} {a : ℕ} (m n : ℕ) → 0 < n → m ≤ n → Within f F a → Within (roundDiv (f *ℤ pos m) n) (F *ᶠ (pos m over n)) (a + 1)
-within-share {f} {F} {a} m n hn m≤ hF =
+-- where both are at most u in size: the two distances, and one half
+pub within-product : {f g : ℤ} {F G : Fraction} {a b : ℕ} (u : ℕ) → 0 < u → Within f F a → Within g G b → natAbs f ≤ u → natAbs (G .num) ≤ u * G .den →
+    Within (roundDiv (f *ℤ g) u) (F *ᶠ G /ᶠ u) (a + b + 1)
+within-product u hu hF hG f≤ G≤ = within-more (within-product-times 1 u hu hF hG (omega arith) G≤) (omega arith)
+
+-- a rounded share m / n of f beside that of N / d: the share of what was between them, and one half
+pub share-near : (f N : ℤ) (d m n : ℕ) → 0 < n → 2 * natAbs (roundDiv (f *ℤ pos m) n *ℤ pos (d * n) -ℤ N *ℤ pos m) ≤ n * d + 2 * natAbs (f *ℤ pos d -ℤ N) * m
+share-near f N d m n hn =
     let r = roundDiv (f *ℤ pos m) n in
-    let d = F .den in let N = F .num in
     let x = pos n *ℤ r -ℤ f *ℤ pos m in
     let z = f *ℤ pos d -ℤ N in
     let p : 2 * natAbs x * d ≤ n * d = mul-le-mul-right d (round-near (f *ℤ pos m) n hn) in
-    let t : 2 * natAbs z * m ≤ a * d * n = mul-le-mul (hF .near) m≤ in
-    record {
-      proper = mul-pos (hF .proper) hn;
-      near = rw (two r f N m n d) (omega (arith, natAbs-add (x *ℤ pos d) (z *ℤ pos m), natAbs-mul x (pos d), natAbs-mul z (pos m)));
-    }
+    rw (two r f N m n d) (omega (arith, natAbs-add (x *ℤ pos d) (z *ℤ pos m), natAbs-mul x (pos d), natAbs-mul z (pos m)))
   where
     two : (r f N : ℤ) (m n d : ℕ) → r *ℤ pos (d * n) -ℤ N *ℤ pos m ≡ (pos n *ℤ r -ℤ f *ℤ pos m) *ℤ pos d +ℤ (f *ℤ pos d -ℤ N) *ℤ pos m
     two r f N m n d = rw (parts r, parts f, parts N) (simp ring (⊖-eq _ _ _ _ (omega arith)))
+
+-- where m is at most n: one half more
+pub within-share : {f : ℤ} {F : Fraction} {a : ℕ} (m n : ℕ) → 0 < n → m ≤ n → Within f F a → Within (roundDiv (f *ℤ pos m) n) (F *ᶠ (pos m over n)) (a + 1)
+within-share {f} {F} {a} m n hn m≤ hF =
+    let t : 2 * natAbs (f *ℤ pos (F .den) -ℤ F .num) * m ≤ a * F .den * n = mul-le-mul (hF .near) m≤ in
+    record { proper = mul-pos (hF .proper) hn; near = omega (arith, share-near f (F .num) (F .den) m n hn) }
 
 -- ---- the lesser of two
 -- a distance as two bounds: 2 v d ≤ 2 N + m d and 2 N ≤ 2 v d + m d

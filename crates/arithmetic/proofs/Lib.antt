@@ -6,4 +6,5 @@ pub mod Distance
 pub mod Above
 pub mod UnitRange
 pub mod Chain
+pub mod Growth
 pub mod Sums
