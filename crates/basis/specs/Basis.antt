@@ -3,7 +3,7 @@ use Prim.Native.Nat.{ℕ, _+_, _*_, _-_, _≤_, _<_}
 use mathlib.Core.Path.{_≡_}
 use mathlib.Core.List.{List, [], _∷_}
 use lib.ListN.{length, take}
-use lib.IntN.{ℤ, pos, natAbs, _+ℤ_}
+use lib.IntN.{ℤ, pos, negℤ, natAbs, _+ℤ_}
 use lib.Signed.{_≤ℤ_}
 use Rattle.arithmetic.specs.Fraction.{U}
 use Rattle.little_endian.specs.Bytes.{byteAt, u16At, u32At, i32At}
@@ -60,7 +60,7 @@ pub record Limited (b : Basis) : Type 0 where
   pub base-low : b .foundation ≤ b .base
   pub base-high : b .base ≤ 2130
   pub addition : natAbs (b .addition) ≤ 100_000_000
-  pub discount-low : pos 0 ≤ℤ b .discount
+  pub discount-low : negℤ (pos 10_000_000) ≤ℤ b .discount
   pub discount-high : b .discount ≤ℤ pos 200_000_000
   pub baseRate : (age : ℕ) → 20 ≤ age → age ≤ 150 → b .baseRate age ≤ U
   pub byAge : (age : ℕ) → 20 ≤ age → age ≤ 150 → ConvergenceLimits (b .byAge age)

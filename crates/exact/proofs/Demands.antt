@@ -1,28 +1,48 @@
 -- Demand 3 for every data run: an answered enquiry has passed its checks, so its run is accepted and its age and years are in
 -- range; the distances over the basis do the rest. Assumes nothing.
+use mathlib.Core.Path.{_≡_}
 use mathlib.Core.List.{List}
-use Prim.Native.Nat.{ℕ, _+_, _-_}
+use Prim.Native.Nat.{ℕ, _+_, _*_, _-_, _≤_}
+use native.Mathlib.Nat.{one-mul}
 use native.Mathlib.Omega.{arith}
+use lib.IntN.{ℤ}
 use Rattle.arithmetic.proofs.Distance.{within-more}
-use Rattle.basis.specs.Basis.{basisOf}
-use Rattle.basis.specs.Outcome.{firstOf}
+use Rattle.basis.specs.Basis.{basisOf, Limited}
+use Rattle.basis.specs.Outcome.{value, firstOf}
 use Rattle.run_check.specs.Run.{runCheck}
 use Rattle.basis.proofs.Outcome.{checked-value}
 use Rattle.projection.specs.Projection.{factorOf, rateOf}
 use Rattle.survivorship.specs.Survivorship.{yearOn, survivorsOf}
+use Rattle.survivorship.specs.declared.Kind.{Kind}
 use Rattle.valuation.specs.Valuation.{expectationOf, annuityOf}
 use Rattle.question.specs.Question.{cellCheck}
 use Rattle.enquiry.specs.Enquiry.{valuationCheck, factorEnquiry, rateEnquiry, survivorshipEnquiry, expectationEnquiry, annuityEnquiry}
 use Rattle.enquiry.proofs.Passed.{cell-passed, valuation-passed}
-use Rattle.exact.specs.Model.{yearsTo}
-use Rattle.exact.specs.Distance.{largestYears, Demand3}
+use Rattle.exact.specs.Model.{yearsTo, exactAnnuity}
+use Rattle.exact.specs.Distance.{ImprovingOver, largestYears, WithinQuarters, Demand3}
 use Rattle.exact.proofs.Factor.{factor-within, rate-within}
 use Rattle.exact.proofs.Survivors.{survived}
-use Rattle.exact.proofs.Values.{expectation-within, annuity-within}
+use Rattle.exact.proofs.Values.{Discounted, discounted, discounted-below-zero, expectation-within, annuity-within}
 use Rattle.exact.proofs.Largest.{largest-most}
 
+-- an answered annuity, w times the distances
+annuity-answered : (run : List ℕ) (w : ℕ) → 1 ≤ w → (Limited (basisOf run) → (j : ℕ) → j ≤ 130 → Discounted (basisOf run) w j) →
+    (kind : Kind) (age deferment year : ℕ) (a : ℤ) → annuityEnquiry run kind age deferment year ≡ value a →
+    let N = 150 - age in
+    let K = largestYears (basisOf run) kind year N in
+    ImprovingOver (basisOf run) kind age year N →
+    WithinQuarters a (exactAnnuity (basisOf run) kind age year deferment) (w * ((N + 1) * (3 * N * (K + 1) + 2)))
+unfolding annuityEnquiry
+annuity-answered run w once worth kind age deferment year a answered improving =
+    let b = basisOf run in
+    let N = 150 - age in
+    let h = checked-value (valuationCheck run age deferment year) (annuityOf b kind age year deferment) a answered in
+    let p = valuation-passed run age deferment year (h .0) in
+    annuity-within b kind age year deferment (largestYears b kind year N) (p .0 .limits) (p .1) (p .2) improving
+    (largest-most (λ j. yearsTo b (yearOn kind year j)) N) w once (worth (p .0 .limits)) a (h .1)
+
 pub demand-3 : (run : List ℕ) → Demand3 run
-unfolding factorEnquiry rateEnquiry survivorshipEnquiry expectationEnquiry annuityEnquiry
+unfolding factorEnquiry rateEnquiry survivorshipEnquiry expectationEnquiry
 demand-3 run =
     let b = basisOf run in
     record {
@@ -45,10 +65,8 @@ demand-3 run =
           let N = 150 - age - deferment in
           expectation-within b kind age year deferment (largestYears b kind (year + deferment) N) (p .0 .limits) (p .1) (p .2) improving
           (largest-most (λ j. yearsTo b (yearOn kind (year + deferment) j)) N) e (h .1);
-      annuity = λ kind age deferment year a answered improving.
-          let h = checked-value (valuationCheck run age deferment year) (annuityOf b kind age year deferment) a answered in
-          let p = valuation-passed run age deferment year (h .0) in
-          let N = 150 - age in
-          annuity-within b kind age year deferment (largestYears b kind year N) (p .0 .limits) (p .1) (p .2) improving
-          (largest-most (λ j. yearsTo b (yearOn kind year j)) N) a (h .1);
+      annuity = λ sign kind age deferment year a answered improving.
+          rw one-mul at (annuity-answered run 1 (omega arith) (λ limits. discounted b limits sign) kind age deferment year a answered improving);
+      annuityBelowZero = λ sign kind age deferment year a answered improving.
+          annuity-answered run 4 (omega arith) (λ limits. discounted-below-zero b limits sign) kind age deferment year a answered improving;
     }

@@ -1,19 +1,22 @@
--- Expectation 4d ≤ N(N + 1)(3K + 2) and annuity 4d ≤ (N + 1)(3N(K + 1) + 2): the distances of their terms, added. A term of the
--- annuity is j halves from the discount, j(3K + 2) from the survivors and one from its rounding. Assumes nothing.
+-- Expectation 4d ≤ N(N + 1)(3K + 2) and annuity 4d ≤ (N + 1)(3N(K + 1) + 2), four times that at a rate of discount below zero: the
+-- distances of their terms, added. A term of the annuity is j halves from the discount, j(3K + 2) from the survivors and one from
+-- its rounding, or at most four times each. Assumes nothing.
 use mathlib.Core.Path.{_≡_}
 use Prim.Native.Nat.{ℕ, zero, suc, _+_, _*_, _-_, _/_, _≤_, _<_}
 use native.Mathlib.Omega.{arith}
 use native.Mathlib.Nat.{mul-le-mul-right}
-use lib.IntN.{ℤ, pos, _+ℤ_}
+use lib.IntN.{ℤ, pos, natAbs, _+ℤ_}
+use lib.Signed.{_≤ℤ_, _<ℤ_}
 use Rattle.arithmetic.specs.Fraction.{Fraction, Within, sumᶠ, U}
-use Rattle.arithmetic.proofs.Distance.{within-whole, within-more, within-sum, within-product}
+use Rattle.arithmetic.proofs.Distance.{within-whole, within-more, within-sum, within-product-times}
 use Rattle.arithmetic.proofs.UnitRange.{unit-abs}
 use Rattle.arithmetic.proofs.Chain.{Chained, chained-first, chained-share}
+use Rattle.arithmetic.proofs.Growth.{Growing, growing-first, growing-next, growing-near, grown-small}
 use Rattle.arithmetic.proofs.Sums.{sumℕ, total-first, total-next, sum-linear, sum-tail}
 use Rattle.basis.specs.Basis.{Basis, Limited, accumulationOf}
 use Rattle.basis.specs.Outcome.{Outcome, value, sumOf, addTo}
 use Rattle.basis.proofs.Outcome.{along, came}
-use Rattle.basis.proofs.Accumulation.{accumulation-low}
+use Rattle.basis.proofs.Accumulation.{accumulation-low, accumulation-grows, accumulation-shrinks}
 use Rattle.survivorship.specs.Survivorship.{yearOn, survivorsOf}
 use Rattle.valuation.specs.Valuation.{curtateOf, expectationOf, discountAfter, payment, paymentAfter, annuityOf}
 use Rattle.survivorship.specs.declared.Kind.{Kind}
@@ -36,11 +39,28 @@ total-within term exact m n near total h =
     rw (← e) (total-next exact m k c (near k (w .0) l (w .1))))
     total h
 
--- the discount: one half a year
-discounted : (b : Basis) → Limited b → (j : ℕ) → Chained 0 j (discountAfter b j) (exactDiscount b j)
-unfolding discountAfter exactDiscount
-discounted b limits zero = chained-first 0
-discounted b limits (suc j) = chained-share (accumulationOf b) (accumulation-low b limits) (discounted b limits j)
+-- ---- the discount
+-- after j years it is at most w × U, and w × j halves from the exact one
+pub record Discounted (b : Basis) (w j : ℕ) : Type 0 where
+  pub size : natAbs (discountAfter b j) ≤ w * U
+  pub near : Within (discountAfter b j) (exactDiscount b j) (w * j)
+
+module _ (b : Basis) (limits : Limited b) where
+  falling : pos 0 ≤ℤ b .discount → (j : ℕ) → Chained 0 j (discountAfter b j) (exactDiscount b j)
+  unfolding discountAfter exactDiscount
+  falling h zero = chained-first 0
+  falling h (suc j) = chained-share (accumulationOf b) (accumulation-grows b limits h) (falling h j)
+
+  rising : b .discount <ℤ pos 0 → (j : ℕ) → Growing j (discountAfter b j) (exactDiscount b j)
+  unfolding discountAfter exactDiscount
+  rising h zero = growing-first
+  rising h (suc j) = growing-next (accumulationOf b) (accumulation-low b limits) (accumulation-shrinks b limits h) (rising h j)
+
+  pub discounted : pos 0 ≤ℤ b .discount → (j : ℕ) → j ≤ 130 → Discounted b 1 j
+  discounted h j l = let c = falling h j in record { size = omega (arith, c .size); near = within-more (c .near) (omega arith) }
+
+  pub discounted-below-zero : b .discount <ℤ pos 0 → (j : ℕ) → j ≤ 130 → Discounted b 4 j
+  discounted-below-zero h j l = let c = rising h j in record { size = omega (arith, c .size, grown-small j l); near = growing-near c l }
 
 -- ---- the expectation; j years of survivorship are j(3K + 2) halves
 module _ (b : Basis) (kind : Kind) (age year deferment K : ℕ) (limits : Limited b) (low : 20 ≤ age) (high : age + deferment ≤ 150)
@@ -66,25 +86,26 @@ module _ (b : Basis) (kind : Kind) (age year deferment K : ℕ) (limits : Limite
       one-more : 1 + (150 - age - deferment) ≡ suc (150 - age - deferment)
       one-more = omega arith
 
--- ---- the annuity
+-- ---- the annuity, w times the distances
 module _ (b : Basis) (kind : Kind) (age year deferment K : ℕ) (limits : Limited b) (low : 20 ≤ age) (high : age + deferment ≤ 150)
-    (improving : ImprovingOver b kind age year (150 - age)) (most : (j : ℕ) → j < 150 - age → yearsTo b (yearOn kind year j) ≤ K) where
-  payment-within : (j : ℕ) (t : ℤ) → j ≤ 150 - age → paymentAfter b kind age year j ≡ value t → Within t (exactPayment b kind age year j) (j * (3 * K + 3) + 1)
+    (improving : ImprovingOver b kind age year (150 - age)) (most : (j : ℕ) → j < 150 - age → yearsTo b (yearOn kind year j) ≤ K)
+    (w : ℕ) (once : 1 ≤ w) (worth : (j : ℕ) → j ≤ 130 → Discounted b w j) where
+  payment-within : (j : ℕ) (t : ℤ) → j ≤ 150 - age → paymentAfter b kind age year j ≡ value t → Within t (exactPayment b kind age year j) (j * (w * (3 * K + 3)) + w)
   unfolding paymentAfter exactPayment
   payment-within j t l h =
-      let w = came (survivorsOf b kind age year j) (λ s. value (payment (discountAfter b j) s)) t h in
-      let s = survived b kind age year K j limits low (omega arith) (λ i less. improving i (omega arith)) (λ i less. most i (omega arith)) (w .0) (w .1) in
-      let v = discounted b limits j in
-      let e : payment (discountAfter b j) (w .0) ≡ t = cc in
-      rw (← e) (within-more (within-product U (omega arith) (v .near) (s .near) (v .size) (unit-abs (s .unit))) (omega arith))
+      let c = came (survivorsOf b kind age year j) (λ s. value (payment (discountAfter b j) s)) t h in
+      let s = survived b kind age year K j limits low (omega arith) (λ i less. improving i (omega arith)) (λ i less. most i (omega arith)) (c .0) (c .1) in
+      let v = worth j (omega arith) in
+      let e : payment (discountAfter b j) (c .0) ≡ t = cc in
+      rw (← e) (within-more (within-product-times w U (omega arith) (v .near) (s .near) (v .size) (unit-abs (s .unit))) (omega arith))
 
   pub annuity-within : (a : ℤ) → annuityOf b kind age year deferment ≡ value a →
-      WithinQuarters a (exactAnnuity b kind age year deferment) ((150 - age + 1) * (3 * (150 - age) * (K + 1) + 2))
+      WithinQuarters a (exactAnnuity b kind age year deferment) (w * ((150 - age + 1) * (3 * (150 - age) * (K + 1) + 2)))
   unfolding annuityOf exactAnnuity
   annuity-within a h =
       let n = 150 - age - deferment in
-      let m : ℕ → ℕ = λ j. j * (3 * K + 3) + 1 in
+      let m : ℕ → ℕ = λ j. j * (w * (3 * K + 3)) + w in
       let paid = total-within (λ k. paymentAfter b kind age year (deferment + k)) (λ k. exactPayment b kind age year (deferment + k)) (λ k. m (deferment + k)) (suc n)
       (λ k t l q. payment-within (deferment + k) t (omega arith) q) a h in
       let e : deferment + suc n ≡ suc (150 - age) = omega arith in
-      quarters _ paid (omega (arith, rw e at (sum-tail m deferment (suc n)), sum-linear (3 * K + 3) 1 (150 - age)))
+      quarters _ paid (omega (arith, rw e at (sum-tail m deferment (suc n)), sum-linear (w * (3 * K + 3)) w (150 - age)))

@@ -5,7 +5,7 @@ use mathlib.Core.List.{List}
 use Prim.Native.Nat.{ℕ, zero, suc, _+_, _*_, _-_, _≤_, _<_}
 use lib.Dec.{ltb}
 use lib.IntN.{ℤ, pos, natAbs, _-ℤ_, _*ℤ_}
-use lib.Signed.{_≤ℤ_}
+use lib.Signed.{_≤ℤ_, _<ℤ_}
 use Rattle.arithmetic.specs.Fraction.{Fraction, Within}
 use Rattle.basis.specs.Basis.{Basis, basisOf}
 use Rattle.basis.specs.Outcome.{value}
@@ -59,9 +59,17 @@ pub record Demand3 (run : List ℕ) : Type 0 where
       let K = largestYears (basisOf run) kind (year + deferment) N in
       ImprovingOver (basisOf run) kind (age + deferment) (year + deferment) N →
       WithinQuarters e (exactExpectation (basisOf run) kind age year deferment) (N * (N + 1) * (3 * K + 2))
-  -- annuity 4d ≤ (N + 1)(3N(K + 1) + 2), N = 150 − age
-  pub annuity : (kind : Kind) (age deferment year : ℕ) (a : ℤ) → annuityEnquiry run kind age deferment year ≡ value a →
+  -- where the rate of discount is not below zero, annuity 4d ≤ (N + 1)(3N(K + 1) + 2), N = 150 − age
+  pub annuity : pos 0 ≤ℤ basisOf run .discount →
+      (kind : Kind) (age deferment year : ℕ) (a : ℤ) → annuityEnquiry run kind age deferment year ≡ value a →
       let N = 150 - age in
       let K = largestYears (basisOf run) kind year N in
       ImprovingOver (basisOf run) kind age year N →
       WithinQuarters a (exactAnnuity (basisOf run) kind age year deferment) ((N + 1) * (3 * N * (K + 1) + 2))
+  -- where it is below zero, at most four times that (02, change 1)
+  pub annuityBelowZero : basisOf run .discount <ℤ pos 0 →
+      (kind : Kind) (age deferment year : ℕ) (a : ℤ) → annuityEnquiry run kind age deferment year ≡ value a →
+      let N = 150 - age in
+      let K = largestYears (basisOf run) kind year N in
+      ImprovingOver (basisOf run) kind age year N →
+      WithinQuarters a (exactAnnuity (basisOf run) kind age year deferment) (4 * ((N + 1) * (3 * N * (K + 1) + 2)))

@@ -28,7 +28,7 @@ runFields =
     ∷ field 5 Half (Is (pos 1992)) (pos 2080) 4 1
     ∷ field 5 Half FoundationYear (pos 2130) 6 1
     ∷ field 5 SignedWord (Is (negℤ (pos 100_000_000))) (pos 100_000_000) 8 1
-    ∷ field 5 SignedWord (Is (pos 0)) (pos 200_000_000) 12 1
+    ∷ field 5 SignedWord (Is (negℤ (pos 10_000_000))) (pos 200_000_000) 12 1
     ∷ field 5 Word (Is (pos 0)) (pos 1_000_000_000) 30 131
     ∷ field 5 SignedWord (Is (negℤ (pos 200_000_000))) (pos 200_000_000) 554 131
     ∷ field 5 SignedWord (Is (negℤ (pos 200_000_000))) (pos 200_000_000) 1078 131

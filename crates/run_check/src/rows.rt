@@ -52,7 +52,14 @@ pub(crate) fn check_single_fields(run: &[u8]) -> Check
     );
     let discount = check_field(
         run,
-        Field(5, Number::SignedWord, Limit::Is(0), 200_000_000, 12, 1),
+        Field(
+            5,
+            Number::SignedWord,
+            Limit::Is(-10_000_000),
+            200_000_000,
+            12,
+            1,
+        ),
     );
     first_of(
         foundation,

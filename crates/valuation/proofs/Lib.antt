@@ -1,3 +1,4 @@
 pub mod Lives
+pub mod Discount
 pub mod Payments
 pub mod LastAge

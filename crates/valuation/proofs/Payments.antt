@@ -14,14 +14,10 @@ use Rattle.survivorship.specs.Survivorship.{yearOn, survivorsAfterYear, survivo
 use Rattle.valuation.specs.Valuation.{discountNext, discountAfter, payment, paymentAfter, annuityOf}
 use Rattle.survivorship.specs.declared.Kind.{Kind}
 use Rattle.survivorship.proofs.Survivors.{year-small, survivors-next}
+use Rattle.valuation.proofs.Discount.{discount-turn}
 
 zero-left : (x : ℤ) → pos 0 +ℤ x ≡ x
 zero-left x = rw (parts x) (simp ring (⊖-eq _ _ _ _ (omega arith)))
-
--- the discount of one year more
-pub discount-turn : (b : Basis) (j : ℕ) (v : ℤ) {accumulation : ℕ} → accumulation ≡ accumulationOf b → discountAfter b j ≡ v → discountAfter b (suc j) ≡ discountNext v accumulation
-unfolding discountAfter
-discount-turn b j v e h = rw (h, e) refl
 
 -- ---- the payments from a deferment on
 module _ (b : Basis) (kind : Kind) (age year from : ℕ) where
@@ -75,40 +71,37 @@ pub record Paying (b : Basis) (kind : Kind) (age year from j s v total : ℕ) : 
   pub begun : from ≤ j
   pub within : j ≤ 150 - age
   pub people : s ≤ U
-  pub worth : v ≤ U
-  pub sum : total ≤ U * (j + 1)
+  pub sum : total ≤ 4 * U * (j + 1)
   pub survivors : survivorsOf b kind age year j ≡ value (pos s)
   pub discount : discountAfter b j ≡ pos v
   pub paid : Paid b kind age year from j (pos total)
 
 module _ (b : Basis) (kind : Kind) (age year from : ℕ) where
   pub paying-first : (s v p : ℕ) → from ≤ 150 - age → s ≤ U → survivorsOf b kind age year from ≡ value (pos s) →
-      (pos v ≡ discountAfter b from) × (v ≤ U) → (pos p ≡ payment (pos v) (pos s)) × (p ≤ U) →
+      pos v ≡ discountAfter b from → (pos p ≡ payment (pos v) (pos s)) × (p ≤ 4 * U) →
       Paying b kind age year from from s v p
   paying-first s v p l m h k q =
       record {
         begun = omega arith;
         within = l;
         people = m;
-        worth = k .1;
-        sum = omega arith;
+        sum = omega (arith, q .1);
         survivors = h;
-        discount = sym (k .0);
-        paid = paid-first b kind age year from (pos s) (pos v) (pos p) h (sym (k .0)) (q .0);
+        discount = sym k;
+        paid = paid-first b kind age year from (pos s) (pos v) (pos p) h (sym k) (q .0);
       }
 
   pub paying-next : (j s v total x w p : ℕ) {at accumulation : ℕ} → Paying b kind age year from j s v total → j < 150 - age → at ≡ yearOn kind year j → accumulation ≡ accumulationOf b →
-      value (pos x) ≡ survivorsAfterYear b (age + j) at (pos s) → (pos w ≡ discountNext (pos v) accumulation) × (w ≤ U) → (pos p ≡ payment (pos w) (pos x)) × (p ≤ U) →
+      value (pos x) ≡ survivorsAfterYear b (age + j) at (pos s) → pos w ≡ discountNext (pos v) accumulation → (pos p ≡ payment (pos w) (pos x)) × (p ≤ 4 * U) →
       Paying b kind age year from (j + 1) x w (total + p)
   paying-next j s v total x w p {at} i l e f g k q =
       let h = survivors-next b kind age year j (pos s) (value (pos x)) e (i .survivors) g in
-      let d = discount-turn b j (pos v) f (i .discount) ∙ sym (k .0) in
+      let d = discount-turn b j (pos v) f (i .discount) ∙ sym k in
       rw add-one
       (record {
         begun = omega (arith, i .begun);
         within = omega arith;
         people = year-small b (age + j) at s x (i .people) (sym g);
-        worth = k .1;
         sum = omega (arith, i .sum, q .1);
         survivors = h;
         discount = d;

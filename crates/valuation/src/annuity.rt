@@ -11,18 +11,18 @@ use survivorship::Kind;
 
 const UNIT: u64 = 1_000_000_000;
 
-// The discount a year later.
+// The discount a year later. At a rate below zero it grows, and stays below 4 × U for the 130 years that there are.
 fn discount_next(v: u64, accumulation: u64) -> u64
-    requires { ⌜ (v ≤ 1_000_000_000) × (1_000_000_000 ≤ accumulation) × (accumulation ≤ 1_200_000_000) ⌝ }
-    ensures { λ r. ⌜ (pos r ≡ discountNext (pos v) accumulation) × (r ≤ 1_000_000_000) ⌝ }
+    requires { ⌜ (v ≤ 4_000_000_000) × (990_000_000 ≤ accumulation) × (accumulation ≤ 1_200_000_000) ⌝ }
+    ensures { λ r. ⌜ pos r ≡ discountNext (pos v) accumulation ⌝ }
 {
     arithmetic::round_div_unsigned(v * UNIT, accumulation)
 }
 
 // The discount after n years.
 fn discount_after(run: &[u8], n: u32) -> u64
-    requires { ⌜ Accepted (now run) ⌝ }
-    ensures { λ r. ⌜ (pos r ≡ discountAfter (basisOf (now (run .entry))) n) × (r ≤ 1_000_000_000) ⌝ }
+    requires { ⌜ Accepted (now run) × (n ≤ 130) ⌝ }
+    ensures { λ r. ⌜ pos r ≡ discountAfter (basisOf (now (run .entry))) n ⌝ }
 {
     let accumulation = basis::fields::accumulation(run);
     let mut v: u64 = UNIT;
@@ -36,8 +36,8 @@ fn discount_after(run: &[u8], n: u32) -> u64
 
 // One year's payment to the survivors, discounted.
 fn payment(v: u64, s: u64) -> u64
-    requires { ⌜ (v ≤ 1_000_000_000) × (s ≤ 1_000_000_000) ⌝ }
-    ensures { λ r. ⌜ (pos r ≡ payment (pos v) (pos s)) × (r ≤ 1_000_000_000) ⌝ }
+    requires { ⌜ (v ≤ 4_000_000_000) × (s ≤ 1_000_000_000) ⌝ }
+    ensures { λ r. ⌜ (pos r ≡ payment (pos v) (pos s)) × (r ≤ 4_000_000_000) ⌝ }
 {
     arithmetic::round_div_unsigned(v * s, UNIT)
 }

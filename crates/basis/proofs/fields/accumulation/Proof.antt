@@ -1,7 +1,7 @@
--- The rate of discount is not below zero, so U and the rate together are a natural number, which the cast keeps.
+-- The rate of discount is not below -10,000,000, so U and the rate together are a natural number, which the cast keeps.
 use mathlib.Core.Path.{_≡_, ap}
 use native.Mathlib.Omega.{arith}
-use lib.IntN.{pos, natAbs, _+ℤ_}
+use lib.IntN.{pos, negℤ, natAbs, _+ℤ_}
 use lib.Signed.{_≤ℤ_}
 use mir.Syntax.{w32, w64}
 use mir.Val.{toZ, ofZ, SFits}
@@ -18,7 +18,7 @@ read-i32-requires c κs = search needs
 
 -- the rate, as it is read and widened
 record Read (c : tie.After-read-i32) : Type 0 where
-  low : pos 0 ≤ℤ c .read-i32 .result
+  low : negℤ (pos 10_000_000) ≤ℤ c .read-i32 .result
   high : c .read-i32 .result ≤ℤ pos 200_000_000
   read : toZ w32 (ofZ w32 (c .read-i32 .result)) ≡ c .read-i32 .result
   wide : toZ w64 (ofZ w64 (c .read-i32 .result)) ≡ c .read-i32 .result
@@ -45,7 +45,7 @@ cast-result-2 : tie.Need-cast-result-2
 cast-result-2 c =
     let a = at c in let d = c .read-i32 .result in
     rw (a .read, a .wide, toZ-ofZ (fits d (a .low) (a .high)))
-    (natural d (a .low) (a .high), record { fits = omega (arith, size d (a .low) (a .high)) })
+    (natural d (a .low), record { fits = omega (arith, size d (a .low) (a .high)) })
 
 returns : tie.Need-returns
 unfolding basisOf accumulationOf

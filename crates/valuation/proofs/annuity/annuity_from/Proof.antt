@@ -1,12 +1,13 @@
 -- After j turns of the loop survivors, discount and total are those of `Paying`; the payments to 150 − age are the annuity.
 use mathlib.Core.Path.{_∙_, ap, sym}
-use Prim.Native.Nat.{_+_, _-_}
+use Prim.Native.Nat.{suc, _+_, _-_}
 use native.Mathlib.Omega.{arith}
 use lib.IntN.{pos}
 use borrow.Author.Needs.{needs}
 use Rattle.basis.proofs.Accumulation.{accumulation-low, accumulation-high}
 use Rattle.basis.specs.Basis.{basisOf}
 use Rattle.basis.specs.Outcome.{refused, meaning}
+use Rattle.valuation.proofs.Discount.{discount-turn, discount-small}
 use Rattle.valuation.proofs.Payments.{Paying, paying-first, paying-next, paid-refused, paid-last}
 use Rattle.survivorship.proofs.Survivors.{survivors-next, year-small, year-late}
 use Rattle.valuation.proofs.annuity.annuity_from.Statement.{statement}
@@ -28,7 +29,9 @@ discount-after-requires : tie.Need-discount-after-requires Inv-loop μ-loop
 discount-after-requires c κs = search needs
 
 payment-requires : tie.Need-payment-requires Inv-loop μ-loop
-payment-requires c κs = (c .discount-after .ensures .1, omega (arith, c .before .before .before .pre .5))
+payment-requires c κs = let s = c .before .before .before in let a = s .args in
+    let small = discount-small (basisOf (a .run .now)) (s .pre .0 .limits) (a .deferment) (c .discount-after .result) (omega arith) (sym (c .discount-after .ensures)) in
+    (omega (arith, small), omega (arith, s .pre .5))
 
 loop-holds : tie.Need-loop-holds Inv-loop μ-loop
 loop-holds c = let d = c .before in let s = d .before .before .before in let a = s .args in
@@ -63,16 +66,24 @@ returns c = let y = c .before .before .before in let l = y .before .before .befo
 discount-next-requires : tie.Need-discount-next-requires Inv-loop μ-loop
 discount-next-requires c κs = let l = c .before .before .before .before .before .before in let h = l .before in let s = h .before .before .before .before in
     let b = basisOf (s .args .run .now) in
-    let e = h .before .before .accumulation .ensures in
-    (l .loop .inv .worth, omega (arith, e, accumulation-low b (s .pre .0 .limits)), omega (arith, e, accumulation-high b (s .pre .0 .limits)))
+    let limits = s .pre .0 .limits in
+    let e = h .before .before .accumulation .ensures in (
+      omega (arith, discount-small b limits (l .loop .j) (l .loop .v) (omega arith) (l .loop .inv .discount)),
+      omega (arith, e, accumulation-low b limits),
+      omega (arith, e, accumulation-high b limits),
+    )
 
 add-j : tie.Need-add-j Inv-loop μ-loop
 add-j c = search needs
 
 payment-requires-2 : tie.Need-payment-requires-2 Inv-loop μ-loop
-payment-requires-2 c κs = let x = c .before .before in let y = x .before .before in let l = y .before .before .before in let s = l .before .before .before .before .before in
+payment-requires-2 c κs = let x = c .before .before in let y = x .before .before in
+    let l = y .before .before .before in let h = l .before in let s = h .before .before .before .before in
+    let b = basisOf (s .args .run .now) in
     let g = sym (ap meaning (x .x .given .1)) ∙ y .survivors-after-year .ensures in
-    (c .discount-next .ensures .1, year-small (basisOf (s .args .run .now)) (s .args .age + l .loop .j) (y .before .year-on .result) (l .loop .s) (x .x .given .0 .0) (l .loop .inv .people) (sym g))
+    let turned = discount-turn b (l .loop .j) (pos (l .loop .v)) (h .before .before .accumulation .ensures) (l .loop .inv .discount) in
+    let small = discount-small b (s .pre .0 .limits) (suc (l .loop .j)) (c .discount-next .result) (omega arith) (turned ∙ sym (c .discount-next .ensures)) in
+    (omega (arith, small), year-small b (s .args .age + l .loop .j) (y .before .year-on .result) (l .loop .s) (x .x .given .0 .0) (l .loop .inv .people) (sym g))
 
 add-total : tie.Need-add-total Inv-loop μ-loop
 add-total c = omega (arith, c .payment2 .ensures .1)

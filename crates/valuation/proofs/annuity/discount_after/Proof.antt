@@ -8,12 +8,12 @@ use borrow.Author.Needs.{needs}
 use Rattle.basis.proofs.Accumulation.{accumulation-low, accumulation-high}
 use Rattle.basis.specs.Basis.{basisOf}
 use Rattle.valuation.specs.Valuation.{discountAfter}
-use Rattle.valuation.proofs.Payments.{discount-turn}
+use Rattle.valuation.proofs.Discount.{discount-turn, discount-small}
 use Rattle.valuation.proofs.annuity.discount_after.Statement.{statement}
 use Rattle.valuation.proofs.annuity.discount_after.Tie as tie
 
 abbrev Inv-loop : tie.InvT-loop
-Inv-loop run n accumulation v₀ j₀ v j = (j ≤ n) × (v ≤ 1_000_000_000) × (discountAfter (basisOf run) j ≡ pos v)
+Inv-loop run n accumulation v₀ j₀ v j = (j ≤ n) × (discountAfter (basisOf run) j ≡ pos v)
 
 abbrev μ-loop : tie.MeasureT-loop
 μ-loop run n accumulation v₀ j₀ v j = n - j
@@ -28,8 +28,12 @@ loop-holds c = search needs
 discount-next-requires : tie.Need-discount-next-requires Inv-loop μ-loop
 discount-next-requires c κs = let l = c .before in let s = l .before .before .before in
     let b = basisOf (s .args .run .now) in
-    let e = l .before .accumulation .ensures in
-    (l .loop .inv .1, omega (arith, e, accumulation-low b (s .pre .limits)), omega (arith, e, accumulation-high b (s .pre .limits)))
+    let limits = s .pre .0 .limits in
+    let e = l .before .accumulation .ensures in (
+      omega (arith, discount-small b limits (l .loop .j) (l .loop .v) (omega arith) (l .loop .inv .1)),
+      omega (arith, e, accumulation-low b limits),
+      omega (arith, e, accumulation-high b limits),
+    )
 
 add-j : tie.Need-add-j Inv-loop μ-loop
 add-j c = search needs
@@ -40,13 +44,13 @@ loop-less c = search needs
 loop-again : tie.Need-loop-again Inv-loop μ-loop
 loop-again c = let l = c .before .before in
     let b = basisOf (l .before .before .before .args .run .now) in
-    let turned = discount-turn b (l .loop .j) (pos (l .loop .v)) (l .before .accumulation .ensures) (l .loop .inv .2) in
-    (omega arith, c .discount-next .ensures .1, rw add-one (turned ∙ sym (c .discount-next .ensures .0)))
+    let turned = discount-turn b (l .loop .j) (pos (l .loop .v)) (l .before .accumulation .ensures) (l .loop .inv .1) in
+    (omega arith, rw add-one (turned ∙ sym (c .discount-next .ensures)))
 
 returns : tie.Need-returns Inv-loop μ-loop
 returns c = let l = c .before in
     let e : l .loop .j ≡ l .before .before .before .args .n = omega arith in
-    (sym (rw e at (l .loop .inv .2)), l .loop .inv .1)
+    sym (rw e at (l .loop .inv .1))
 
 pub discount-after-spec : {M : Type 1} → statement M
 discount-after-spec =

@@ -1,0 +1,29 @@
+-- The discount year by year, and the bound that carries the ranges of an annuity: below 4 × U for 130 years. Assumes nothing.
+use mathlib.Core.Path.{_≡_, refl}
+use Prim.Native.Nat.{ℕ, zero, suc, _+_, _*_, _/_, _≤_, _<_}
+use native.Mathlib.Omega.{arith}
+use lib.IntN.{ℤ, pos}
+use Rattle.arithmetic.specs.Fraction.{U}
+use Rattle.arithmetic.proofs.Rounding.{round-abs-le}
+use Rattle.arithmetic.proofs.Growth.{grown, grown-share, grown-small}
+use Rattle.basis.specs.Basis.{Basis, Limited, accumulationOf}
+use Rattle.basis.proofs.Accumulation.{accumulation-low}
+use Rattle.valuation.specs.Valuation.{discountNext, discountAfter}
+
+-- the discount of one year more
+pub discount-turn : (b : Basis) (j : ℕ) (v : ℤ) {accumulation : ℕ} → accumulation ≡ accumulationOf b → discountAfter b j ≡ v → discountAfter b (suc j) ≡ discountNext v accumulation
+unfolding discountAfter
+discount-turn b j v e h = rw (h, e) refl
+
+module _ (b : Basis) (limits : Limited b) where
+  natural : (j : ℕ) → (v : ℕ) × (discountAfter b j ≡ pos v) × (v ≤ grown j)
+  unfolding discountAfter grown
+  natural zero = (U, refl, omega arith)
+  natural (suc j) =
+      let p = natural j in
+      let d = accumulationOf b in
+      let low = accumulation-low b limits in
+      ((2 * (p .0 * U) + d) / (2 * d), rw (p .1) refl, round-abs-le (pos (p .0 * U)) d (grown (suc j)) (omega arith) (grown-share j (p .0) d low (p .2)))
+
+  pub discount-small : (j v : ℕ) → j ≤ 130 → discountAfter b j ≡ pos v → v < 4 * U
+  discount-small j v l h = let p = natural j in let e : v ≡ p .0 = cc in omega (arith, p .2, grown-small j l)
