@@ -4,7 +4,7 @@ import random
 from dataclasses import replace
 
 from outside.basis import Basis
-from outside.layout import ADDITION_LIMIT, DISCOUNT_LIMIT, RATE_LIMIT, TABLES
+from outside.layout import ADDITION_LIMIT, GREATEST_DISCOUNT, LOWEST_DISCOUNT, RATE_LIMIT, TABLES
 from outside.units import (AGES, BIRTH_YEARS, FIRST_AGE, FIRST_BIRTH_YEAR, FIRST_YEAR,
                            LAST_FOUNDATION_YEAR, LAST_YEAR, UNIT, rounded)
 
@@ -106,7 +106,7 @@ def random_basis(seed, rate_low, rate_high, base_rate_high=UNIT, years_after=60,
 
     base_year = draw(foundation_year, min(LAST_YEAR, foundation_year + years_after))
     return Basis(foundation_year, base_year,
-                 draw(rate_low // 2, rate_high // 2), draw(0, DISCOUNT_LIMIT),
+                 draw(rate_low // 2, rate_high // 2), draw(LOWEST_DISCOUNT, GREATEST_DISCOUNT),
                  many(len(AGES), 0, base_rate_high),
                  *convergence(len(AGES)), *convergence(len(BIRTH_YEARS)))
 
@@ -118,7 +118,7 @@ def limits_basis(seed):
               for table in TABLES}
     foundation_year = draw((FIRST_YEAR, LAST_FOUNDATION_YEAR))
     return Basis(foundation_year, foundation_year, draw((-ADDITION_LIMIT, ADDITION_LIMIT)),
-                 draw((0, DISCOUNT_LIMIT)), **tables)
+                 draw((LOWEST_DISCOUNT, GREATEST_DISCOUNT)), **tables)
 
 
 def gentle_bases():
@@ -138,6 +138,32 @@ def gentle_bases():
     return gentle
 
 
+def rates_that_round_up():
+    """Base rates by which few die, and which round the survivors up by half a unit at each age.
+
+    Of S survivors, S - q + q x (U - S) / U are left by a rate of q; here the last part is one half
+    or hardly more, so that it is rounded up to one. The first q is near the square root of U.
+    """
+    rates = [31_623]
+    survivors = UNIT - rates[0]
+    while len(rates) < len(AGES):
+        rates.append(-(-UNIT // (2 * (UNIT - survivors))))
+        survivors = rounded(survivors * (UNIT - rates[-1]), UNIT)
+    return tuple(rates)
+
+
+def discounted_bases():
+    """Gentle bases for the distances of annuities, at rates of discount of zero and below."""
+    small = random_basis(102, 0, 5_000_000, 60_000_000, 30, 100)
+    rounded_up = replace(level(), base_rates=rates_that_round_up())
+    return {
+        "random small, lowest discount": replace(small, discount_rate=LOWEST_DISCOUNT),
+        "rounded up": rounded_up,
+        # A rate at which each year's discount is above the exact one as well.
+        "rounded up, discount below zero": replace(rounded_up, discount_rate=-9_882_495),
+    }
+
+
 # ---- all of them by name
 
 def _flat(rate):
@@ -151,13 +177,17 @@ def named_bases():
         "sample": sample(),
         "realistic": usual,
         # Improvements of exactly 500,000,000 and -500,000,000 after F, which stand.
-        "all limits high": level(LAST_FOUNDATION_YEAR, LAST_YEAR, ADDITION_LIMIT, DISCOUNT_LIMIT,
+        "all limits high": level(LAST_FOUNDATION_YEAR, LAST_YEAR, ADDITION_LIMIT, GREATEST_DISCOUNT,
                                  UNIT, (high, high, 50, 150), (high, high, 50, 150)),
-        "improvements high": level(FIRST_YEAR, FIRST_YEAR, ADDITION_LIMIT, DISCOUNT_LIMIT, UNIT,
+        "improvements high": level(FIRST_YEAR, FIRST_YEAR, ADDITION_LIMIT, GREATEST_DISCOUNT, UNIT,
                                    _flat(high), _flat(high)),
-        "all limits low": level(FIRST_YEAR, FIRST_YEAR, -ADDITION_LIMIT, 0, 0,
+        "all limits low": level(FIRST_YEAR, FIRST_YEAR, -ADDITION_LIMIT, LOWEST_DISCOUNT, 0,
                                 (low, low, 1, 0), (low, low, 1, 0)),
+        # Each payment is the discount itself, at the lowest rate 3.69 after 130 years.
         "nobody dies": level(base_rate=0),
+        "nobody dies, lowest discount": level(base_rate=0, discount=LOWEST_DISCOUNT),
+        "nobody dies, discount -1": level(base_rate=0, discount=-1),
+        "nobody dies, greatest discount": level(base_rate=0, discount=GREATEST_DISCOUNT),
         "everybody dies": level(base_rate=UNIT),
         "T 1": replace(usual, age_convergence_periods=(1,) * len(AGES),
                        cohort_convergence_periods=(1,) * len(BIRTH_YEARS)),
@@ -170,7 +200,8 @@ def named_bases():
         "B 2130": replace(usual, base_year=LAST_YEAR),
         "F 1992": replace(usual, foundation_year=FIRST_YEAR, base_year=FIRST_YEAR),
         "F 2080": replace(usual, foundation_year=LAST_FOUNDATION_YEAR, base_year=2085),
-        "greatest discount": replace(usual, discount_rate=DISCOUNT_LIMIT),
+        "lowest discount": replace(usual, discount_rate=LOWEST_DISCOUNT),
+        "greatest discount": replace(usual, discount_rate=GREATEST_DISCOUNT),
         # An addition of -1.4 per cent lets rates rise: some are held at U, and 10 comes late.
         "rising rates": replace(usual, constant_addition=-14_000_000),
         # One age stops the course: at 97 by 9, at 110 by 10, and at 80 both in one year, so 9.

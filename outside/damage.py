@@ -11,6 +11,7 @@ from outside.refusals import Refusal
 Damage = namedtuple("Damage", "name content expected")
 
 _RATE, _UNIT = 200_000_000, 1_000_000_000
+_LOWEST_DISCOUNT = -10_000_000
 _MOST = 2 ** 31 - 1
 
 # Name, offset, entries, width, low, high, and one number far outside on each side.
@@ -98,7 +99,8 @@ def _around(run, name, offset, width, low, high, far_below, far_above):
 
 def numbers_at_limits(run):
     yield from _around(run, "addition", 8, 4, -100_000_000, 100_000_000, -_MOST - 1, _MOST)
-    yield from _around(run, "discount", 12, 4, 0, 200_000_000, -_MOST - 1, _MOST)
+    yield from _around(run, "discount", 12, 4, _LOWEST_DISCOUNT, 200_000_000, -_MOST - 1, _MOST)
+    yield Damage("discount -1 at 12", with_number(run, 12, 4, -1), None)
     for name, first_offset, entries, width, low, high, far_below, far_above in _TABLES:
         for entry in (0, entries // 2, entries - 1):
             yield from _around(run, name, first_offset + width * entry, width,
@@ -121,10 +123,12 @@ def several(run):
     yield Damage("only the mark", run[:4] + bytes(len(run) - 4), Refusal(5, 4))
     yield Damage("F and B", with_numbers(run, (4, 2, 2081), (6, 2, 2131)), Refusal(5, 4))
     yield Damage("B and addition", with_numbers(run, (6, 2, 2131), (8, 4, _MOST)), Refusal(5, 6))
-    yield Damage("addition and discount", with_numbers(run, (8, 4, _MOST), (12, 4, -1)),
-                 Refusal(5, 8))
-    yield Damage("discount and the first base rate", with_numbers(run, (12, 4, -1), (30, 4, -1)),
-                 Refusal(5, 12))
+    yield Damage("addition and discount",
+                 with_numbers(run, (8, 4, _MOST), (12, 4, _LOWEST_DISCOUNT - 1)), Refusal(5, 8))
+    yield Damage("discount and the first base rate",
+                 with_numbers(run, (12, 4, _LOWEST_DISCOUNT - 1), (30, 4, -1)), Refusal(5, 12))
+    yield Damage("the lowest discount, which stands, and the first base rate",
+                 with_numbers(run, (12, 4, _LOWEST_DISCOUNT), (30, 4, -1)), Refusal(5, 30))
     yield Damage("the last base rate and the first age I",
                  with_numbers(run, (550, 4, _UNIT + 1), (554, 4, _RATE + 1)), Refusal(5, 550))
     yield Damage("two entries of one table",

@@ -41,6 +41,12 @@ def premise_holds(model, kind, age, deferment, year):
     return all(model.none_below_zero(*each) for each in factors_used(kind, age, deferment, year))
 
 
+def annuity_bound(n, largest_k, discount_rate):
+    """Four times as much where the rate of discount is below zero."""
+    usual = Fraction((n + 1) * (3 * n * (largest_k + 1) + 2), 4)
+    return 4 * usual if discount_rate < 0 else usual
+
+
 def bound(model, kind, age, deferment, year):
     """In units, with k of the year or K the largest k among the rates used, 0 if there is none."""
     name = kind[0]
@@ -56,8 +62,7 @@ def bound(model, kind, age, deferment, year):
     if name == "expectation":
         n = LAST_AGE - age - deferment
         return Fraction(n * (n + 1) * (3 * largest_k + 2), 4)
-    n = LAST_AGE - age
-    return Fraction((n + 1) * (3 * n * (largest_k + 1) + 2), 4)
+    return annuity_bound(LAST_AGE - age, largest_k, model.basis.discount_rate)
 
 
 def distance(model, kind, age, deferment, year, answered):

@@ -3,8 +3,9 @@
 Run with `python3 -m outside.distances` from the folder that holds `crates/`. It reads the program's
 input and output, `crates/check_answers/stdin` and `stdout`; that the program writes this output is
 the gate's to say. For each of the five kinds it prints how many answers were checked and how near
-to its bound the worst one came. It ends with status 1 if a bound is broken or cannot be decided, or
-if fewer than `LEAST_CHECKED` answers of a kind could be checked.
+to its bound the worst one came; annuities at a rate of discount below zero, whose bound is four
+times as much, are a kind of their own here. It ends with status 1 if a bound is broken or cannot be
+decided, or if fewer answers of a kind than `LEAST_CHECKED` says could be checked.
 """
 
 import struct
@@ -20,8 +21,11 @@ from outside.exact import ExactModel
 from outside.layout import RUN_LENGTH
 
 FOLDER = Path("crates/check_answers")
-CLAIMED = (FACTOR, RATE, SURVIVORSHIP, EXPECTATION, ANNUITY)  # of an improvement nothing is claimed
-LEAST_CHECKED = 700
+BELOW_ZERO = "annuity below 0"  # an annuity whose rate of discount is below zero
+
+# What is judged, and the least number of each; of an improvement nothing is claimed.
+LEAST_CHECKED = {FACTOR: 700, RATE: 700, SURVIVORSHIP: 700, EXPECTATION: 700, ANNUITY: 700,
+                 BELOW_ZERO: 300}
 
 # Of one case: its kind, the place of its basis, age, deferment and year, and its line of output.
 Case = namedtuple("Case", "kind place question line")
@@ -65,13 +69,20 @@ def described(case):
         case.line)
 
 
+def judged_as(case, below_zero):
+    """The name of a case's tally; `below_zero` has the places of the bases with such a discount."""
+    name = case.kind[0]
+    return BELOW_ZERO if name == ANNUITY and case.place in below_zero else name
+
+
 def judged(asked, answered):
-    """A tally for each of the five kinds."""
+    """A tally for each kind that is judged."""
     runs, cases = read_cases(asked, answered)
     model_of = cache(lambda place: ExactModel(decode(runs[place])))
-    tallies = {name: Tally() for name in CLAIMED}
+    below_zero = {place for place, run in enumerate(runs) if decode(run).discount_rate < 0}
+    tallies = {name: Tally() for name in LEAST_CHECKED}
     for case in cases:
-        tally = tallies.get(case.kind[0])
+        tally = tallies.get(judged_as(case, below_zero))
         if tally is None:
             continue
         word, *numbers = case.line.split()
@@ -90,16 +101,16 @@ def main():
         return "distances: %s" % error
     status = 0
     for name, tally in tallies.items():
-        print("%-12s checked %d (premise fails %d, refused %d), worst distance / bound %.6f" % (
+        print("%-15s checked %d (premise fails %d, refused %d), worst distance / bound %.6f" % (
             name, tally.counts["checked"], tally.counts["premise fails"], tally.counts["refused"],
             tally.worst))
         if tally.worst_case:
-            print("%-12s at %s" % ("", described(tally.worst_case)))
+            print("%-15s at %s" % ("", described(tally.worst_case)))
         for fault in tally.faults:
             print(fault)
             status = 1
-        if tally.counts["checked"] < LEAST_CHECKED:
-            print("%s: fewer than %d could be checked" % (name, LEAST_CHECKED))
+        if tally.counts["checked"] < LEAST_CHECKED[name]:
+            print("%s: fewer than %d could be checked" % (name, LEAST_CHECKED[name]))
             status = 1
     return status
 

@@ -20,7 +20,7 @@ DISCOUNT_OFFSET = 12
 ZERO_OFFSET, ZERO_LENGTH = 16, 14
 
 ADDITION_LIMIT = 100_000_000
-DISCOUNT_LIMIT = 200_000_000
+LOWEST_DISCOUNT, GREATEST_DISCOUNT = -10_000_000, 200_000_000
 RATE_LIMIT = 200_000_000  # of initial and long-term rates
 LONGEST_CONVERGENCE = 50
 GREATEST_PROPORTION = 150
@@ -59,7 +59,8 @@ def limits(run):
     yield FOUNDATION_YEAR_OFFSET, foundation_year, FIRST_YEAR, LAST_FOUNDATION_YEAR
     yield BASE_YEAR_OFFSET, number_at(run, BASE_YEAR_OFFSET, 2), foundation_year, LAST_YEAR
     yield ADDITION_OFFSET, number_at(run, ADDITION_OFFSET, 4), -ADDITION_LIMIT, ADDITION_LIMIT
-    yield DISCOUNT_OFFSET, number_at(run, DISCOUNT_OFFSET, 4), 0, DISCOUNT_LIMIT
+    yield (DISCOUNT_OFFSET, number_at(run, DISCOUNT_OFFSET, 4),
+           LOWEST_DISCOUNT, GREATEST_DISCOUNT)
     for table in TABLES:
         for entry in range(table.entries):
             offset = table.offset + table.width * entry

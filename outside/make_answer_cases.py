@@ -11,10 +11,10 @@ refusal's number and places.
 
 import random
 
-from outside.bases import gentle_bases, named_bases, realistic
+from outside.bases import discounted_bases, gentle_bases, named_bases, realistic
 from outside.basis import decode, encode
 from outside.damage import with_number
-from outside.enquiries import IMPROVEMENT, KINDS, ask
+from outside.enquiries import ANNUITY, IMPROVEMENT, KINDS, ask
 from outside.refusals import Refusal, outcome
 from outside.units import LAST_AGE, LAST_YEAR
 from outside.vectors import command, expected_output, write
@@ -24,6 +24,10 @@ GREATEST = 4_294_967_295
 CHOSEN = ("sample", "realistic", "improvements high", "all limits low", "P 150", "B 2130", "F 2080",
           "9 in mid-course", "9 and 10 in one year", "10 in mid-course", "exactly four",
           "just beyond low", "random gentle", "random mixed", "random wide")
+
+# At the limits of the rate of discount and just below zero.
+DISCOUNTED = ("nobody dies, lowest discount", "nobody dies, discount -1",
+              "nobody dies, greatest discount", "lowest discount")
 
 
 # ---- the questions
@@ -79,6 +83,19 @@ def answerable(kind, basis, draw):
         yield age, deferment, draw(basis.base_year, last_year)
 
 
+def whole_lives(kind, basis, draw):
+    """Annuities from age 20, over which the discount runs to its end; a few of the other kinds."""
+    for year in (basis.base_year, LAST_YEAR):
+        for deferment in (0, 1, 45, 129, 130) if kind[0] == ANNUITY else (45,):
+            yield 20, deferment, year
+
+
+def whole_lives_and_more(kind, basis, draw):
+    yield from whole_lives(kind, basis, draw)
+    if kind[0] == ANNUITY:
+        yield from answerable(kind, basis, draw)
+
+
 def refused(kind, basis, draw):
     """The data run's refusal comes before what could be said of the question."""
     yield from [(60, 0, 2020), (19, 0, 2020), (150, 1, 2020), (60, 0, 2131)]
@@ -88,14 +105,16 @@ def refused(kind, basis, draw):
 
 def bases():
     """Each data run with its questions: accepted ones by choice, with the edges on every third; one
-    refused by 4 and one by 5; the gentle ones, for the distances.
+    refused by 4 and one by 5; the gentle ones, for the distances; the rates of discount.
     """
     by_name = named_bases()
     return ([(encode(by_name[name]), stopping_and_edges if place % 3 == 1 else stopping)
              for place, name in enumerate(CHOSEN)]
             + [(with_number(encode(realistic()), 20, 1, 1), refused),
                (with_number(encode(realistic()), 554 + 4 * 40, 4, 200_000_001), refused)]
-            + [(encode(basis), answerable) for basis in gentle_bases().values()])
+            + [(encode(basis), answerable) for basis in gentle_bases().values()]
+            + [(encode(by_name[name]), whole_lives) for name in DISCOUNTED]
+            + [(encode(basis), whole_lives_and_more) for basis in discounted_bases().values()])
 
 
 def cases(runs_and_questions):

@@ -5,18 +5,22 @@ import unittest
 
 from outside.bases import gentle_bases, named_bases
 from outside.basis import encode
-from outside.distances import judged, read_cases
+from outside.distances import BELOW_ZERO, judged, read_cases
 from outside.enquiries import KINDS, ask
 
-# An answer of each kind that is judged, then an improvement and a factor whose premise fails.
+# An answer of each kind that is judged, then an improvement and a factor whose premise fails. Then
+# two payments where nobody dies, at a discount of 0 and of -1.
 QUESTIONS = ((1, 0, 60, 0, 1993), (2, 0, 60, 0, 1993), (4, 0, 100, 5, 1993), (6, 0, 140, 2, 1993),
-             (8, 0, 140, 2, 1993), (0, 0, 60, 0, 1993), (1, 1, 100, 0, 2060))
-BASES = (encode(gentle_bases()["ties"]), encode(named_bases()["rising rates"]))
+             (8, 0, 140, 2, 1993), (0, 0, 60, 0, 1993), (1, 1, 100, 0, 2060),
+             (7, 2, 149, 0, 2006), (7, 3, 149, 0, 2006))
+AT_ZERO, AT_MINUS_ONE = 7, 8
+BASES = (encode(gentle_bases()["ties"]), encode(named_bases()["rising rates"]),
+         encode(named_bases()["nobody dies"]), encode(named_bases()["nobody dies, discount -1"]))
 
 
 def vectors(added=0, at=0):
     """The cases, and their answers, one of them with a number of units added."""
-    asked = b"\2\0" + b"".join(BASES) + b"".join(
+    asked = bytes([len(BASES), 0]) + b"".join(BASES) + b"".join(
         struct.pack("<BBIII", *question) for question in QUESTIONS)
     answers = [ask(BASES[place], KINDS[kind], *question) for kind, place, *question in QUESTIONS]
     answers[at] += added
@@ -31,8 +35,9 @@ def faults(added, at):
 class Judged(unittest.TestCase):
     def test_right_answers_keep_their_bounds(self):
         tallies = judged(*vectors())
-        self.assertEqual([tally.counts["checked"] for tally in tallies.values()], [1, 1, 1, 1, 1])
-        self.assertEqual([tally.faults for tally in tallies.values()], [[]] * 5)
+        self.assertEqual([tally.counts["checked"] for tally in tallies.values()],
+                         [1, 1, 1, 1, 2, 1])
+        self.assertEqual([tally.faults for tally in tallies.values()], [[]] * 6)
         # An improvement below zero is taken into the last factor, so nothing is claimed of it.
         self.assertEqual(tallies["factor"].counts["premise fails"], 1)
 
@@ -45,7 +50,20 @@ class Judged(unittest.TestCase):
         self.assertEqual(faults(-1, 0), ["broken: factor, basis 0, age 60, deferment 0, year 1993: "
                                          "value 999999997"])
         self.assertEqual([len(faults(2_000, at)) for at in range(len(QUESTIONS))],
-                         [1, 1, 1, 1, 1, 0, 0])
+                         [1, 1, 1, 1, 1, 0, 0, 1, 1])
+
+    def test_below_zero_an_annuity_has_four_times_the_bound(self):
+        # With N 1 and K 0 the bound is 2.5, and at -1 it is 10; both answers are all but exact.
+        for at, kept, broken in ((AT_ZERO, 2, 3), (AT_MINUS_ONE, 9, 11)):
+            for sign in (1, -1):
+                self.assertEqual(faults(sign * kept, at), [])
+                self.assertEqual(len(faults(sign * broken, at)), 1)
+
+    def test_annuities_below_zero_are_counted_apart(self):
+        tallies = judged(*vectors(11, AT_MINUS_ONE))
+        self.assertEqual(tallies["annuity"].faults, [])
+        self.assertEqual(tallies[BELOW_ZERO].faults, [
+            "broken: period annuity, basis 3, age 149, deferment 0, year 2006: value 2000000012"])
 
     def test_output_of_other_cases_is_not_judged(self):
         asked, answered = vectors()

@@ -68,6 +68,27 @@ class Rules(unittest.TestCase):
                              - engine.annuity(RUN, kind, 60, 1, 2020))
             self.assertEqual(first_payment, UNIT)
 
+    def test_the_discount_grows_where_its_rate_is_below_zero(self):
+        """Where nobody dies a payment is the discount; that after 130 years is below four."""
+        run = encode(named_bases()["nobody dies, lowest discount"])
+        annuities = [engine.annuity(run, engine.COHORT, 20, deferment, 2006)
+                     for deferment in range(131)] + [0]
+        payments = [annuity - later for annuity, later in zip(annuities, annuities[1:])]
+        self.assertEqual(payments[:3], [UNIT, 1_010_101_010, 1_020_304_051])
+        for discount, following in zip(payments, payments[1:]):
+            self.assertEqual(following, (200 * discount + 99) // 198)
+        self.assertEqual(payments[-1], 3_693_386_042)
+
+    def test_only_annuities_take_the_discount(self):
+        below, above = (encode(named_bases()[name])
+                        for name in ("lowest discount", "greatest discount"))
+        for kind in KINDS:
+            found = [ask(run, kind, 60, 5, 2020) for run in (below, RUN, above)]
+            if kind[0] == "annuity":
+                self.assertEqual(found, sorted(set(found), reverse=True))
+            else:
+                self.assertEqual(found, [found[0]] * 3)
+
     def test_no_years_left(self):
         run = encode(named_bases()["just beyond high"])
         self.assertEqual(point(run, 150, 0, 2130), (UNIT // 2, UNIT // 2, UNIT, UNIT))

@@ -2,17 +2,18 @@
 
 import random
 import unittest
+from dataclasses import replace
 from fractions import Fraction
 
-from outside.bases import level, named_bases, random_basis
+from outside.bases import discounted_bases, level, named_bases, random_basis
 from outside.basis import encode
-from outside.distance import distance, exact_answer, improvements_taken, premise_holds
+from outside.distance import bound, distance, exact_answer, improvements_taken, premise_holds
 from outside.enquiries import KINDS, ask
 from outside.exact import SCALE, ExactModel, component, rates_used
 from outside.units import LAST_AGE, LAST_YEAR, UNIT
 
 FACTOR, RATE = KINDS[1], KINDS[2]
-COHORT_ANNUITY = KINDS[8]
+PERIOD_ANNUITY, COHORT_ANNUITY = KINDS[7], KINDS[8]
 
 
 def plain_rate(model, age, year):
@@ -39,8 +40,9 @@ def plain_answer(model, kind, age, deferment, year):
 class Enclosures(unittest.TestCase):
     def test_they_hold_the_plain_fractions_and_are_narrow(self):
         draw = random.Random(3).randint
-        for seed, (low, high) in enumerate(((0, 20_000_000), (-200_000_000, 200_000_000))):
-            basis = random_basis(seed, low, high, years_after=20)
+        gentle = random_basis(0, 0, 20_000_000, years_after=20)
+        for basis in (gentle, random_basis(1, -200_000_000, 200_000_000, years_after=20),
+                      replace(gentle, discount_rate=-10_000_000)):
             model = ExactModel(basis)
             for kind in KINDS[2:]:
                 age = draw(145, 150)
@@ -54,8 +56,18 @@ class Enclosures(unittest.TestCase):
                 self.assertLess(exact.upper - exact.lower, 2 ** 40)
 
     def test_narrow_also_over_a_whole_life(self):
-        model = ExactModel(named_bases()["F 1992"])
-        exact = exact_answer(model, COHORT_ANNUITY, 20, 0, 1992)
+        for discount_rate in (30_000_000, -10_000_000):
+            model = ExactModel(replace(named_bases()["F 1992"], discount_rate=discount_rate))
+            exact = exact_answer(model, COHORT_ANNUITY, 20, 0, 1992)
+            self.assertLess(exact.upper - exact.lower, 2 ** 40)
+
+    def test_the_discount_below_zero(self):
+        """Where nobody dies an annuity is a sum of powers of 100 / 99, whose sum is known."""
+        model = ExactModel(named_bases()["nobody dies, lowest discount"])
+        exact = exact_answer(model, PERIOD_ANNUITY, 20, 0, 2006)
+        plain = SCALE * 99 * (Fraction(100, 99) ** 131 - 1)
+        self.assertLessEqual(exact.lower, plain)
+        self.assertLessEqual(plain, exact.upper)
         self.assertLess(exact.upper - exact.lower, 2 ** 40)
 
 
@@ -108,7 +120,7 @@ class Bounds(unittest.TestCase):
         """k and K at B + 10, and K of a cohort that runs past 2130."""
         basis = level(age=(5_000_000, 1_000_000, 30, 40))
         model, run = ExactModel(basis), encode(basis)
-        for kind, question, bound in (
+        for kind, question, expected in (
                 (KINDS[1], (60, 0, 2016), Fraction(30, 2)),
                 (KINDS[2], (60, 0, 2016), Fraction(31, 2)),
                 (KINDS[3], (60, 7, 2016), Fraction(7 * 32, 2)),
@@ -122,8 +134,30 @@ class Bounds(unittest.TestCase):
                 (KINDS[6], (140, 10, 2016), Fraction(0)),
                 (KINDS[3], (60, 0, 2016), Fraction(0))):
             found = distance(model, kind, *question, ask(run, kind, *question))
-            self.assertEqual(found.bound, bound, (kind, question))
-            self.assertLessEqual(found.upper, bound)
+            self.assertEqual(found.bound, expected, (kind, question))
+            self.assertLessEqual(found.upper, expected)
+
+    def test_four_times_for_annuities_below_zero(self):
+        """At -1 already, and for no other kind: with N 10 and K 10, and with N 0."""
+        usual = Fraction(11 * (30 * 11 + 2), 4)
+        for discount, times in ((-10_000_000, 4), (-1, 4), (0, 1), (1, 1), (200_000_000, 1)):
+            model = ExactModel(level(discount=discount))
+            self.assertEqual(bound(model, PERIOD_ANNUITY, 140, 4, 2016), times * usual)
+            self.assertEqual(bound(model, COHORT_ANNUITY, 150, 0, 2130), Fraction(times, 2))
+        zero, below = ExactModel(level()), ExactModel(level(discount=-10_000_000))
+        for kind in KINDS[1:7]:
+            self.assertEqual(bound(below, kind, 60, 7, 2016), bound(zero, kind, 60, 7, 2016))
+
+    def test_roundings_that_all_go_up(self):
+        """An annuity is near a third of its bound at 0, and near the usual bound below zero."""
+        for name, least in (("rounded up", Fraction(3, 10)),
+                            ("rounded up, discount below zero", Fraction(97, 400))):
+            basis = discounted_bases()[name]
+            question = PERIOD_ANNUITY, 20, 0, 2006
+            found = distance(ExactModel(basis), *question, ask(encode(basis), *question))
+            self.assertTrue(found.premise)
+            self.assertGreater(found.lower, least * found.bound)
+            self.assertLessEqual(found.upper, found.bound)
 
 
 if __name__ == "__main__":

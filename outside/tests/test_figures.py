@@ -71,6 +71,25 @@ class Values(unittest.TestCase):
         for kind in (engine.PERIOD, engine.COHORT):
             self.assertEqual(engine.annuity(run, kind, 149, 0, 2006), 1_750_000_000)
 
+    def test_annuities_below_zero(self):
+        """By hand, with 0.9 and then 0.81 of the lives left.
+
+        At -10,000,000 the discounts are 1,010,101,010 (which is 1 / 0.99) and 1,020,304,051 (that
+        over 0.99 is 1,020,304,050.505). The payments after the first are then 909,090,909 and
+        826,446,281.31. At -1 the discount is 1,000,000,001, and 0.9 of it are 900,000,000.9.
+        """
+        for kind in (engine.PERIOD, engine.COHORT):
+            for discount, question, expected in (
+                    (-10_000_000, (149, 0, 2006), 1_909_090_909),
+                    (-10_000_000, (148, 0, 2006), 2_735_537_190),
+                    (-10_000_000, (148, 1, 2130), 1_735_537_190),
+                    (-10_000_000, (148, 2, 2010), 826_446_281),
+                    (-10_000_000, (150, 0, 2010), UNIT),
+                    (-1, (149, 0, 2006), 1_900_000_001),
+                    (-1, (149, 1, 2130), 900_000_001)):
+                run = encode(level(discount=discount))
+                self.assertEqual(engine.annuity(run, kind, *question), expected)
+
     def test_points(self):
         text = b"148 0 2010\n150 0 2010\n148 3 2010\n"
         expected = (
