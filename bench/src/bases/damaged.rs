@@ -43,7 +43,7 @@ fn field(random: &mut Random, run: &mut [u8]) {
     match random.below(5) {
         0 => {
             let offset = random.pick(&[CONSTANT_ADDITION, DISCOUNT_RATE]);
-            let beyond = [-100_000_001, 100_000_001, -1, 200_000_001, i32::MIN, i32::MAX];
+            let beyond = [-100_000_001, 100_000_001, -10_000_001, 200_000_001, i32::MIN, i32::MAX];
             run[offset..][..4].copy_from_slice(&random.pick(&beyond).to_le_bytes());
         }
         1 | 2 => {

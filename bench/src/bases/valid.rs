@@ -30,7 +30,8 @@ pub fn modest(random: &mut Random) -> Draft {
     let mut draft = Draft::plain(foundation, base);
     let spread = random.pick(&[1, 1_000, 1_000_000, 30_000_000, 60_000_000]);
     draft.set_addition(random.between(-spread, spread) as i32);
-    draft.set_discount_rate(random.pick(&[0, 1, 30_000_000, 200_000_000]).min(random.between(0, 200_000_000) as i32));
+    let greatest = random.between(-10_000_000, 200_000_000) as i32;
+    draft.set_discount_rate(random.pick(&[-10_000_000, -1, 0, 1, 30_000_000, 200_000_000]).min(greatest));
     let growth = random.between(1_000, 1_150) as f64 / 1_000.0;
     let mut rate = random.between(0, 100_000_000) as f64;
     for index in 0..AGES {
@@ -49,7 +50,7 @@ pub fn anywhere(random: &mut Random) -> Draft {
     let (foundation, base) = years(random);
     let mut draft = Draft::plain(foundation, base);
     draft.set_addition(of_any_size(random, 100_000_000));
-    draft.set_discount_rate(of_any_size(random, 200_000_000).abs());
+    draft.set_discount_rate(of_any_size(random, 200_000_000).max(-10_000_000));
     for index in 0..AGES {
         let rate = of_any_size(random, 1_000_000_000).abs();
         draft.set_base_rate(index, rate);
@@ -68,7 +69,7 @@ pub fn extreme(random: &mut Random) -> Draft {
     let (foundation, base) = years(random);
     let mut draft = Draft::plain(foundation, base);
     draft.set_addition(random.pick(&[-100_000_000, -99_999_999, -1, 0, 1, 99_999_999, 100_000_000]));
-    draft.set_discount_rate(random.pick(&[0, 1, 199_999_999, 200_000_000]));
+    draft.set_discount_rate(random.pick(&[-10_000_000, -9_999_999, -1, 0, 1, 199_999_999, 200_000_000]));
     for index in 0..AGES {
         draft.set_base_rate(index, random.pick(&[0, 1, 499_999_999, 500_000_000, 999_999_999, 1_000_000_000]));
     }
@@ -89,7 +90,7 @@ pub fn brink(random: &mut Random) -> Draft {
     let sign = random.pick(&[-1, 1]);
     let part = random.pick(&[200_000_000, 199_999_999, 100_000_000, 29_000_000, 11_000_000]) * sign;
     draft.set_addition(random.pick(&[100_000_000, 99_999_999, 0]) * sign);
-    draft.set_discount_rate(random.between(0, 200_000_000) as i32);
+    draft.set_discount_rate(random.between(-10_000_000, 200_000_000) as i32);
     for index in 0..AGES {
         draft.set_base_rate(index, random.pick(&[0, 1, 250_000_000, 1_000_000_000]));
     }
@@ -126,5 +127,23 @@ fn components(random: &mut Random, draft: &mut Draft, mut terms: impl FnMut(&mut
             let (rates, period, proportion) = terms(random);
             draft.set_component(component, index, rates, period, proportion);
         }
+    }
+}
+
+#[cfg(test)]
+mod tests {
+    use super::*;
+    use crate::engine::basis::Basis;
+
+    #[test]
+    fn all_are_accepted_and_every_kind_has_discounts_below_zero() {
+        let mut random = Random::new(1);
+        for kind in [modest, anywhere, extreme, brink] {
+            let runs: Vec<Vec<u8>> = (0..200).map(|_| kind(&mut random).run).collect();
+            let rates = runs.iter().map(|run| Basis::accept(run).expect("within its limits").discount_rate);
+            let below = rates.filter(|&rate| rate < 0).count();
+            assert!((1..200).contains(&below), "{below} of 200");
+        }
+        assert!(Basis::accept(&fourfold(&mut random).run).is_ok());
     }
 }

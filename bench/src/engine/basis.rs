@@ -10,7 +10,7 @@ pub struct Basis<'run> {
     pub foundation_year: u32,
     pub base_year: u32,
     pub constant_addition: i64,
-    pub discount_rate: u64,
+    pub discount_rate: i64,
 }
 
 impl<'run> Basis<'run> {
@@ -25,7 +25,7 @@ impl<'run> Basis<'run> {
             foundation_year: short(run, FOUNDATION_YEAR),
             base_year: short(run, BASE_YEAR),
             constant_addition: i64::from(signed(run, CONSTANT_ADDITION)),
-            discount_rate: signed(run, DISCOUNT_RATE) as u64,
+            discount_rate: i64::from(signed(run, DISCOUNT_RATE)),
         })
     }
 }

@@ -72,6 +72,29 @@ fn an_annuity() {
     assert_eq!(annuity(&draft.run, Kind::Cohort, 149, 0, 2130), Ok(1_750_000_000));
 }
 
+/// The discounts are 1,010,101,010 and 1,020,304,051, of which nine tenths and 0.81 are paid; at -1 the first is
+/// 1,000,000,001.
+#[test]
+fn annuities_at_a_rate_below_zero() {
+    let mut draft = tenth();
+    draft.set_discount_rate(-10_000_000);
+    assert_eq!(annuity(&draft.run, Kind::Period, 149, 0, 2010), Ok(1_909_090_909));
+    assert_eq!(annuity(&draft.run, Kind::Cohort, 148, 0, 2130), Ok(2_735_537_190));
+    assert_eq!(annuity(&draft.run, Kind::Cohort, 148, 1, 2130), Ok(1_735_537_190));
+    draft.set_discount_rate(-1);
+    assert_eq!(annuity(&draft.run, Kind::Period, 149, 0, 2010), Ok(1_900_000_001));
+}
+
+/// Where nobody dies a payment is the discount itself, and the last one is the greatest that there is.
+#[test]
+fn the_greatest_discount() {
+    let mut draft = Draft::plain(2006, 2006);
+    draft.set_discount_rate(-10_000_000);
+    for kind in [Kind::Period, Kind::Cohort] {
+        assert_eq!(annuity(&draft.run, kind, 20, 130, 2006), Ok(3_693_386_042));
+    }
+}
+
 /// The basis of 01's points program.
 fn tenth() -> Draft {
     let mut draft = Draft::plain(2006, 2006);

@@ -36,7 +36,7 @@ pub const BIRTH_PERIODS: usize = 4016;
 pub const BIRTH_PROPORTIONS: usize = 4285;
 
 pub const ADDITIONS: RangeInclusive<i32> = -100_000_000..=100_000_000;
-pub const DISCOUNT_RATES: RangeInclusive<i32> = 0..=200_000_000;
+pub const DISCOUNT_RATES: RangeInclusive<i32> = -10_000_000..=200_000_000;
 pub const MORTALITY_RATES: RangeInclusive<i32> = 0..=1_000_000_000;
 pub const IMPROVEMENT_RATES: RangeInclusive<i32> = -200_000_000..=200_000_000;
 pub const PERIODS: RangeInclusive<u8> = 1..=50;

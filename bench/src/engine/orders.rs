@@ -32,6 +32,17 @@ fn a_base_year_before_the_foundation_year() {
 }
 
 #[test]
+fn the_limits_of_the_rate_of_discount() {
+    let mut draft = Draft::plain(2006, 2006);
+    let mut checked = |rate| {
+        draft.set_discount_rate(rate);
+        check_basis(&draft.run)
+    };
+    assert_eq!([-10_000_000, -1, 0, 200_000_000].map(&mut checked), [Ok(()); 4]);
+    assert_eq!([-10_000_001, 200_000_001, i32::MIN].map(&mut checked), [Err(Refusal::field(12)); 3]);
+}
+
+#[test]
 fn questions() {
     let run = Draft::plain(2006, 2010).run;
     let asked = |age, deferment, year| expectation(&run, Kind::Cohort, age, deferment, year);

@@ -64,10 +64,11 @@ impl Basis<'_> {
         Ok(annuity)
     }
 
-    /// `discount * U / (U + rate of discount)`, rounded.
+    /// `discount * U / (U + rate of discount)`, rounded. Even at the lowest rate a discount stays below 4 U for the 130
+    /// years from 20 to 150, so that twice the product fits.
     #[inline]
     fn discounted(&self, discount: u64) -> u64 {
-        let divisor = UNIT + self.discount_rate;
+        let divisor = (UNIT as i64 + self.discount_rate) as u64;
         (2 * discount * UNIT + divisor) / (2 * divisor)
     }
 }
