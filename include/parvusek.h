@@ -41,7 +41,8 @@ typedef struct { parvusek_refusal_t refusal; uint64_t survivors; uint32_t age, y
 
 /* ---- basis: a file of 4,608 bytes, a data run of 4,554 */
 
-/* Whether a data run may be used. Refused: 1 (length), 4 (mark or zero bytes), 5 (a field outside its limits). */
+/* Whether a data run may be used. Refused: 1 (length), 4 (mark or zero bytes), 5 (a field outside its limits).
+   The rate of discount may be below zero: it is -10,000,000 to 200,000,000 units. */
 parvusek_refusal_t parvusek_check_basis(const uint8_t *run, size_t run_len);
 
 /* Writes the data run of a file into the first 4,554 bytes of run; further bytes are kept.

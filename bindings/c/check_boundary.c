@@ -144,7 +144,9 @@ static void check_runs(void) {
     run[0] = 'm';
     HOLDS(refused(parvusek_check_basis(run, RUN), 4, 0, 0));
     sample(run);
-    put4(run + 12, -1);
+    put4(run + 12, -10000000);
+    HOLDS(passed(parvusek_check_basis(run, RUN)));
+    put4(run + 12, -10000001);
     HOLDS(refused(parvusek_check_basis(run, RUN), 5, 12, 0));
 }
 
@@ -283,6 +285,12 @@ static void check_values(void) {
     sample(run);
     put4(run + 12, 200000000);
     HOLDS(is(parvusek_period_annuity(run, RUN, 149, 0, 2010), 1750000000));
+
+    /* the discount grows: 1,010,101,010 after a year and 1,020,304,051 after two, of which 0.9 and 0.81 are paid */
+    put4(run + 12, -10000000);
+    HOLDS(is(parvusek_period_annuity(run, RUN, 149, 0, 2010), 1909090909));
+    HOLDS(is(parvusek_cohort_annuity(run, RUN, 148, 1, 2010), 1735537190));
+
     sample_worsening(run);
     HOLDS(declined(parvusek_cohort_annuity(run, RUN, 100, 0, 2006), 10, 104, 2010));
     HOLDS(declined(parvusek_period_survivorship(run, RUN, 100, 1, 2010), 10, 100, 2010));

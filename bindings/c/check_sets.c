@@ -126,7 +126,7 @@ static void check_refused_grids(void) {
     HOLDS(refused(parvusek_grid(run, RUN - 1, list, GRID - 1), 11, GRID, 0));
     HOLDS(refused(parvusek_grid(NULL, 0, NULL, 0), 11, GRID, 0));
     HOLDS(refused(parvusek_grid(run, RUN - 1, list, LENT), 1, 0, 0));
-    put4(run + 12, -1);
+    put4(run + 12, -10000001);
     HOLDS(refused(parvusek_grid(run, RUN, list, GRID), 5, 12, 0));
     run[29] = 1;
     HOLDS(refused(parvusek_grid(run, RUN, list, GRID), 4, 29, 0));
@@ -173,7 +173,7 @@ static void check_starts(void) {
     HOLDS(not_started(parvusek_lifeline_start(run, RUN, 148, 2131), 7, 2131));
     HOLDS(not_started(parvusek_lifeline_start(run, RUN, 148, 2005), 7, 2005));
     HOLDS(not_started(parvusek_lifeline_start(run, RUN - 1, 19, 2005), 1, 0));
-    put4(run + 12, -1);
+    put4(run + 12, -10000001);
     HOLDS(not_started(parvusek_lifeline_start(run, RUN, 148, 2010), 5, 12));
 }
 
@@ -219,7 +219,7 @@ static void check_refused_steps(void) {
     HOLDS(stays(run, RUN, 150, UINT32_MAX, UNIT, 7, UINT32_MAX, 0));
     HOLDS(stays(run, RUN, 148, 2010, UNIT + 1, 5, RUN, 0));
     HOLDS(stays(run, RUN, 150, 2260, UINT64_MAX, 5, RUN, 0));
-    put4(run + 12, -1);
+    put4(run + 12, -10000001);
     HOLDS(stays(run, RUN, 148, 2010, UNIT + 1, 5, 12, 0));
 
     sample_beyond(run);

@@ -158,7 +158,8 @@ def check_bases(e):
     same("a short run", places(e.check_basis(run[1:])), (1, 0, 0))
     same("no run", places(e.check_basis(b"")), (1, 0, 0))
     same("a wrong mark", places(e.check_basis(b"MPB2" + run[4:])), (4, 3, 0))
-    same("a discount below 0", places(e.check_basis(sample(discount=-1))), (5, 12, 0))
+    same("the lowest discount", places(e.check_basis(sample(discount=-10_000_000))), (0, 0, 0))
+    same("a discount below it", places(e.check_basis(sample(discount=-10_000_001))), (5, 12, 0))
 
     file = lent(FILE + FURTHER)
     same("room for a file", places(e.write_basis(b"", file, FILE - 1)), (11, FILE, 0))
@@ -219,6 +220,11 @@ def check_enquiries(e):
     case("improvement", beyond(), (60, 2007), 0, (9, 60, 2007))
     case("period_annuity", sample(discount=200_000_000), (149, 0, 2010), 1_750_000_000)
 
+    # The discount grows: 1,010,101,010 after a year and 1,020,304,051 after two, of which 0.9 and 0.81 are paid.
+    growing = sample(discount=-10_000_000)
+    case("period_annuity", growing, (149, 0, 2010), 1_909_090_909)
+    case("cohort_annuity", growing, (148, 1, 2010), 1_735_537_190)
+
 
 def check_small_sets(e):
     def asked(*questions):
@@ -241,7 +247,7 @@ def check_small_sets(e):
     ])
     moving = e.small_set(sample(addition=10_000_000), asked(*[(148, 0, 2006)] * 6))
     same("period and cohort", points(moving), [([2_210_000_000, 2_210_900_000, 2_710_000_000, 2_710_900_000], (0, 0, 0))] * 6)
-    refused = e.small_set(sample(discount=-1), questions)
+    refused = e.small_set(sample(discount=-10_000_001), questions)
     same("a refused set", (places(refused.refusal), points(refused)), ((5, 12, 0), [(nothing, (0, 0, 0))] * 6))
 
 
@@ -302,10 +308,10 @@ def check_refused_grids(e):
     before = bytes(records)
     same("a list of 118", places(e.grid(sample(), records, GRID - 1)), (11, GRID, 0))
     same("11 before a short run", places(e.grid(b"", records, GRID - 1)), (11, GRID, 0))
-    same("11 before a field", places(e.grid(sample(discount=-1), records, GRID - 1)), (11, GRID, 0))
+    same("11 before a field", places(e.grid(sample(discount=-10_000_001), records, GRID - 1)), (11, GRID, 0))
     same("no list", places(e.grid(b"", None, 0)), (11, GRID, 0))
     same("a short run", places(e.grid(sample()[1:], records, GRID)), (1, 0, 0))
-    same("a field", places(e.grid(sample(discount=-1), records, GRID + 2)), (5, 12, 0))
+    same("a field", places(e.grid(sample(discount=-10_000_001), records, GRID + 2)), (5, 12, 0))
     same("unchanged by refusals", bytes(records), before)
 
 
@@ -331,7 +337,7 @@ def check_starts(e):
     start(run, (148, 2131), nowhere, (7, 2131, 0))
     start(run, (148, 2005), nowhere, (7, 2005, 0))
     start(b"", (19, 2005), nowhere, (1, 0, 0))
-    start(sample(discount=-1), (148, 2010), nowhere, (5, 12, 0))
+    start(sample(discount=-10_000_001), (148, 2010), nowhere, (5, 12, 0))
 
 
 def check_steps(e):
@@ -353,7 +359,7 @@ def check_steps(e):
     step(worsening(), (100, 2009, UNIT), (101, 2010, 662_500_000, 0))
 
     stays(b"", (19, 2005, 2**64 - 1), (1, 0, 0))
-    stays(sample(discount=-1), (19, 2005, UNIT), (5, 12, 0))
+    stays(sample(discount=-10_000_001), (19, 2005, UNIT), (5, 12, 0))
     stays(run, (0, 0, 0), (6, 0, 0))
     stays(run, (151, 2261, UNIT + 1), (6, 151, 0))
     stays(run, (148, 2005, UNIT + 1), (7, 2005, 0))

@@ -44,7 +44,8 @@ _MAKE = """Makes a basis file from a folder of CSV tables, exactly; the engine i
   cohort_component.csv   birth_year and the same columns, for the birth years 1842 to 2110
 
 Rates are decimal numbers with at most nine decimals (0.0125 is 1.25 per cent), convergence periods
-whole years of 1 to 50, proportions remaining at mid-point whole per cent of 0 to 150."""
+whole years of 1 to 50, proportions remaining at mid-point whole per cent of 0 to 150. The discount
+rate is -0.01 to 0.2."""
 
 _SHOW = """Writes the tables of a basis file into a folder, in the form that 'basis make' reads.
 

@@ -127,7 +127,7 @@ class Basis:
 
     @property
     def discount_rate(self) -> int:
-        """The yearly rate of discount, in units."""
+        """The yearly rate of discount, in units; it may be below zero."""
         return int.from_bytes(self._run[12:16], "little", signed=True)
 
     # ---- single cells

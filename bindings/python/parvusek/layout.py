@@ -80,7 +80,7 @@ SETTINGS = (
     _setting("foundation_year", 4, 2, 1992, 2080, False),
     _setting("base_year", 6, 2, 1992, LAST_YEAR, False),
     _setting("constant_addition", 8, 4, -UNIT // 10, UNIT // 10, True),
-    _setting("discount_rate", 12, 4, 0, UNIT // 5, True),
+    _setting("discount_rate", 12, 4, -UNIT // 100, UNIT // 5, True),
 )
 
 COLUMNS = (

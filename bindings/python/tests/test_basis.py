@@ -39,7 +39,8 @@ def drawn_questions(draw: random.Random, count: int) -> list[Question]:
 
 class Enquiries(unittest.TestCase):
     named = {"sample": bases.sample(), "realistic": bases.realistic(), "exactly four": bases.exactly_four(),
-             "limits": bases.limits_basis(1), "random": bases.random_basis(2, -200_000_000, 200_000_000)}
+             "limits": bases.limits_basis(1), "random": bases.random_basis(2, -200_000_000, 200_000_000),
+             "below zero": bases.named_bases()["lowest discount"]}
 
     def each_basis(self) -> Any:
         for name, outside_basis in self.named.items():
@@ -121,6 +122,8 @@ class Files(unittest.TestCase):
         self.assertEqual(basis, Basis(basis.run))
         self.assertEqual(repr(basis), "<Basis F 2006, B 2008>")
         self.assertEqual((basis.constant_addition, basis.discount_rate), (1_000_000, 30_000_000))
+        below = Basis(bytes(encode(bases.named_bases()["lowest discount"])))
+        self.assertEqual(below.discount_rate, -10_000_000)
 
     def test_damaged(self) -> None:
         file = (SAMPLE / "basis.bin").read_bytes()

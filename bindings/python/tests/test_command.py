@@ -162,16 +162,15 @@ class Bases(Command):
 
     def test_a_refused_file_is_explained(self) -> None:
         file = bytearray((SAMPLE / "basis.bin").read_bytes())
-        file[2 + 12] = 255  # the discount rate's lowest and highest bytes: below zero
-        file[2 + 15] = 255
+        file[2 + 12:2 + 16] = (-10_000_001).to_bytes(4, "little", signed=True)  # the discount rate
         words = [int.from_bytes(file[4 * place:4 * place + 4], "little") for place in range(127)]
         check = sum(word * place for place, word in enumerate(words, 1)) % 2**32
         file[508:512] = check.to_bytes(4, "little")
         (self.folder / "basis.bin").write_bytes(file)
         status, _, wrong = self.run_command("basis", "check", self.folder / "basis.bin")
         self.assertEqual(status, 1)
-        self.assertIn("is refused: settings.csv, discount_rate: -", wrong)
-        self.assertIn("is outside its limits, 0.000000000 to 0.200000000 (refused 5", wrong)
+        self.assertIn("is refused: settings.csv, discount_rate: -0.010000001 is outside its limits, "
+                      "-0.010000000 to 0.200000000 (refused 5", wrong)
 
     def test_a_failed_make_leaves_the_old_file(self) -> None:
         (self.folder / "basis.bin").write_bytes(b"old")

@@ -91,6 +91,15 @@ class Messages(unittest.TestCase):
         self.assertTrue(message.startswith("settings.csv, base_year: 2005 is outside its limits, "
                                            "the foundation year 2006 to 2130 (refused 5"), message)
 
+    def test_the_discount_rate_may_be_below_zero(self) -> None:
+        path = self.folder / "settings.csv"
+        text = path.read_text(encoding="utf-8")
+        path.write_text(text.replace("discount_rate,0.030000000", "discount_rate,-0.01"), encoding="utf-8")
+        self.assertEqual(basis_of(self.folder).discount_rate, -10_000_000)
+        self.assertEqual(self.refused("settings.csv", "discount_rate,-0.01", "discount_rate,-0.010000001"),
+                         "settings.csv, discount_rate: -0.010000001 is outside its limits, -0.010000000 to "
+                         "0.200000000 (refused 5: a field outside its limits (offset 12))")
+
     def test_a_number_that_its_bytes_cannot_hold(self) -> None:
         self.assertEqual(self.refused("age_component.csv", "\n20,0.012000000,0.010000000,10,50",
                                       "\n20,0.012000000,0.010000000,10,256"),

@@ -148,7 +148,7 @@ impl Basis {
         i32::from_le_bytes(self.bytes(8))
     }
 
-    /// The yearly rate of discount, in units.
+    /// The yearly rate of discount, in units; below zero where pensions rise faster than the assets.
     pub fn discount_rate(&self) -> i32 {
         i32::from_le_bytes(self.bytes(12))
     }

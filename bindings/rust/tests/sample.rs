@@ -111,6 +111,23 @@ fn a_lifeline_stops_at_its_end_and_after_a_refusal() {
     assert_eq!(line.step(), Err(refused));
 }
 
+/// The sample with this rate of discount, and with a rate of mortality of one tenth at 149 in the base year.
+fn discounted(rate: i32) -> Result<Basis, Refusal> {
+    let mut run = *sample().run();
+    run[12..16].copy_from_slice(&rate.to_le_bytes());
+    run[30 + 4 * 129..][..4].copy_from_slice(&100_000_000_i32.to_le_bytes());
+    Basis::from_run(&run)
+}
+
+#[test]
+fn the_rate_of_discount_may_be_below_zero() {
+    let basis = discounted(-10_000_000).expect("the lowest rate");
+    assert_eq!(basis.discount_rate(), -10_000_000);
+    // One now, and nine tenths of 1,010,101,010 in a year.
+    assert_eq!(basis.annuity(Kind::Period, 149, 0, 2008), Ok(1_909_090_909));
+    assert_eq!(discounted(-10_000_001).unwrap_err(), Refusal { number: 5, first: 12, second: 0 });
+}
+
 #[test]
 fn sentences_are_those_of_the_document() {
     let document = fs::read_to_string(concat!(env!("CARGO_MANIFEST_DIR"), "/../../docs/REFUSALS.md"))
