@@ -1,5 +1,5 @@
 -- Numbers that go on year by year from U, each rounded from the last, and the exact ones beside them: a factor, survivors, a
--- discount. Each year adds the distance of what it multiplies by and one half for its rounding. Assumes nothing.
+-- discount at a rate not below zero. Each year adds the distance of what it multiplies by and one half for its rounding. Assumes nothing.
 use mathlib.Core.Path.{_≡_}
 use Prim.Native.Nat.{ℕ, zero, suc, _+_, _*_, _≤_, _<_}
 use native.Mathlib.Omega.{arith}

@@ -1,4 +1,4 @@
--- Fractions from 0 to U, which the exact factors, rates, survivors and discounts are. Assumes nothing.
+-- Fractions from 0 to U, which the exact factors, rates and survivors are, and the exact discounts at a rate not below zero. Assumes nothing.
 use mathlib.Core.Path.{_≡_, refl}
 use mathlib.Core.Bool.{Bool, true, false, cond}
 use Prim.Native.Nat.{ℕ, _*_, _-_, _≤_}
