@@ -22,7 +22,8 @@ use Rattle.exact.specs.Model.{yearsTo, exactAnnuity}
 use Rattle.exact.specs.Distance.{ImprovingOver, largestYears, WithinQuarters, Demand3}
 use Rattle.exact.proofs.Factor.{factor-within, rate-within}
 use Rattle.exact.proofs.Survivors.{survived}
-use Rattle.exact.proofs.Values.{Discounted, discounted, discounted-below-zero, expectation-within, annuity-within}
+use Rattle.exact.proofs.Discount.{Discounted, discounted, discounted-below-zero}
+use Rattle.exact.proofs.Values.{expectation-within, annuity-within}
 use Rattle.exact.proofs.Largest.{largest-most}
 
 -- an answered annuity, w times the distances

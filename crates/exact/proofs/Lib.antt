@@ -1,6 +1,7 @@
 pub mod Improvement
 pub mod Factor
 pub mod Survivors
+pub mod Discount
 pub mod Values
 pub mod Largest
 pub mod Demands

@@ -5,24 +5,21 @@ use mathlib.Core.Path.{_≡_}
 use Prim.Native.Nat.{ℕ, zero, suc, _+_, _*_, _-_, _/_, _≤_, _<_}
 use native.Mathlib.Omega.{arith}
 use native.Mathlib.Nat.{mul-le-mul-right}
-use lib.IntN.{ℤ, pos, natAbs, _+ℤ_}
-use lib.Signed.{_≤ℤ_, _<ℤ_}
+use lib.IntN.{ℤ, pos, _+ℤ_}
 use Rattle.arithmetic.specs.Fraction.{Fraction, Within, sumᶠ, U}
 use Rattle.arithmetic.proofs.Distance.{within-whole, within-more, within-sum, within-product-times}
 use Rattle.arithmetic.proofs.UnitRange.{unit-abs}
-use Rattle.arithmetic.proofs.Chain.{Chained, chained-first, chained-share}
-use Rattle.arithmetic.proofs.Growth.{Growing, growing-first, growing-next, growing-near, grown-small}
 use Rattle.arithmetic.proofs.Sums.{sumℕ, total-first, total-next, sum-linear, sum-tail}
-use Rattle.basis.specs.Basis.{Basis, Limited, accumulationOf}
+use Rattle.basis.specs.Basis.{Basis, Limited}
 use Rattle.basis.specs.Outcome.{Outcome, value, sumOf, addTo}
 use Rattle.basis.proofs.Outcome.{along, came}
-use Rattle.basis.proofs.Accumulation.{accumulation-low, accumulation-grows, accumulation-shrinks}
 use Rattle.survivorship.specs.Survivorship.{yearOn, survivorsOf}
 use Rattle.valuation.specs.Valuation.{curtateOf, expectationOf, discountAfter, payment, paymentAfter, annuityOf}
 use Rattle.survivorship.specs.declared.Kind.{Kind}
-use Rattle.exact.specs.Model.{yearsTo, exactSurvivors, exactDiscount, exactExpectation, exactPayment, exactAnnuity}
+use Rattle.exact.specs.Model.{yearsTo, exactSurvivors, exactExpectation, exactPayment, exactAnnuity}
 use Rattle.exact.specs.Distance.{ImprovingOver, WithinQuarters}
 use Rattle.exact.proofs.Survivors.{survived}
+use Rattle.exact.proofs.Discount.{Discounted}
 
 quarters : {v : ℤ} {q : Fraction} {m : ℕ} (r : ℕ) → Within v q m → 2 * m ≤ r → WithinQuarters v q r
 quarters {q = q} r h k = record { proper = h .proper; near = omega (arith, h .near, mul-le-mul-right (q .den) k) }
@@ -38,29 +35,6 @@ total-within term exact m n near total h =
     let e : a +ℤ w .0 ≡ g = cc in
     rw (← e) (total-next exact m k c (near k (w .0) l (w .1))))
     total h
-
--- ---- the discount
--- after j years it is at most w × U, and w × j halves from the exact one
-pub record Discounted (b : Basis) (w j : ℕ) : Type 0 where
-  pub size : natAbs (discountAfter b j) ≤ w * U
-  pub near : Within (discountAfter b j) (exactDiscount b j) (w * j)
-
-module _ (b : Basis) (limits : Limited b) where
-  falling : pos 0 ≤ℤ b .discount → (j : ℕ) → Chained 0 j (discountAfter b j) (exactDiscount b j)
-  unfolding discountAfter exactDiscount
-  falling h zero = chained-first 0
-  falling h (suc j) = chained-share (accumulationOf b) (accumulation-grows b limits h) (falling h j)
-
-  rising : b .discount <ℤ pos 0 → (j : ℕ) → Growing j (discountAfter b j) (exactDiscount b j)
-  unfolding discountAfter exactDiscount
-  rising h zero = growing-first
-  rising h (suc j) = growing-next (accumulationOf b) (accumulation-low b limits) (accumulation-shrinks b limits h) (rising h j)
-
-  pub discounted : pos 0 ≤ℤ b .discount → (j : ℕ) → j ≤ 130 → Discounted b 1 j
-  discounted h j l = let c = falling h j in record { size = omega (arith, c .size); near = within-more (c .near) (omega arith) }
-
-  pub discounted-below-zero : b .discount <ℤ pos 0 → (j : ℕ) → j ≤ 130 → Discounted b 4 j
-  discounted-below-zero h j l = let c = rising h j in record { size = omega (arith, c .size, grown-small j l); near = growing-near c l }
 
 -- ---- the expectation; j years of survivorship are j(3K + 2) halves
 module _ (b : Basis) (kind : Kind) (age year deferment K : ℕ) (limits : Limited b) (low : 20 ≤ age) (high : age + deferment ≤ 150)

@@ -59,7 +59,7 @@ pub record Demand3 (run : List ℕ) : Type 0 where
       let K = largestYears (basisOf run) kind (year + deferment) N in
       ImprovingOver (basisOf run) kind (age + deferment) (year + deferment) N →
       WithinQuarters e (exactExpectation (basisOf run) kind age year deferment) (N * (N + 1) * (3 * K + 2))
-  -- where the rate of discount is not below zero, annuity 4d ≤ (N + 1)(3N(K + 1) + 2), N = 150 − age
+  -- annuity 4d ≤ (N + 1)(3N(K + 1) + 2), N = 150 − age, where the rate of discount is not below zero
   pub annuity : pos 0 ≤ℤ basisOf run .discount →
       (kind : Kind) (age deferment year : ℕ) (a : ℤ) → annuityEnquiry run kind age deferment year ≡ value a →
       let N = 150 - age in
