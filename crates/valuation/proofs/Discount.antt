@@ -7,7 +7,7 @@ use Rattle.arithmetic.specs.Fraction.{U}
 use Rattle.arithmetic.proofs.Rounding.{round-abs-le}
 use Rattle.arithmetic.proofs.Growth.{grown, grown-share, grown-small}
 use Rattle.basis.specs.Basis.{Basis, Limited, accumulationOf}
-use Rattle.basis.proofs.Accumulation.{accumulation-low}
+use Rattle.basis.proofs.Accumulation.{accumulation-low, accumulation-high}
 use Rattle.valuation.specs.Valuation.{discountNext, discountAfter}
 
 -- the discount of one year more
@@ -23,7 +23,16 @@ module _ (b : Basis) (limits : Limited b) where
       let p = natural j in
       let d = accumulationOf b in
       let low = accumulation-low b limits in
-      ((2 * (p .0 * U) + d) / (2 * d), rw (p .1) refl, round-abs-le (pos (p .0 * U)) d (grown (suc j)) (omega arith) (grown-share j (p .0) d low (p .2)))
+      ((2 * (p .0 * U) + d) / (2 * d), rw (p .1) refl, round-abs-le (pos (p .0 * U)) d (grown (suc j)) (omega arith) (omega (arith, grown-share j (p .0) 1 d low (omega (arith, p .2)))))
 
   pub discount-small : (j v : ℕ) → j ≤ 130 → discountAfter b j ≡ pos v → v < 4 * U
   discount-small j v l h = let p = natural j in let e : v ≡ p .0 = cc in omega (arith, p .2, grown-small j l)
+
+  -- what the work of one year more asks for
+  pub discount-ranges : (j v : ℕ) {accumulation : ℕ} → j ≤ 130 → discountAfter b j ≡ pos v → accumulation ≡ accumulationOf b →
+      (v ≤ 4 * U) × (990_000_000 ≤ accumulation) × (accumulation ≤ 1_200_000_000)
+  discount-ranges j v l h e = (
+    omega (arith, discount-small j v l h),
+    omega (arith, e, accumulation-low b limits),
+    omega (arith, e, accumulation-high b limits),
+  )

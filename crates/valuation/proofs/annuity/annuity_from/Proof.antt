@@ -4,10 +4,9 @@ use Prim.Native.Nat.{suc, _+_, _-_}
 use native.Mathlib.Omega.{arith}
 use lib.IntN.{pos}
 use borrow.Author.Needs.{needs}
-use Rattle.basis.proofs.Accumulation.{accumulation-low, accumulation-high}
 use Rattle.basis.specs.Basis.{basisOf}
 use Rattle.basis.specs.Outcome.{refused, meaning}
-use Rattle.valuation.proofs.Discount.{discount-turn, discount-small}
+use Rattle.valuation.proofs.Discount.{discount-turn, discount-small, discount-ranges}
 use Rattle.valuation.proofs.Payments.{Paying, paying-first, paying-next, paid-refused, paid-last}
 use Rattle.survivorship.proofs.Survivors.{survivors-next, year-small, year-late}
 use Rattle.valuation.proofs.annuity.annuity_from.Statement.{statement}
@@ -65,13 +64,8 @@ returns c = let y = c .before .before .before in let l = y .before .before .befo
 
 discount-next-requires : tie.Need-discount-next-requires Inv-loop μ-loop
 discount-next-requires c κs = let l = c .before .before .before .before .before .before in let h = l .before in let s = h .before .before .before .before in
-    let b = basisOf (s .args .run .now) in
-    let limits = s .pre .0 .limits in
-    let e = h .before .before .accumulation .ensures in (
-      omega (arith, discount-small b limits (l .loop .j) (l .loop .v) (omega arith) (l .loop .inv .discount)),
-      omega (arith, e, accumulation-low b limits),
-      omega (arith, e, accumulation-high b limits),
-    )
+    discount-ranges (basisOf (s .args .run .now)) (s .pre .0 .limits) (l .loop .j) (l .loop .v) (omega arith) (l .loop .inv .discount)
+    (h .before .before .accumulation .ensures)
 
 add-j : tie.Need-add-j Inv-loop μ-loop
 add-j c = search needs

@@ -5,10 +5,9 @@ use native.Mathlib.Numerals.{add-one}
 use native.Mathlib.Omega.{arith}
 use lib.IntN.{pos}
 use borrow.Author.Needs.{needs}
-use Rattle.basis.proofs.Accumulation.{accumulation-low, accumulation-high}
 use Rattle.basis.specs.Basis.{basisOf}
 use Rattle.valuation.specs.Valuation.{discountAfter}
-use Rattle.valuation.proofs.Discount.{discount-turn, discount-small}
+use Rattle.valuation.proofs.Discount.{discount-turn, discount-ranges}
 use Rattle.valuation.proofs.annuity.discount_after.Statement.{statement}
 use Rattle.valuation.proofs.annuity.discount_after.Tie as tie
 
@@ -27,13 +26,7 @@ loop-holds c = search needs
 
 discount-next-requires : tie.Need-discount-next-requires Inv-loop μ-loop
 discount-next-requires c κs = let l = c .before in let s = l .before .before .before in
-    let b = basisOf (s .args .run .now) in
-    let limits = s .pre .0 .limits in
-    let e = l .before .accumulation .ensures in (
-      omega (arith, discount-small b limits (l .loop .j) (l .loop .v) (omega arith) (l .loop .inv .1)),
-      omega (arith, e, accumulation-low b limits),
-      omega (arith, e, accumulation-high b limits),
-    )
+    discount-ranges (basisOf (s .args .run .now)) (s .pre .0 .limits) (l .loop .j) (l .loop .v) (omega arith) (l .loop .inv .1) (l .before .accumulation .ensures)
 
 add-j : tie.Need-add-j Inv-loop μ-loop
 add-j c = search needs
