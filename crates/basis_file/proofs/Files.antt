@@ -10,12 +10,14 @@ use Rattle.basis.specs.declared.Check.{Check}
 use Rattle.basis.specs.declared.Check.the-variants.{Passed, Refused}
 use Rattle.basis.specs.Outcome.{refusal, firstOf}
 use Rattle.run_check.specs.Run.{runCheck}
-use Rattle.basis.proofs.Outcome.{unless-passed, both-passed, first-stands, first-passed}
+use Rattle.basis.proofs.Outcome.{unless-passed, both-passed, first-stands, first-passed, first-together}
 use Rattle.run_check.proofs.Acceptance.{accepted}
 use Rattle.lent.specs.Lent.{roomCheck}
 use Rattle.lent.proofs.Lent.{room-passed}
+use Rattle.block.specs.Blocks.{blocksOf, blocksCheck}
 use Rattle.block.proofs.Blocks.{block-length}
-use Rattle.basis_file.specs.File.{partsOf, runIn, blocksOf, fileOf, blocksCheck, outerCheck, fileCheck}
+use Rattle.block.proofs.Joined.{parts-length}
+use Rattle.basis_file.specs.File.{runIn, fileOf, outerCheck, fileCheck}
 
 -- ---- lengths
 blocks-length : (n place : ℕ) (run : List ℕ) → length run ≡ 506 * n → length (blocksOf place n run) ≡ 512 * n
@@ -29,13 +31,6 @@ blocks-length (suc n) place run h =
 pub file-length : (run : List ℕ) → length run ≡ 4554 → length (fileOf run) ≡ 4608
 unfolding fileOf
 file-length run h = blocks-length 9 0 run h
-
-parts-length : (n : ℕ) (blocks : List ℕ) → length blocks ≡ 512 * n → length (partsOf n blocks) ≡ 506 * n
-unfolding partsOf
-parts-length zero blocks h = refl
-parts-length (suc n) blocks h =
-    let r = parts-length n (drop 512 blocks) (simp length-drop (omega arith)) in
-    simp (length-append, length-take, length-drop, r) (omega arith)
 
 pub run-length : (file : List ℕ) → length file ≡ 4608 → length (runIn file) ≡ 4554
 unfolding runIn
@@ -69,13 +64,9 @@ accepted-run run h = accepted run h .size
 
 -- ---- reading: the room and the outer check, then the run's own
 module _ (file out : List ℕ) (outer : Check) (e : outer ≡ firstOf (roomCheck 4554 out) (outerCheck file)) where
-  together : (a b c : Check) → firstOf (firstOf a b) c ≡ firstOf a (firstOf b c)
-  together Passed b c = refl
-  together (Refused r) b c = refl
-
   then-run : firstOf outer (runCheck (runIn file)) ≡ firstOf (roomCheck 4554 out) (fileCheck file)
   unfolding fileCheck
-  then-run = rw e (together (roomCheck 4554 out) (outerCheck file) (runCheck (runIn file)))
+  then-run = rw e (first-together (roomCheck 4554 out) (outerCheck file) (runCheck (runIn file)))
 
   pub outer-refuses : (r : Refusal) → outer ≡ Refused r → outer ≡ firstOf (roomCheck 4554 out) (fileCheck file)
   outer-refuses r h = sym (first-stands outer _ h) ∙ then-run

@@ -11,7 +11,8 @@ use Rattle.run_check.specs.Run.{runCheck}
 use Rattle.basis.proofs.Outcome.{both-passed}
 use Rattle.block.specs.Block.{blockCheck, blockOf}
 use Rattle.block.proofs.Blocks.{block-length, data-stand, block-accepted, block-back}
-use Rattle.basis_file.specs.File.{partsOf, runIn, blocksOf, fileOf, blocksCheck, fileCheck}
+use Rattle.block.specs.Blocks.{partsOf, blocksOf, blocksCheck}
+use Rattle.basis_file.specs.File.{runIn, fileOf, fileCheck}
 use Rattle.basis_file.proofs.Files.{file-length, right-size, outer-passed, file-passed, accepted-run}
 
 -- ---- from a run to its file and back

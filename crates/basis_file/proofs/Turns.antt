@@ -3,35 +3,17 @@ use mathlib.Core.Path.{_≡_, sym, ap, _∙_}
 use mathlib.Core.List.{List, _++_}
 use Prim.Native.Nat.{ℕ, suc, _+_, _*_, _-_, _<_, _≤_}
 use native.Mathlib.Omega.{arith}
-use native.Mathlib.Nat.{add-sub-cancel-left}
-use lib.ListN.{length, take, drop, length-take, length-drop}
+use lib.ListN.{length, take, drop}
 use lib.Seq.{drop-drop}
-use Rattle.basis.specs.declared.Check.{Check}
-use Rattle.basis.specs.Outcome.{firstOf}
 use Rattle.lent.specs.Lent.{placed}
 use Rattle.lent.proofs.Lent.{placed-none, then, then-length}
-use Rattle.block.specs.Block.{blockCheck, blockOf}
+use Rattle.block.specs.Block.{blockOf}
+use Rattle.block.specs.Blocks.{partsOf, blocksOf}
 use Rattle.block.proofs.Blocks.{block-length}
-use Rattle.basis_file.specs.File.{partsOf, blocksOf, blocksCheck}
-
--- a part of a list, as the borrow checker writes one that is lent
-module _ (s : List ℕ) (at n : ℕ) where
-  pub part-is : take (at + n - at) (drop at s) ≡ take n (drop at s)
-  part-is = simp add-sub-cancel-left
-
-  pub part-length : at + n ≤ length s → length (take n (drop at s)) ≡ n
-  part-length h = simp (length-take, length-drop) (omega arith)
+use Rattle.block.proofs.Joined.{part-length}
 
 left : (b : ℕ) → b < 9 → 9 - b ≡ suc (9 - (b + 1))
 left b h = omega arith
-
--- ---- the checks
-pub check-turn : (file : List ℕ) (b : ℕ) (r : Check) → b < 9 → r ≡ blockCheck b (take 512 (drop (512 * b) file))
-    → firstOf r (blocksCheck (b + 1) (9 - (b + 1)) (drop (512 * (b + 1)) file)) ≡ blocksCheck b (9 - b) (drop (512 * b) file)
-unfolding blocksCheck
-check-turn file b r h e =
-    let n : 512 * (b + 1) ≡ 512 * b + 512 = omega arith in
-    rw (e, left b h, n, ← drop-drop 512 (512 * b) file)
 
 -- ---- the data parts, joined
 module _ (file run : List ℕ) (b : ℕ) where

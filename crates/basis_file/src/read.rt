@@ -8,7 +8,7 @@ use basis::Check;
 use basis::Refusal;
 
 // The length, then the nine blocks, ascending.
-fn check_blocks(file: &[u8]) -> Check
+fn check_outer(file: &[u8]) -> Check
     ensures { λ r. ⌜ r ≡ outerCheck (now (file .entry)) ⌝ }
 {
     if file.len() != 4608 {
@@ -18,16 +18,7 @@ fn check_blocks(file: &[u8]) -> Check
             second: 0,
         });
     }
-    let mut b: usize = 0;
-    while b < 9 {
-        let from = 512 * b;
-        let r = block::check_block(&file[from..from + 512], b);
-        if let Check::Refused(_) = r {
-            return r;
-        }
-        b += 1;
-    }
-    Check::Passed
+    block::check_blocks(file, 9)
 }
 
 // The nine data parts, joined.
@@ -49,7 +40,7 @@ pub fn read_file(file: &[u8], run: &mut [u8]) -> Check
     ensures { λ r. ⌜ r ≡ firstOf (roomCheck 4554 (now (run .entry))) (fileCheck (now (file .entry))) ⌝ }
     ensures { λ r. ⌜ now (run .exit) ≡ written r (runIn (now (file .entry))) (now (run .entry)) ⌝ }
 {
-    let outer = basis::first_of(lent::check_room(4554, run.len()), check_blocks(file));
+    let outer = basis::first_of(lent::check_room(4554, run.len()), check_outer(file));
     if let Check::Refused(_) = outer {
         return outer;
     }

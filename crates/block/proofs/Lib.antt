@@ -2,3 +2,4 @@ mod Product
 mod WordSums
 mod Turns
 pub mod Blocks
+pub mod Joined

@@ -1,9 +1,10 @@
-// One block of a basis file: its number in 2 bytes, 506 data bytes, and its check in 4.
+// One block of a file, its number in 2 bytes, 506 data bytes and its check in 4; and the check of blocks one after the other.
 ghost use mathlib.Core.Path.{_≡_};
 ghost use Prim.Native.Nat.{_+_, _*_, _%_, _≤_, _<_};
 ghost use lib.ListN.{length};
 ghost use Rattle.lent.specs.Lent.{placed};
 ghost use Rattle.block.specs.Block.{checkOf, blockCheck, blockOf};
+ghost use Rattle.block.specs.Blocks.{blocksCheck};
 use basis::Check;
 use basis::Refusal;
 
@@ -31,8 +32,8 @@ fn check_of(block: &[u8]) -> u32
 }
 
 // Whether a block has its check, and then whether its number is its place.
-pub fn check_block(block: &[u8], place: usize) -> Check
-    requires { ⌜ (length (now block) ≡ 512) × (place < 9) ⌝ }
+fn check_block(block: &[u8], place: usize) -> Check
+    requires { ⌜ length (now block) ≡ 512 ⌝ }
     ensures { λ r. ⌜ r ≡ blockCheck place (now (block .entry)) ⌝ }
 {
     if little_endian::read_u32(block, 508) != check_of(block) {
@@ -48,6 +49,23 @@ pub fn check_block(block: &[u8], place: usize) -> Check
             first: place as u64,
             second: 0,
         });
+    }
+    Check::Passed
+}
+
+// The blocks of a file, ascending from 0.
+pub fn check_blocks(file: &[u8], n: usize) -> Check
+    requires { ⌜ length (now file) ≡ 512 * n ⌝ }
+    ensures { λ r. ⌜ r ≡ blocksCheck 0 n (now (file .entry)) ⌝ }
+{
+    let mut b: usize = 0;
+    while b < n {
+        let from = 512 * b;
+        let r = check_block(&file[from..from + 512], b);
+        if let Check::Refused(_) = r {
+            return r;
+        }
+        b += 1;
     }
     Check::Passed
 }

@@ -5,9 +5,11 @@ use native.Mathlib.Omega.{arith}
 use lib.ListN.{length, drop}
 use Rattle.lent.specs.Lent.{placed}
 use Rattle.lent.proofs.Lent.{placed-whole}
-use Rattle.basis_file.specs.File.{partsOf, runIn}
+use Rattle.block.specs.Blocks.{partsOf}
+use Rattle.basis_file.specs.File.{runIn}
 use Rattle.basis_file.proofs.Files.{run-length}
-use Rattle.basis_file.proofs.Turns.{part-is, join-length, join-turn, join-end}
+use Rattle.block.proofs.Joined.{part-is}
+use Rattle.basis_file.proofs.Turns.{join-length, join-turn, join-end}
 use Rattle.basis_file.proofs.read.join_parts.Statement.{statement}
 use Rattle.basis_file.proofs.read.join_parts.Tie as tie
 

@@ -13,8 +13,8 @@ use Rattle.basis_file.proofs.read.read_file.Tie as tie
 check-room-requires : tie.Need-check-room-requires
 check-room-requires c κs = search needs
 
-check-blocks-requires : tie.Need-check-blocks-requires
-check-blocks-requires c κs = search needs
+check-outer-requires : tie.Need-check-outer-requires
+check-outer-requires c κs = search needs
 
 first-of-requires : tie.Need-first-of-requires
 first-of-requires c κs = search needs
@@ -26,7 +26,7 @@ returns : tie.Need-returns
 returns c =
     let k = c .before .before in
     let s = k .before .before .before .before .before .args in
-    let e = rw (k .before .before .check-room .ensures, k .before .check-blocks .ensures) at (k .first-of .ensures) in
+    let e = rw (k .before .before .check-room .ensures, k .before .check-outer .ensures) at (k .first-of .ensures) in
     let told = c .enum-told .given .1 in
     (outer-refuses (s .file .now) (s .run .now) _ e _ told, sym (kept (k .first-of .result) _ _ _ told))
 
@@ -40,7 +40,7 @@ join-parts-requires : tie.Need-join-parts-requires
 join-parts-requires c κs =
     let k = c .before .before .before in
     let s = k .before .before .before .before .before .args in
-    let e = rw (k .before .before .check-room .ensures, k .before .check-blocks .ensures) at (k .first-of .ensures) in
+    let e = rw (k .before .before .check-room .ensures, k .before .check-outer .ensures) at (k .first-of .ensures) in
     (outer-lets (s .file .now) (s .run .now) _ e (c .before .enum-told2 .given .1) .1, search needs)
 
 slice-aggregate-check-run : tie.Need-slice-aggregate-check-run
@@ -60,7 +60,7 @@ put-requires c κs =
     let told = c .before .before .before .before .before .before .before .before .before in
     let k = told .before .before in
     let s = k .before .before .before .before .before .args in
-    let e = rw (k .before .before .check-room .ensures, k .before .check-blocks .ensures) at (k .first-of .ensures) in
+    let e = rw (k .before .before .check-room .ensures, k .before .check-outer .ensures) at (k .first-of .ensures) in
     omega (arith, outer-lets (s .file .now) (s .run .now) _ e (told .enum-told2 .given .1) .0)
 
 enum-told-4 : tie.Need-enum-told-4
@@ -78,7 +78,7 @@ returns-2 c =
     let outer = join .before .before in
     let k = outer .before .before in
     let s = k .before .before .before .before .before .args in
-    let e = rw (k .before .before .check-room .ensures, k .before .check-blocks .ensures) at (k .first-of .ensures) in (
+    let e = rw (k .before .before .check-room .ensures, k .before .check-outer .ensures) at (k .first-of .ensures) in (
       run .check-run .ensures ∙ ap runCheck (join .join-parts .ensures) ∙ outer-lets (s .file .now) (s .run .now) _ e (outer .enum-told2 .given .1) .2,
       at .put .ensures ∙ ap (placed (s .run .now) 0) (join .join-parts .ensures) ∙ put-in-front (run .check-run .result) _ _ (told .enum-told3 .given .1),
     )
@@ -90,7 +90,7 @@ returns-3 c =
     let outer = join .before .before in
     let k = outer .before .before in
     let s = k .before .before .before .before .before .args in
-    let e = rw (k .before .before .check-room .ensures, k .before .check-blocks .ensures) at (k .first-of .ensures) in (
+    let e = rw (k .before .before .check-room .ensures, k .before .check-outer .ensures) at (k .first-of .ensures) in (
       run .check-run .ensures ∙ ap runCheck (join .join-parts .ensures) ∙ outer-lets (s .file .now) (s .run .now) _ e (outer .enum-told2 .given .1) .2,
       sym (kept (run .check-run .result) _ _ _ (c .enum-told4 .given .1)),
     )
@@ -100,7 +100,7 @@ read-file-spec =
     tie.close
     (tie.spec
     check-room-requires
-    check-blocks-requires
+    check-outer-requires
     first-of-requires
     enum-told
     returns

@@ -5,8 +5,10 @@ use native.Mathlib.Omega.{arith}
 use lib.ListN.{length, drop}
 use Rattle.lent.specs.Lent.{placed}
 use Rattle.block.specs.Block.{blockOf}
-use Rattle.basis_file.specs.File.{blocksOf, fileOf}
-use Rattle.basis_file.proofs.Turns.{part-is, write-length, write-turn, write-end}
+use Rattle.block.specs.Blocks.{blocksOf}
+use Rattle.basis_file.specs.File.{fileOf}
+use Rattle.block.proofs.Joined.{part-is}
+use Rattle.basis_file.proofs.Turns.{write-length, write-turn, write-end}
 use Rattle.basis_file.proofs.write.write_blocks.Statement.{statement}
 use Rattle.basis_file.proofs.write.write_blocks.Tie as tie
 

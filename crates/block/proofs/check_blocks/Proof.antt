@@ -1,27 +1,25 @@
 -- What is left of the blocks gives the same answer as all of them.
-use mathlib.Core.Path.{_≡_, refl, sym, _∙_}
-use Prim.Native.Nat.{_*_, _-_, _≤_}
+use mathlib.Core.Path.{_≡_, sym, ap, _∙_}
+use Prim.Native.Nat.{ℕ, _*_, _-_, _≤_}
 use native.Mathlib.Omega.{arith}
 use borrow.Author.Needs.{needs}
 use lib.ListN.{drop}
 use Rattle.basis.proofs.Outcome.{first-stands, first-passed}
-use Rattle.basis_file.specs.File.{blocksCheck}
-use Rattle.basis_file.proofs.Files.{wrong-size, right-size}
-use Rattle.basis_file.proofs.Turns.{part-is, check-turn}
-use Rattle.basis_file.proofs.read.check_blocks.Statement.{statement}
-use Rattle.basis_file.proofs.read.check_blocks.Tie as tie
+use Rattle.block.specs.Blocks.{blocksCheck}
+use Rattle.block.proofs.Joined.{part-is, check-turn}
+use Rattle.block.proofs.check_blocks.Statement.{statement}
+use Rattle.block.proofs.check_blocks.Tie as tie
 
 abbrev Inv-loop : tie.InvT-loop
-Inv-loop file b₀ b = (b ≤ 9) × (blocksCheck b (9 - b) (drop (512 * b) file) ≡ blocksCheck 0 9 file)
+Inv-loop file n b₀ b = (b ≤ n) × (blocksCheck b (n - b) (drop (512 * b) file) ≡ blocksCheck 0 n file)
 
 abbrev μ-loop : tie.MeasureT-loop
-μ-loop file b₀ b = 9 - b
-
-returns : tie.Need-returns Inv-loop μ-loop
-returns c = sym (wrong-size _ (c .if1 .taken))
+μ-loop file n b₀ b = n - b
 
 loop-holds : tie.Need-loop-holds Inv-loop μ-loop
-loop-holds c = (omega arith, refl)
+loop-holds c =
+    let a = c .before .args in
+    (omega arith, ap (λ (m : ℕ). blocksCheck 0 m (a .file .now)) (omega arith))
 
 mul-from : tie.Need-mul-from Inv-loop μ-loop
 mul-from c = omega arith
@@ -44,14 +42,15 @@ check-block-requires c κs = omega arith
 enum-told : tie.Need-enum-told Inv-loop μ-loop
 enum-told c = search needs
 
-returns-2 : tie.Need-returns-2 Inv-loop μ-loop
-returns-2 c =
+returns : tie.Need-returns Inv-loop μ-loop
+returns c =
     let l = c .before .before .before .before .before in
-    let f = l .before .before .before .args .file .now in
+    let a = l .before .before .args in
+    let f = a .file .now in
     let b = l .loop .b in
     let k = c .before .before .check-block in
-    let turn = check-turn f b (k .result) (omega arith) (rw (part-is f (512 * b) 512) at (k .ensures)) in
-    sym (first-stands (k .result) _ (c .enum-told .given .1)) ∙ turn ∙ l .loop .inv .1 ∙ sym (right-size f (l .before .if1 .left))
+    let turn = check-turn f (a .n) b (k .result) (omega arith) (rw (part-is f (512 * b) 512) at (k .ensures)) in
+    sym (first-stands (k .result) _ (c .enum-told .given .1)) ∙ turn ∙ l .loop .inv .1
 
 enum-told-2 : tie.Need-enum-told-2 Inv-loop μ-loop
 enum-told-2 c = search needs
@@ -65,19 +64,19 @@ loop-less c = omega arith
 loop-again : tie.Need-loop-again Inv-loop μ-loop
 loop-again c =
     let l = c .before .before .before .before .before in
-    let f = l .before .before .before .args .file .now in
+    let a = l .before .before .args in
+    let f = a .file .now in
     let b = l .loop .b in
     let k = c .before .before .check-block in
-    let turn = check-turn f b (k .result) (omega arith) (rw (part-is f (512 * b) 512) at (k .ensures)) in
+    let turn = check-turn f (a .n) b (k .result) (omega arith) (rw (part-is f (512 * b) 512) at (k .ensures)) in
     (omega arith, sym (first-passed (k .result) _ (c .enum-told2 .given .1)) ∙ turn ∙ l .loop .inv .1)
 
-returns-3 : tie.Need-returns-3 Inv-loop μ-loop
+returns-2 : tie.Need-returns-2 Inv-loop μ-loop
 unfolding blocksCheck
-returns-3 c =
+returns-2 c =
     let l = c .before in
-    let f = l .before .before .before .args .file .now in
-    let e : 9 - l .loop .b ≡ 0 = omega arith in
-    rw e at (l .loop .inv .1) ∙ sym (right-size f (l .before .if1 .left))
+    let e : l .before .before .args .n - l .loop .b ≡ 0 = omega arith in
+    rw e at (l .loop .inv .1)
 
 pub check-blocks-spec : {M : Type 1} → statement M
 check-blocks-spec =
@@ -85,7 +84,6 @@ check-blocks-spec =
     (tie.spec
     Inv-loop
     μ-loop
-    returns
     loop-holds
     mul-from
     add-check-block
@@ -94,9 +92,9 @@ check-blocks-spec =
     part-check-block-end
     check-block-requires
     enum-told
-    returns-2
+    returns
     enum-told-2
     add-b
     loop-less
     loop-again
-    returns-3)
+    returns-2)
