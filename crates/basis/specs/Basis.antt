@@ -9,7 +9,8 @@ use Rattle.arithmetic.specs.Fraction.{U}
 use Rattle.little_endian.specs.Bytes.{byteAt, u16At, u32At, i32At}
 use Rattle.basis.specs.declared.Convergence.{Convergence}
 
--- F, B, the constant addition, the rate of discount, the base rates by age, the terms of improvement by age and by birth year
+-- F, B, the constant addition, the rate of discount, the base rates by age, the terms of improvement by age and by birth year, and the
+-- actual improvements by age and year (02, change 2)
 pub record Basis : Type 0 where
   pub foundation : ℕ
   pub base : ℕ
@@ -18,6 +19,7 @@ pub record Basis : Type 0 where
   pub baseRate : ℕ → ℕ
   pub byAge : ℕ → Convergence
   pub byBirthYear : ℕ → Convergence
+  pub actual : ℕ → ℕ → ℤ
 
 -- I, L, T and P at one place of four tables
 abbrev pub termsAt : List ℕ → ℕ → ℕ → ℕ → ℕ → ℕ → Convergence
@@ -29,7 +31,7 @@ termsAt run initial long period remaining place =
       remaining = byteAt run (remaining + place);
     }
 
--- the fields by their offsets; ages from 20, birth years from 1842
+-- the fields by their offsets; ages from 20, birth years from 1842; a data run by itself has no actual improvements
 unfoldable pub basisOf : List ℕ → Basis
 basisOf run =
     record {
@@ -40,6 +42,7 @@ basisOf run =
       baseRate = λ age. u32At run (30 + 4 * (age - 20));
       byAge = λ age. termsAt run 554 1078 1602 1733 (age - 20);
       byBirthYear = λ year. termsAt run 1864 2940 4016 4285 (year - 1842);
+      actual = λ age year. pos 0;
     }
 
 -- U + rate of discount, which no rate within its limits takes below zero
@@ -57,7 +60,7 @@ pub record ConvergenceLimits (c : Convergence) : Type 0 where
 pub record Limited (b : Basis) : Type 0 where
   pub foundation-low : 1992 ≤ b .foundation
   pub foundation-high : b .foundation ≤ 2080
-  pub base-low : b .foundation ≤ b .base
+  pub base-low : 1992 ≤ b .base
   pub base-high : b .base ≤ 2130
   pub addition : natAbs (b .addition) ≤ 100_000_000
   pub discount-low : negℤ (pos 10_000_000) ≤ℤ b .discount

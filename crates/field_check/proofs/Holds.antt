@@ -10,15 +10,15 @@ use Rattle.basis.specs.declared.Check.the-variants.{Passed, Refused}
 use Rattle.basis.specs.Outcome.{refusal}
 use Rattle.field_check.specs.declared.Number.{Number}
 use Rattle.field_check.specs.declared.Field.{Field}
-use Rattle.field_check.specs.Field.{widthOf, valueAt, limitOf, between, entriesCheck, fieldCheck}
+use Rattle.field_check.specs.Field.{widthOf, valueAt, between, entriesCheck, fieldCheck}
 use Rattle.field_check.proofs.Limits.{Between, opened, closed}
 
 -- every number that stands there is between its limits
 pub record Holds (run : List ℕ) (f : Field) : Type 0 where
-  pub within : (i : ℕ) → i < f .5 → Between (limitOf run (f .2)) (valueAt (f .1) run (f .4 + widthOf (f .1) * i)) (f .3)
+  pub within : (i : ℕ) → i < f .5 → Between (f .2) (valueAt (f .1) run (f .4 + widthOf (f .1) * i)) (f .3)
 
 -- a field of one number
-pub single : {run : List ℕ} {f : Field} → f .5 ≡ 1 → Between (limitOf run (f .2)) (valueAt (f .1) run (f .4)) (f .3) → Holds run f
+pub single : {run : List ℕ} {f : Field} → f .5 ≡ 1 → Between (f .2) (valueAt (f .1) run (f .4)) (f .3) → Holds run f
 single {run} {f} e b = record { within = λ i l. let z : f .4 + widthOf (f .1) * i ≡ f .4 = by i (rw e at l) in rw z b }
   where
     by : (i : ℕ) → i < 1 → f .4 + widthOf (f .1) * i ≡ f .4
@@ -55,8 +55,8 @@ module _ (run : List ℕ) (number : ℕ) (kind : Number) (low high : ℤ) where
 module _ (run : List ℕ) where
   pub field-holds : (f : Field) → fieldCheck run f ≡ Passed → Holds run f
   unfolding fieldCheck
-  field-holds f h = record { within = entries-hold run (f .0) (f .1) (limitOf run (f .2)) (f .3) (f .4) (f .5) h }
+  field-holds f h = record { within = entries-hold run (f .0) (f .1) (f .2) (f .3) (f .4) (f .5) h }
 
   pub field-passes : (f : Field) → Holds run f → fieldCheck run f ≡ Passed
   unfolding fieldCheck
-  field-passes f h = entries-pass run (f .0) (f .1) (limitOf run (f .2)) (f .3) (f .4) (f .5) (h .within)
+  field-passes f h = entries-pass run (f .0) (f .1) (f .2) (f .3) (f .4) (f .5) (h .within)

@@ -1,3 +1,4 @@
 mod Turns
 pub mod Limits
 pub mod Holds
+pub mod Fields

@@ -1,15 +1,13 @@
--- A field of a data run: its numbers, its limits, and the first number outside them (01, "The basis file").
+-- A field of a data run, or of the data of a history: its numbers, its limits, and the first number outside them (01, "The basis file").
 use Prim.Native.Nat.{ℕ, zero, suc, _+_}
 use mathlib.Core.Bool.{Bool, cond, _&&_}
-use mathlib.Core.List.{List}
+use mathlib.Core.List.{List, [], _∷_}
 use lib.IntN.{ℤ, pos}
 use lib.Signed.{leZ}
 use Rattle.little_endian.specs.Bytes.{byteAt, u16At, u32At, i32At}
 use Rattle.basis.specs.declared.Check.{Check}
 use Rattle.basis.specs.declared.Check.the-variants.{Passed, Refused}
-use Rattle.basis.specs.Outcome.{refusal}
-use Rattle.field_check.specs.declared.Limit.{Limit}
-use Rattle.field_check.specs.declared.Limit.the-variants.{Is, FoundationYear}
+use Rattle.basis.specs.Outcome.{refusal, firstOf}
 use Rattle.field_check.specs.declared.Number.{Number}
 use Rattle.field_check.specs.declared.Number.the-variants.{Byte, Half, Word, SignedWord}
 use Rattle.field_check.specs.declared.Field.{Field}
@@ -27,11 +25,6 @@ valueAt Half run at = pos (u16At run at)
 valueAt Word run at = pos (u32At run at)
 valueAt SignedWord run at = i32At run at
 
--- a lower limit: a number, or F
-abbrev pub limitOf : List ℕ → Limit → ℤ
-limitOf run (Is n) = n
-limitOf run FoundationYear = valueAt Half run 4
-
 abbrev pub between : ℤ → ℤ → ℤ → Bool
 between low high n = leZ low n && leZ n high
 
@@ -42,8 +35,13 @@ entriesCheck run refused kind low high at (suc n) =
     cond (between low high (valueAt kind run at)) (entriesCheck run refused kind low high (at + widthOf kind) n) (Refused (refusal refused at 0))
 
 -- a field: its refusal's number, its kind of number, its limits, its offset, and how many stand there
-abbrev pub field : ℕ → Number → Limit → ℤ → ℕ → ℕ → Field
+abbrev pub field : ℕ → Number → ℤ → ℤ → ℕ → ℕ → Field
 field refused kind low high offset count = (refused, kind, low, high, offset, count)
 
 unfoldable pub fieldCheck : List ℕ → Field → Check
-fieldCheck run f = entriesCheck run (f .0) (f .1) (limitOf run (f .2)) (f .3) (f .4) (f .5)
+fieldCheck run f = entriesCheck run (f .0) (f .1) (f .2) (f .3) (f .4) (f .5)
+
+-- a table of fields, row by row
+unfoldable pub fieldsCheck : List ℕ → List Field → Check
+fieldsCheck run [] = Passed
+fieldsCheck run (f ∷ fs) = firstOf (fieldCheck run f) (fieldsCheck run fs)

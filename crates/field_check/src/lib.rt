@@ -1,8 +1,8 @@
-// The check of one field of a data run: each of its numbers against the field's limits.
+// The check of one field of a data run, or of the data of a history: each of its numbers against the field's limits.
 ghost use mathlib.Core.Path.{_≡_};
 ghost use Prim.Native.Nat.{_+_, _*_, _≤_};
 ghost use lib.ListN.{length};
-ghost use Rattle.field_check.specs.Field.{widthOf, valueAt, limitOf, between, fieldCheck};
+ghost use Rattle.field_check.specs.Field.{widthOf, valueAt, between, fieldCheck};
 use basis::Check;
 use basis::Refusal;
 
@@ -14,22 +14,9 @@ pub enum Number {
     SignedWord,
 }
 
-// A lower limit: a number, or the foundation year of the run itself.
-pub enum Limit {
-    Is(i64),
-    FoundationYear,
-}
-
 // Numbers of one kind, one after the other: the refusal of one outside its limits, the kind, the two limits, the offset
 // of the first, and how many there are.
-pub struct Field(
-    pub u32,
-    pub Number,
-    pub Limit,
-    pub i64,
-    pub usize,
-    pub usize,
-);
+pub struct Field(pub u32, pub Number, pub i64, pub i64, pub usize, pub usize);
 
 fn width_of(kind: Number) -> usize
     ensures { λ r. ⌜ r ≡ widthOf kind ⌝ }
@@ -55,16 +42,6 @@ fn value_at(run: &[u8], kind: Number, at: usize) -> i64
     }
 }
 
-fn limit_of(run: &[u8], low: Limit) -> i64
-    requires { ⌜ length (now run) ≡ 4554 ⌝ }
-    ensures { λ r. ⌜ r ≡ limitOf (now (run .entry)) low ⌝ }
-{
-    match low {
-        Limit::Is(n) => n,
-        Limit::FoundationYear => value_at(run, Number::Half, 4),
-    }
-}
-
 // Whether a number is from the one to the other, both included.
 pub fn in_limits(low: i64, high: i64, n: i64) -> bool
     ensures { λ r. ⌜ r ≡ between low high n ⌝ }
@@ -82,12 +59,11 @@ fn entry_ok(run: &[u8], kind: Number, low: i64, high: i64, at: usize) -> bool
 
 // The first number of a field that is outside its limits.
 pub fn check_field(run: &[u8], f: Field) -> Check
-    requires { ⌜ (f .4 + f .5 * widthOf (f .1) ≤ length (now run)) × (length (now run) ≡ 4554) ⌝ }
+    requires { ⌜ f .4 + f .5 * widthOf (f .1) ≤ length (now run) ⌝ }
     ensures { λ r. ⌜ r ≡ fieldCheck (now (run .entry)) f ⌝ }
 {
-    let l = f.2;
     let kind = f.1;
-    let low = limit_of(run, l);
+    let low = f.2;
     let high = f.3;
     let width = width_of(kind);
     let number = f.0;

@@ -14,24 +14,23 @@ use Rattle.little_endian.specs.Bytes.{byteAt, i32At}
 use Rattle.basis.specs.Outcome.{refusal}
 use Rattle.basis.specs.Basis.{basisOf, termsAt, ConvergenceLimits, Accepted}
 use Rattle.field_check.specs.declared.Number.the-variants.{Byte, Word, SignedWord}
-use Rattle.field_check.specs.declared.Limit.the-variants.{Is}
-use Rattle.field_check.specs.Field.{field}
+use Rattle.field_check.specs.Field.{field, fieldsCheck}
 use Rattle.field_check.proofs.Limits.{Between, least, most, natural, size, sized}
 use Rattle.field_check.proofs.Holds.{Holds, single}
-use Rattle.run_check.specs.Run.{fieldsCheck, runFields, runCheck}
+use Rattle.run_check.specs.Run.{runFields, runCheck}
 use Rattle.run_check.proofs.Turns.{whole}
-use Rattle.run_check.proofs.Fields.{AllHold, none, _and_, all-hold, all-pass}
+use Rattle.field_check.proofs.Fields.{AllHold, none, _and_, all-hold, all-pass}
 
 -- ---- the terms of improvement, by age and by birth year: four rows of n numbers each
 module _ (run : List ℕ) (n : ℕ) where
   Rates : ℕ → Type 0
-  Rates offset = Holds run (field 5 SignedWord (Is (negℤ (pos 200_000_000))) (pos 200_000_000) offset n)
+  Rates offset = Holds run (field 5 SignedWord (negℤ (pos 200_000_000)) (pos 200_000_000) offset n)
 
   Periods : ℕ → Type 0
-  Periods offset = Holds run (field 5 Byte (Is (pos 1)) (pos 50) offset n)
+  Periods offset = Holds run (field 5 Byte (pos 1) (pos 50) offset n)
 
   Percentages : ℕ → Type 0
-  Percentages offset = Holds run (field 5 Byte (Is (pos 0)) (pos 150) offset n)
+  Percentages offset = Holds run (field 5 Byte (pos 0) (pos 150) offset n)
 
   module _ (initial long period remaining : ℕ) where
     Terms : Type 0
@@ -114,10 +113,10 @@ module _ (run : List ℕ) (a : Accepted run) where
   letter : (i : ℕ) → i < 4 → byteAt run i ≡ getD (77 ∷ 80 ∷ 66 ∷ 49 ∷ []) i 0
   letter i l = sym (getD-take 4 run i 0 l) ∙ ap (λ (s : List ℕ). getD s i 0) (a .mark)
 
-  zeros-hold : Holds run (field 4 Byte (Is (pos 0)) (pos 0) 16 14)
+  zeros-hold : Holds run (field 4 Byte (pos 0) (pos 0) 16 14)
   zeros-hold = record { within = λ i l. same (a .zeros (16 + 1 * i) (omega arith) (omega arith)) }
 
-  base-rates-hold : Holds run (field 5 Word (Is (pos 0)) (pos 1_000_000_000) 30 131)
+  base-rates-hold : Holds run (field 5 Word (pos 0) (pos 1_000_000_000) 30 131)
   unfolding basisOf
   base-rates-hold =
       record {

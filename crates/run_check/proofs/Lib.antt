@@ -1,3 +1,2 @@
 mod Turns
-mod Fields
 pub mod Acceptance

@@ -1,35 +1,14 @@
--- The table of fields row by row, and its four parts. Assumes nothing.
-use mathlib.Core.Path.{_≡_, refl, sym, ap, _∙_}
-use mathlib.Core.List.{List, [], _∷_, _++_}
+-- The table of fields in its four parts. Assumes nothing.
+use mathlib.Core.Path.{_≡_, sym, ap, _∙_}
+use mathlib.Core.List.{List, _++_}
 use Prim.Native.Nat.{ℕ}
 use lib.ListN.{length, take, drop}
 use borrow.Author.Tests.{eq-eqb}
 use Rattle.basis.specs.declared.Check.{Check}
-use Rattle.basis.specs.declared.Check.the-variants.{Passed, Refused}
 use Rattle.basis.specs.Outcome.{firstOf}
-use Rattle.field_check.specs.declared.Field.{Field}
-use Rattle.field_check.specs.Field.{fieldCheck}
-use Rattle.run_check.specs.Run.{fieldsCheck, runFields, runCheck}
-
--- a row before others: the first refusal of both is that of the longer table
-pub row-first : (run : List ℕ) (f : Field) (fs : List Field) {c rest r : Check}
-    → c ≡ fieldCheck run f → rest ≡ fieldsCheck run fs → r ≡ firstOf c rest → r ≡ fieldsCheck run (f ∷ fs)
-unfolding fieldsCheck
-row-first run f fs e g h = h ∙ rw (e, g) refl
-
-pub no-rows : (run : List ℕ) → Passed ≡ fieldsCheck run []
-unfolding fieldsCheck
-no-rows run = refl
-
--- two tables, one after the other
-rows-join : (run : List ℕ) (fs gs : List Field) → fieldsCheck run (fs ++ gs) ≡ firstOf (fieldsCheck run fs) (fieldsCheck run gs)
-unfolding fieldsCheck
-rows-join run [] gs = refl
-rows-join run (f ∷ fs) gs = ap (λ (c : Check). firstOf (fieldCheck run f) c) (rows-join run fs gs) ∙ sym (turned (fieldCheck run f))
-  where
-    turned : (c : Check) → firstOf (firstOf c (fieldsCheck run fs)) (fieldsCheck run gs) ≡ firstOf c (firstOf (fieldsCheck run fs) (fieldsCheck run gs))
-    turned Passed = refl
-    turned (Refused r) = refl
+use Rattle.field_check.specs.Field.{fieldsCheck}
+use Rattle.field_check.proofs.Fields.{rows-join}
+use Rattle.run_check.specs.Run.{runFields, runCheck}
 
 -- the four parts of the table are the table
 module _ (run : List ℕ) where

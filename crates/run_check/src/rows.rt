@@ -2,11 +2,11 @@
 // loop. A run that is accepted is walked whole, so nothing is lost by looking at the later rows of a refused one.
 ghost use mathlib.Core.Path.{_≡_};
 ghost use lib.ListN.{length, take, drop};
-ghost use Rattle.run_check.specs.Run.{runFields, fieldsCheck};
+ghost use Rattle.field_check.specs.Field.{fieldsCheck};
+ghost use Rattle.run_check.specs.Run.{runFields};
 use basis::Check;
 use basis::first_of;
 use field_check::Field;
-use field_check::Limit;
 use field_check::Number;
 use field_check::check_field;
 
@@ -15,11 +15,11 @@ pub(crate) fn check_mark(run: &[u8]) -> Check
     requires { ⌜ length (now run) ≡ 4554 ⌝ }
     ensures { λ r. ⌜ r ≡ fieldsCheck (now (run .entry)) (take 5 runFields) ⌝ }
 {
-    let m = check_field(run, Field(4, Number::Byte, Limit::Is(77), 77, 0, 1));
-    let p = check_field(run, Field(4, Number::Byte, Limit::Is(80), 80, 1, 1));
-    let b = check_field(run, Field(4, Number::Byte, Limit::Is(66), 66, 2, 1));
-    let one = check_field(run, Field(4, Number::Byte, Limit::Is(49), 49, 3, 1));
-    let zeros = check_field(run, Field(4, Number::Byte, Limit::Is(0), 0, 16, 14));
+    let m = check_field(run, Field(4, Number::Byte, 77, 77, 0, 1));
+    let p = check_field(run, Field(4, Number::Byte, 80, 80, 1, 1));
+    let b = check_field(run, Field(4, Number::Byte, 66, 66, 2, 1));
+    let one = check_field(run, Field(4, Number::Byte, 49, 49, 3, 1));
+    let zeros = check_field(run, Field(4, Number::Byte, 0, 0, 16, 14));
     first_of(
         m,
         first_of(
@@ -34,32 +34,15 @@ pub(crate) fn check_single_fields(run: &[u8]) -> Check
     requires { ⌜ length (now run) ≡ 4554 ⌝ }
     ensures { λ r. ⌜ r ≡ fieldsCheck (now (run .entry)) (take 4 (drop 5 runFields)) ⌝ }
 {
-    let foundation = check_field(run, Field(5, Number::Half, Limit::Is(1992), 2080, 4, 1));
-    let base = check_field(
-        run,
-        Field(5, Number::Half, Limit::FoundationYear, 2130, 6, 1),
-    );
+    let foundation = check_field(run, Field(5, Number::Half, 1992, 2080, 4, 1));
+    let base = check_field(run, Field(5, Number::Half, 1992, 2130, 6, 1));
     let addition = check_field(
         run,
-        Field(
-            5,
-            Number::SignedWord,
-            Limit::Is(-100_000_000),
-            100_000_000,
-            8,
-            1,
-        ),
+        Field(5, Number::SignedWord, -100_000_000, 100_000_000, 8, 1),
     );
     let discount = check_field(
         run,
-        Field(
-            5,
-            Number::SignedWord,
-            Limit::Is(-10_000_000),
-            200_000_000,
-            12,
-            1,
-        ),
+        Field(5, Number::SignedWord, -10_000_000, 200_000_000, 12, 1),
     );
     first_of(
         foundation,
@@ -72,34 +55,17 @@ pub(crate) fn check_ages(run: &[u8]) -> Check
     requires { ⌜ length (now run) ≡ 4554 ⌝ }
     ensures { λ r. ⌜ r ≡ fieldsCheck (now (run .entry)) (take 5 (drop 9 runFields)) ⌝ }
 {
-    let rates = check_field(
-        run,
-        Field(5, Number::Word, Limit::Is(0), 1_000_000_000, 30, 131),
-    );
+    let rates = check_field(run, Field(5, Number::Word, 0, 1_000_000_000, 30, 131));
     let initial = check_field(
         run,
-        Field(
-            5,
-            Number::SignedWord,
-            Limit::Is(-200_000_000),
-            200_000_000,
-            554,
-            131,
-        ),
+        Field(5, Number::SignedWord, -200_000_000, 200_000_000, 554, 131),
     );
     let long = check_field(
         run,
-        Field(
-            5,
-            Number::SignedWord,
-            Limit::Is(-200_000_000),
-            200_000_000,
-            1078,
-            131,
-        ),
+        Field(5, Number::SignedWord, -200_000_000, 200_000_000, 1078, 131),
     );
-    let period = check_field(run, Field(5, Number::Byte, Limit::Is(1), 50, 1602, 131));
-    let remaining = check_field(run, Field(5, Number::Byte, Limit::Is(0), 150, 1733, 131));
+    let period = check_field(run, Field(5, Number::Byte, 1, 50, 1602, 131));
+    let remaining = check_field(run, Field(5, Number::Byte, 0, 150, 1733, 131));
     first_of(
         rates,
         first_of(
@@ -116,28 +82,14 @@ pub(crate) fn check_birth_years(run: &[u8]) -> Check
 {
     let initial = check_field(
         run,
-        Field(
-            5,
-            Number::SignedWord,
-            Limit::Is(-200_000_000),
-            200_000_000,
-            1864,
-            269,
-        ),
+        Field(5, Number::SignedWord, -200_000_000, 200_000_000, 1864, 269),
     );
     let long = check_field(
         run,
-        Field(
-            5,
-            Number::SignedWord,
-            Limit::Is(-200_000_000),
-            200_000_000,
-            2940,
-            269,
-        ),
+        Field(5, Number::SignedWord, -200_000_000, 200_000_000, 2940, 269),
     );
-    let period = check_field(run, Field(5, Number::Byte, Limit::Is(1), 50, 4016, 269));
-    let remaining = check_field(run, Field(5, Number::Byte, Limit::Is(0), 150, 4285, 269));
+    let period = check_field(run, Field(5, Number::Byte, 1, 50, 4016, 269));
+    let remaining = check_field(run, Field(5, Number::Byte, 0, 150, 4285, 269));
     first_of(
         initial,
         first_of(long, first_of(period, first_of(remaining, Check::Passed))),

@@ -48,7 +48,7 @@ module _ {b short : Basis} {rate : ℤ} (s : Shortened b rate short) (l : Limite
       record {
         foundation-low = rw (s .foundation) (l .foundation-low);
         foundation-high = rw (s .foundation) (l .foundation-high);
-        base-low = rw (s .foundation, s .base) (l .base-low);
+        base-low = rw (s .base) (l .base-low);
         base-high = rw (s .base) (l .base-high);
         addition = rw (s .addition) (l .addition);
         discount-low = rw (s .discount) (l .discount-low);

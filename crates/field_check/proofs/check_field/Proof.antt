@@ -4,7 +4,7 @@ use Prim.Native.Nat.{_+_, _*_, _≤_}
 use native.Mathlib.Omega.{arith}
 use borrow.Author.Needs.{needs}
 use lib.ListN.{length}
-use mir.Val.{toZ, SFits}
+use mir.Val.{toZ}
 use mir.Syntax.{w64}
 use mir.Facts.{toZ-ofZ}
 use Rattle.field_check.specs.Field.{widthOf, entriesCheck, fieldCheck}
@@ -19,9 +19,6 @@ Inv-loop run kind low high width number at₀ left₀ at left =
 
 abbrev μ-loop : tie.MeasureT-loop
 μ-loop run kind low high width number at₀ left₀ at left = left
-
-limit-of-requires : tie.Need-limit-of-requires Inv-loop μ-loop
-limit-of-requires c κs = search needs
 
 width-of-requires : tie.Need-width-of-requires Inv-loop μ-loop
 width-of-requires c κs = search needs
@@ -59,21 +56,19 @@ returns : tie.Need-returns Inv-loop μ-loop
 unfolding fieldCheck
 returns c =
     let l = c .before .before .before in
-    let s = l .before .before .before .before .before in
-    let lo : SFits w64 (l .before .before .before .limit-of .result) = record { sfits = l .before .before .before .limit-of .ok } in
+    let f = l .before .before .before .before .before .args .f in
     let test = c .before .before .loop-test .taken in
-    let out = sym (outside _ (s .args .f .0) _ _ _ _ (l .loop .left) test (c .before .entry-ok .ensures) (c .if1 .left)) ∙ l .loop .inv .1 in
-    simp (l .before .before .before .limit-of .ensures) at (simp (toZ-ofZ lo, toZ-ofZ {w = w64} {z = s .args .f .3} (search needs)) at out)
+    let out = sym (outside _ (f .0) _ _ _ _ (l .loop .left) test (c .before .entry-ok .ensures) (c .if1 .left)) ∙ l .loop .inv .1 in
+    simp (toZ-ofZ {w = w64} {z = f .2} (search needs), toZ-ofZ {w = w64} {z = f .3} (search needs)) at out
 
 returns-2 : tie.Need-returns-2 Inv-loop μ-loop
 unfolding fieldCheck entriesCheck
 returns-2 c =
     let l = c .before in
-    let s = l .before .before .before .before .before in
-    let lo : SFits w64 (l .before .before .before .limit-of .result) = record { sfits = l .before .before .before .limit-of .ok } in
+    let f = l .before .before .before .before .before .args .f in
     let e : l .loop .left ≡ 0 = omega arith in
     let out = rw e at (l .loop .inv .1) in
-    simp (l .before .before .before .limit-of .ensures) at (simp (toZ-ofZ lo, toZ-ofZ {w = w64} {z = s .args .f .3} (search needs)) at out)
+    simp (toZ-ofZ {w = w64} {z = f .2} (search needs), toZ-ofZ {w = w64} {z = f .3} (search needs)) at out
 
 pub check-field-spec : {M : Type 1} → statement M
 check-field-spec =
@@ -81,7 +76,6 @@ check-field-spec =
     (tie.spec
     Inv-loop
     μ-loop
-    limit-of-requires
     width-of-requires
     loop-holds
     entry-ok-requires
