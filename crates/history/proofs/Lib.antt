@@ -1,0 +1,5 @@
+mod Window
+mod Yearly
+mod Places
+pub mod Acceptance
+pub mod With

@@ -1,0 +1,76 @@
+-- Two fields a year: one year more, and what their passing says of each year. Assumes nothing.
+use mathlib.Core.Path.{_≡_, refl, sym, _∙_}
+use mathlib.Core.List.{List}
+use Prim.Native.Nat.{ℕ, zero, suc, _+_, _*_, _-_, _<_, _≤_}
+use native.Mathlib.Omega.{arith}
+use lib.ListN.{length}
+use Rattle.basis.specs.declared.Check.{Check}
+use Rattle.basis.specs.declared.Check.the-variants.{Passed}
+use Rattle.basis.specs.Outcome.{firstOf}
+use Rattle.basis.proofs.Outcome.{both-passed, first-together}
+use Rattle.field_check.specs.declared.Field.{Field}
+use Rattle.field_check.specs.Field.{widthOf, fieldCheck, fieldsCheck}
+use Rattle.block.specs.Blocks.{partsOf}
+use Rattle.history.specs.History.{movedTo, yearlyFields}
+use Rattle.history.specs.Inner.Part.{pairCheck}
+use Rattle.history.proofs.Window.{part-field}
+
+module _ (s : List ℕ) (first second : Field) where
+  abbrev Yearly : ℕ → ℕ → Check
+  Yearly at n = fieldsCheck s (yearlyFields first second at n)
+
+  pub no-years : (at : ℕ) → Passed ≡ Yearly at 0
+  unfolding fieldsCheck yearlyFields
+  no-years at = refl
+
+  a-year : (at n : ℕ) → Yearly at (suc n) ≡ firstOf (fieldCheck s (movedTo at first)) (firstOf (fieldCheck s (movedTo (at + 506) second)) (Yearly (at + 1012) n))
+  unfolding fieldsCheck yearlyFields
+  a-year at n = refl
+
+  -- a year before those that are looked at already
+  year-before : (n k : ℕ) → k < n
+      → firstOf (firstOf (fieldCheck s (movedTo (506 * (2 * k)) first)) (fieldCheck s (movedTo (506 * (2 * k + 1)) second))) (Yearly (1012 * (k + 1)) (n - (k + 1)))
+      ≡ Yearly (1012 * k) (n - k)
+  year-before n k l =
+      let left : n - k ≡ suc (n - (k + 1)) = omega arith in
+      let young : 506 * (2 * k) ≡ 1012 * k = omega arith in
+      let old : 506 * (2 * k + 1) ≡ 1012 * k + 506 = omega arith in
+      let more : 1012 * (k + 1) ≡ 1012 * k + 1012 = omega arith in
+      let A = fieldCheck s (movedTo (1012 * k) first) in
+      let B = fieldCheck s (movedTo (1012 * k + 506) second) in
+      let C = Yearly (1012 * k + 1012) (n - (k + 1)) in
+      rw (left, young, old, more) (first-together A B C ∙ sym (a-year (1012 * k) (n - (k + 1))))
+
+  passed : (at n : ℕ) → Yearly at (suc n) ≡ Passed
+      → (fieldCheck s (movedTo at first) ≡ Passed) × (fieldCheck s (movedTo (at + 506) second) ≡ Passed) × (Yearly (at + 1012) n ≡ Passed)
+  passed at n h =
+      let A = fieldCheck s (movedTo at first) in
+      let B = fieldCheck s (movedTo (at + 506) second) in
+      let C = Yearly (at + 1012) n in
+      let p = both-passed A (firstOf B C) (sym (a-year at n) ∙ h) in
+      let q = both-passed B C (p .1) in
+      (p .0, q .0, q .1)
+
+  -- what passes, passes in each year
+  pub each-year : (n k at : ℕ) → k < n → Yearly at n ≡ Passed
+      → (fieldCheck s (movedTo (at + 1012 * k) first) ≡ Passed) × (fieldCheck s (movedTo (at + 1012 * k + 506) second) ≡ Passed)
+  each-year zero k at l h = absurd (omega arith)
+  each-year (suc n) zero at l h =
+      let p = passed at n h in
+      let e : at + 1012 * 0 ≡ at = omega arith in
+      rw e (p .0, p .1)
+  each-year (suc n) (suc k) at l h =
+      let p = passed at n h in
+      let e : at + 1012 * suc k ≡ at + 1012 + 1012 * k = omega arith in
+      rw e (each-year n k (at + 1012) (omega arith) (p .2))
+
+-- the same with the year's two blocks as they lie in the file; the years that are looked at begin at `after`
+pub year-turn : (history : List ℕ) (first second : Field) (n k after : ℕ) (r rest : Check)
+    → length history ≡ 1024 * n → k < n → after ≡ k + 1
+    → first .4 + first .5 * widthOf (first .1) ≤ 506 → second .4 + second .5 * widthOf (second .1) ≤ 506
+    → r ≡ pairCheck history k first second
+    → rest ≡ fieldsCheck (partsOf (2 * n) history) (yearlyFields first second (1012 * after) (n - after))
+    → firstOf r rest ≡ fieldsCheck (partsOf (2 * n) history) (yearlyFields first second (1012 * k) (n - k))
+year-turn history first second n k after r rest l h e fits room er es =
+    rw (er, es, e, part-field (2 * n) (2 * k) history first (omega arith) (omega arith) fits, part-field (2 * n) (2 * k + 1) history second (omega arith) (omega arith) room)
+    (year-before (partsOf (2 * n) history) first second n k h)

@@ -1,0 +1,87 @@
+-- The length decides first, then the blocks, then the fields of the joined data.
+use mathlib.Core.Path.{_∙_, sym, ap}
+use Prim.Native.Nat.{_*_}
+use borrow.Author.Needs.{needs}
+use Rattle.basis.specs.Basis.{basisOf}
+use Rattle.basis.specs.declared.Check.{Check}
+use Rattle.basis.specs.Outcome.{firstOf}
+use Rattle.basis.proofs.Outcome.{first-stands, first-passed}
+use Rattle.field_check.specs.Field.{fieldsCheck}
+use Rattle.block.specs.Blocks.{blocksCheck}
+use Rattle.history.specs.History.{actualYears, historyData, historyFields}
+use Rattle.history.proofs.Acceptance.{wrong-length, right-length, joined-fields}
+use Rattle.history.proofs.check.check_history.Statement.{statement}
+use Rattle.history.proofs.check.check_history.Tie as tie
+
+years-needed-requires : tie.Need-years-needed-requires
+years-needed-requires c κs = search needs
+
+mul-if1 : tie.Need-mul-if1
+mul-if1 c = search needs
+
+mul-t8 : tie.Need-mul-t8
+mul-t8 c = search needs
+
+returns : tie.Need-returns
+returns c =
+    let a = c .before .before .before .before .args in
+    let y = c .before .years-needed .ensures in
+    rw y (sym (wrong-length (basisOf (a .run .now)) (a .history .now) (λ e. c .if1 .taken (rw y e))))
+
+mul-check-blocks : tie.Need-mul-check-blocks
+mul-check-blocks c = search needs
+
+check-blocks-requires : tie.Need-check-blocks-requires
+check-blocks-requires c κs = search needs
+
+enum-told : tie.Need-enum-told
+enum-told c = search needs
+
+returns-2 : tie.Need-returns-2
+returns-2 c =
+    let k = c .before .before in
+    let t = k .before in
+    let a = t .before .before .before .before .args in
+    let b = basisOf (a .run .now) in
+    let y = t .before .years-needed .ensures in
+    let l = rw y at (t .if1 .left) in
+    let e = rw y at (k .check-blocks .ensures) in
+    sym (first-stands (k .check-blocks .result) _ (c .enum-told .given .1))
+    ∙ ap (λ (x : Check). firstOf x (fieldsCheck (historyData b (a .history .now)) (historyFields (actualYears b)))) e
+    ∙ sym (right-length b (a .history .now) l)
+
+enum-told-2 : tie.Need-enum-told-2
+enum-told-2 c = search needs
+
+check-fields-requires : tie.Need-check-fields-requires
+check-fields-requires c κs = search needs
+
+returns-3 : tie.Need-returns-3
+returns-3 c =
+    let k = c .before .before .before in
+    let t = k .before in
+    let a = t .before .before .before .before .args in
+    let b = basisOf (a .run .now) in
+    let y = t .before .years-needed .ensures in
+    let l = rw y at (t .if1 .left) in
+    let e = rw y at (k .check-blocks .ensures) in
+    let f = rw y at (c .check-fields .ensures) in
+    f ∙ joined-fields b (a .history .now)
+    ∙ sym (first-passed (blocksCheck 0 (2 * actualYears b) (a .history .now)) _ (sym e ∙ c .before .enum-told2 .given .1))
+    ∙ sym (right-length b (a .history .now) l)
+
+pub check-history-spec : {M : Type 1} → statement M
+check-history-spec =
+    tie.close
+    (tie.spec
+    years-needed-requires
+    mul-if1
+    mul-t8
+    returns
+    mul-check-blocks
+    check-blocks-requires
+    enum-told
+    returns-2
+    enum-told-2
+    check-fields-requires
+    returns-3)

@@ -1,0 +1,22 @@
+-- The data of one block, looked at by itself: what its check says, with the places counted in the joined data.
+use Prim.Native.Nat.{ℕ, _+_, _*_}
+use mathlib.Core.List.{List}
+use lib.ListN.{take, drop}
+use Rattle.basis.specs.declared.Check.{Check}
+use Rattle.basis.specs.declared.Check.the-variants.{Passed, Refused}
+use Rattle.basis.specs.Outcome.{refusal, firstOf}
+use Rattle.field_check.specs.declared.Field.{Field}
+use Rattle.field_check.specs.Field.{fieldCheck}
+
+-- the check of a part that begins at an offset of the whole
+abbrev pub countedFrom : ℕ → Check → Check
+countedFrom from Passed = Passed
+countedFrom from (Refused r) = Refused (refusal (r .number) (from + r .first) (r .second))
+
+-- a field in the data of a block
+abbrev pub partCheck : List ℕ → ℕ → Field → Check
+partCheck history b f = countedFrom (506 * b) (fieldCheck (take 506 (drop (512 * b + 2) history)) f)
+
+-- one in the first block of a year and one in the second
+abbrev pub pairCheck : List ℕ → ℕ → Field → Field → Check
+pairCheck history k first second = firstOf (partCheck history (2 * k) first) (partCheck history (2 * k + 1) second)

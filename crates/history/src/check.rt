@@ -1,0 +1,118 @@
+// The check of a history (13, 2, 3, 4, 5), and of a data run with its history.
+ghost use mathlib.Core.Path.{_≡_};
+ghost use Prim.Native.Nat.{_+_, _*_, _≤_, _<_};
+ghost use lib.ListN.{length};
+ghost use Rattle.basis.specs.Basis.{basisOf, Accepted};
+ghost use Rattle.field_check.specs.Field.{widthOf, fieldsCheck};
+ghost use Rattle.block.specs.Blocks.{partsOf};
+ghost use Rattle.history.specs.History.{actualYears, improvements, zeros, historyFields, historyCheck, basisCheck};
+ghost use Rattle.history.specs.Inner.Part.{partCheck, pairCheck};
+use basis::Check;
+use basis::Refusal;
+use field_check::Field;
+use field_check::Number;
+
+// The years from B + 1 to F.
+fn years_needed(run: &[u8]) -> usize
+    requires { ⌜ Accepted (now run) ⌝ }
+    ensures { λ r. ⌜ r ≡ actualYears (basisOf (now (run .entry))) ⌝ }
+{
+    let foundation = basis::fields::foundation_year(run);
+    let base = basis::fields::base_year(run);
+    if base < foundation {
+        (foundation - base) as usize
+    } else {
+        0
+    }
+}
+
+// A field in the data of a block, with the place of its refusal counted in the joined data.
+fn check_part(history: &[u8], b: usize, f: Field) -> Check
+    requires { ⌜ (b < 176) × (512 * b + 512 ≤ length (now history)) × (f .4 + f .5 * widthOf (f .1) ≤ 506) ⌝ }
+    ensures { λ r. ⌜ r ≡ partCheck (now (history .entry)) b f ⌝ }
+{
+    let from = 512 * b + 2;
+    match field_check::check_field(&history[from..from + 506], f) {
+        Check::Passed => Check::Passed,
+        Check::Refused(r) => Check::Refused(Refusal {
+            number: r.number,
+            first: (506 * b) as u64 + r.first,
+            second: r.second,
+        }),
+    }
+}
+
+// The remaining data of a year's two blocks (4).
+fn check_zeros(history: &[u8], k: usize) -> Check
+    requires { ⌜ (k < 88) × (1024 * k + 1024 ≤ length (now history)) ⌝ }
+    ensures { λ r. ⌜ r ≡ pairCheck (now (history .entry)) k (zeros 264 242) (zeros 260 246) ⌝ }
+{
+    let younger = check_part(history, 2 * k, Field(4, Number::Byte, 0, 0, 264, 242));
+    let older = check_part(history, 2 * k + 1, Field(4, Number::Byte, 0, 0, 260, 246));
+    basis::first_of(younger, older)
+}
+
+// A year's improvements (5).
+fn check_improvements(history: &[u8], k: usize) -> Check
+    requires { ⌜ (k < 88) × (1024 * k + 1024 ≤ length (now history)) ⌝ }
+    ensures { λ r. ⌜ r ≡ pairCheck (now (history .entry)) k (improvements 66) (improvements 65) ⌝ }
+{
+    let younger = check_part(
+        history,
+        2 * k,
+        Field(5, Number::SignedWord, -500_000_000, 500_000_000, 0, 66),
+    );
+    let older = check_part(
+        history,
+        2 * k + 1,
+        Field(5, Number::SignedWord, -500_000_000, 500_000_000, 0, 65),
+    );
+    basis::first_of(younger, older)
+}
+
+// Every 4, then every 5. The years go backwards, so that the first refusal of each kind is the one that is left. As in the
+// check of a run the fields stand in the calls, so that the compiler knows their limits.
+fn check_fields(history: &[u8], years: usize) -> Check
+    requires { ⌜ (length (now history) ≡ 1024 * years) × (years ≤ 88) ⌝ }
+    ensures { λ r. ⌜ r ≡ fieldsCheck (partsOf (2 * years) (now (history .entry))) (historyFields years) ⌝ }
+{
+    let mut fours = Check::Passed;
+    let mut fives = Check::Passed;
+    let mut k = years;
+    while 0 < k {
+        k -= 1;
+        fours = basis::first_of(check_zeros(history, k), fours);
+        fives = basis::first_of(check_improvements(history, k), fives);
+    }
+    basis::first_of(fours, fives)
+}
+
+// The length (13), the blocks, then the fields.
+pub fn check_history(run: &[u8], history: &[u8]) -> Check
+    requires { ⌜ Accepted (now run) ⌝ }
+    ensures { λ r. ⌜ r ≡ historyCheck (basisOf (now (run .entry))) (now (history .entry)) ⌝ }
+{
+    let years = years_needed(run);
+    if history.len() != 1024 * years {
+        return Check::Refused(Refusal {
+            number: 13,
+            first: (1024 * years) as u64,
+            second: 0,
+        });
+    }
+    let blocks = block::check_blocks(history, 2 * years);
+    if let Check::Refused(_) = blocks {
+        return blocks;
+    }
+    check_fields(history, years)
+}
+
+// The data run afresh, then its history.
+pub fn check_basis(run: &[u8], history: &[u8]) -> Check
+    ensures { λ r. ⌜ r ≡ basisCheck (now (run .entry)) (now (history .entry)) ⌝ }
+{
+    match run_check::check_run(run) {
+        Check::Passed => check_history(run, history),
+        Check::Refused(r) => Check::Refused(r),
+    }
+}
