@@ -40,6 +40,7 @@ level rate discount addition byAge byBirthYear =
       baseRate = λ age. rate;
       byAge = λ age. byAge;
       byBirthYear = λ year. byBirthYear;
+      actual = λ age year. pos 0;
     }
 
 -- a component that stays the same: I is L

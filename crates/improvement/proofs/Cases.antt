@@ -1,16 +1,21 @@
--- The definitions of the improvement case by case: before and after F, within and beyond ±500,000,000. Assumes nothing.
+-- The definitions of the improvement case by case: actual and projected, before and after F, within and beyond ±500,000,000. Assumes
+-- nothing.
 use mathlib.Core.Path.{_≡_, _∙_, sym, refl}
-use mathlib.Core.Bool.{true, false}
-use Prim.Native.Nat.{ℕ, suc, _-_, _≤_, _<_}
+use mathlib.Core.Bool.{Bool, true, false, _&&_}
+use mathlib.Core.List.{List}
+use Prim.Native.Nat.{ℕ, suc, _+_, _-_, _≤_, _<_}
+use native.Mathlib.Decide.{decLt}
 use native.Mathlib.Omega.{arith}
+use lib.Dec.{ltb, leb}
 use lib.IntN.{ℤ, pos, negsuc, natAbs, _+ℤ_}
 use lib.Signed.{leZ}
 use borrow.Author.Tests.{lt-ltb, le-ltb, leb-true, leb-false, le-leb, lt-leb}
-use Rattle.basis.specs.Basis.{Basis, ConvergenceLimits}
+use Rattle.basis.specs.Basis.{Basis, basisOf, ConvergenceLimits}
+use Rattle.history.specs.History.{actualOf, basisWith, AcceptedWith}
 use Rattle.basis.specs.Outcome.{value, refused, refusal}
 use Rattle.basis.specs.declared.Convergence.{Convergence}
 use Rattle.component.specs.Component.{componentOf}
-use Rattle.improvement.specs.Improvement.{additionOf, improvementOf, usable, improvementNeeded}
+use Rattle.improvement.specs.Improvement.{additionOf, projectedOf, isActual, improvementOf, firstYear, usable, improvementNeeded}
 
 -- ---- the addition and the improvement
 pub addition-after : (b : Basis) (year : ℕ) → b .foundation < year → additionOf b year ≡ b .addition
@@ -24,11 +29,90 @@ addition-at b year h = rw (le-ltb (b .foundation) year h)
 pub limits-of : {found terms : Convergence} → found ≡ terms → ConvergenceLimits terms → ConvergenceLimits found
 limits-of e h = rw e h
 
-pub improvement-is : (b : Basis) (age year : ℕ) {attained birth : Convergence} {foundation : ℕ} {addition : ℤ} →
+pub projected-is : (b : Basis) (age year : ℕ) {attained birth : Convergence} {foundation : ℕ} {addition : ℤ} →
     attained ≡ b .byAge age → birth ≡ b .byBirthYear (year - age) → foundation ≡ b .foundation → addition ≡ additionOf b year →
-    componentOf attained (year - foundation) +ℤ componentOf birth (year - foundation) +ℤ addition ≡ improvementOf b age year
-unfolding improvementOf
-improvement-is b age year e g h k = rw (e, g, h, k) refl
+    componentOf attained (year - foundation) +ℤ componentOf birth (year - foundation) +ℤ addition ≡ projectedOf b age year
+unfolding projectedOf
+projected-is b age year e g h k = rw (e, g, h, k) refl
+
+-- ---- the first year that has an improvement
+-- whatever the history
+pub first-with : (run history : List ℕ) → firstYear (basisOf run) ≡ firstYear (basisWith run history)
+unfolding firstYear
+first-with run history = refl
+
+pub first-before : (b : Basis) → b .base < b .foundation → firstYear b ≡ b .base + 1
+unfolding firstYear
+first-before b h = rw (lt-ltb (b .base) (b .foundation) h)
+
+pub first-from : (b : Basis) → b .foundation ≤ b .base → firstYear b ≡ b .foundation
+unfolding firstYear
+first-from b h = rw (le-ltb (b .base) (b .foundation) h)
+
+-- no later than B + 1
+pub first-early : (b : Basis) → firstYear b ≤ b .base + 1
+first-early b = by (decLt (b .base) (b .foundation))
+  where
+    by : Dec (b .base < b .foundation) → firstYear b ≤ b .base + 1
+    by (yes l) = rw (first-before b l) (omega arith)
+    by (no l) = rw (first-from b (omega arith)) (omega arith)
+
+-- ---- actual and projected years
+with-false : (t : Bool) → (t && false) ≡ false
+with-false true = refl
+with-false false = refl
+
+-- the projection does not look at the history
+pub projected-with : (run history : List ℕ) (age year : ℕ) → projectedOf (basisOf run) age year ≡ projectedOf (basisWith run history) age year
+unfolding projectedOf additionOf
+projected-with run history age year = refl
+
+module _ (b : Basis) (year : ℕ) where
+  -- the code's tests, one after the other
+  pub after-base : b .base < year → leb year (b .foundation) ≡ isActual b year
+  after-base h = rw (lt-ltb (b .base) year h) refl
+
+  pub upto-base : year ≤ b .base → ltb (b .base) year ≡ isActual b year
+  upto-base h = rw (le-ltb (b .base) year h) refl
+
+  -- the years from B + 1 to F
+  pub is-actual : b .base < year → year ≤ b .foundation → isActual b year ≡ true
+  is-actual l h = rw (lt-ltb (b .base) year l, le-leb year (b .foundation) h) refl
+
+  pub not-after-base : year ≤ b .base → isActual b year ≡ false
+  not-after-base h = rw (le-ltb (b .base) year h) refl
+
+  pub after-foundation : b .foundation < year → isActual b year ≡ false
+  after-foundation h = rw (lt-leb year (b .foundation) h) (with-false (ltb (b .base) year))
+
+  -- a year that is one of them
+  pub actual-range : isActual b year ≡ true → (b .base < year) × (year ≤ b .foundation)
+  actual-range h = by (decLt (b .base) year) (decLt (b .foundation) year)
+    where
+      by : Dec (b .base < year) → Dec (b .foundation < year) → (b .base < year) × (year ≤ b .foundation)
+      by (yes l) (no m) = (l, omega arith)
+      by (yes l) (yes m) = let z : _≡_ {A = Bool} true false = sym h ∙ after-foundation m in let w : _≡_ {A = ℕ} 0 1 = cc in absurd (omega arith)
+      by (no l) m = let z : _≡_ {A = Bool} true false = sym h ∙ not-after-base (omega arith) in let w : _≡_ {A = ℕ} 0 1 = cc in absurd (omega arith)
+
+  -- a year with an improvement that is none of them is F or later
+  pub projected-range : firstYear b ≤ year → isActual b year ≡ false → b .foundation ≤ year
+  projected-range f h = by (decLt year (b .foundation)) (decLt (b .base) (b .foundation))
+    where
+      by : Dec (year < b .foundation) → Dec (b .base < b .foundation) → b .foundation ≤ year
+      by (no l) m = omega arith
+      by (yes l) (yes m) =
+          let g = rw (first-before b m) at f in
+          let z : _≡_ {A = Bool} true false = sym (is-actual (omega arith) (omega arith)) ∙ h in let w : _≡_ {A = ℕ} 0 1 = cc in absurd (omega arith)
+      by (yes l) (no m) = let g = rw (first-from b (omega arith)) at f in omega arith
+
+module _ (b : Basis) (age year : ℕ) where
+  pub actual-year : isActual b year ≡ true → improvementOf b age year ≡ b .actual age year
+  unfolding improvementOf
+  actual-year h = rw h
+
+  pub projected-year : isActual b year ≡ false → improvementOf b age year ≡ projectedOf b age year
+  unfolding improvementOf
+  projected-year h = rw h
 
 -- ---- 9: the code's two tests are the one of the definition
 pub usable-high : (i : ℤ) → leZ (negsuc 499_999_999) i ≡ true → leZ i (pos 500_000_000) ≡ usable i
@@ -50,3 +134,11 @@ module _ (age year : ℕ) (i : ℤ) where
   pub needed-beyond : usable i ≡ false → improvementNeeded age year i ≡ refused (refusal 9 age year)
   unfolding improvementNeeded
   needed-beyond h = rw h refl
+
+-- an actual improvement of an accepted history is never refused by 9
+pub actual-answered : (run history : List ℕ) (age year : ℕ) → AcceptedWith run history → 20 ≤ age → age ≤ 150 → basisOf run .base < year → year ≤ basisOf run .foundation
+    → improvementNeeded age year (improvementOf (basisWith run history) age year) ≡ value (actualOf (basisOf run) history age year)
+actual-answered run history age year ok low high after upto =
+    let b = basisWith run history in
+    rw (actual-year b age year (is-actual b year after upto))
+    (needed-usable age year (actualOf (basisOf run) history age year) (le-leb _ 500_000_000 (ok .actual age year low high after upto)))

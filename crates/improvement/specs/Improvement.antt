@@ -1,21 +1,34 @@
--- Improvement (01, "The projection"), with refusal 9.
-use Prim.Native.Nat.{ℕ, _-_}
-use mathlib.Core.Bool.{Bool, cond}
+-- Improvement (01, "The projection"; 02, change 2), with refusal 9.
+use Prim.Native.Nat.{ℕ, _+_, _-_}
+use mathlib.Core.Bool.{Bool, cond, _&&_}
 use lib.Dec.{ltb, leb}
 use lib.IntN.{ℤ, pos, natAbs, _+ℤ_}
 use Rattle.basis.specs.Outcome.{Outcome, value, refused, refusal}
 use Rattle.basis.specs.Basis.{Basis}
 use Rattle.component.specs.Component.{componentOf}
 
--- ---- Improvement at an age in a year from F to 2130
+-- ---- the projection's, at an age in a year from F to 2130
 -- the constant addition, if the year is after F
 unfoldable pub additionOf : Basis → ℕ → ℤ
 additionOf b year = cond (ltb (b .foundation) year) (b .addition) (pos 0)
 
 -- the two components added, plus the constant addition; the birth year is the calendar year less the age
-unfoldable pub improvementOf : Basis → ℕ → ℕ → ℤ
-improvementOf b age year =
+unfoldable pub projectedOf : Basis → ℕ → ℕ → ℤ
+projectedOf b age year =
     componentOf (b .byAge age) (year - b .foundation) +ℤ componentOf (b .byBirthYear (year - age)) (year - b .foundation) +ℤ additionOf b year
+
+-- ---- Improvement
+-- where the base table is older than F, the years from B + 1 to F have actual improvements
+abbrev pub isActual : Basis → ℕ → Bool
+isActual b year = ltb (b .base) year && leb year (b .foundation)
+
+-- these are the history's, and take no constant addition; those of all other years are the projection's
+unfoldable pub improvementOf : Basis → ℕ → ℕ → ℤ
+improvementOf b age year = cond (isActual b year) (b .actual age year) (projectedOf b age year)
+
+-- the first year that has an improvement: F, and B + 1 with B before F
+unfoldable pub firstYear : Basis → ℕ
+firstYear b = cond (ltb (b .base) (b .foundation)) (b .base + 1) (b .foundation)
 
 abbrev pub usable : ℤ → Bool
 usable improvement = leb (natAbs improvement) 500_000_000

@@ -1,11 +1,13 @@
-// The improvement at an age in a year: two components and the constant addition.
+// The improvement at an age in a year: the history's in a year that has an actual one, otherwise two components and the constant
+// addition.
 ghost use mathlib.Core.Path.{_≡_};
 ghost use Prim.Native.Nat.{_≤_};
 ghost use lib.IntN.{_+ℤ_};
 ghost use Rattle.basis.specs.Basis.{basisOf, Accepted, ConvergenceLimits};
+ghost use Rattle.history.specs.History.{basisWith, AcceptedWith};
 ghost use Rattle.basis.specs.Outcome.{signedMeaning};
 ghost use Rattle.component.specs.Component.{componentOf};
-ghost use Rattle.improvement.specs.Improvement.{additionOf, improvementOf, improvementNeeded, usable};
+ghost use Rattle.improvement.specs.Improvement.{additionOf, projectedOf, isActual, firstYear, improvementOf, improvementNeeded, usable};
 use basis::Convergence;
 use basis::Refusal;
 use basis::SignedAnswer;
@@ -32,14 +34,48 @@ fn improvement_from(attained: Convergence, birth: Convergence, years: u32, addit
         + arithmetic::wide(addition)
 }
 
-// The improvement at an age, whose terms the caller has read, in a year from F to 2130.
-pub fn improvement_at(run: &[u8], terms: Convergence, age: u32, year: u32) -> i64
+// The projection's improvement at an age, whose terms the caller has read, in a year from F to 2130.
+fn projected_at(run: &[u8], terms: Convergence, age: u32, year: u32) -> i64
     requires { ⌜ Accepted (now run) × (20 ≤ age) × (age ≤ 150) × (terms ≡ basisOf (now run) .byAge age) × (basisOf (now run) .foundation ≤ year) × (year ≤ 2130) ⌝ }
-    ensures { λ r. ⌜ r ≡ improvementOf (basisOf (now (run .entry))) age year ⌝ }
+    ensures { λ r. ⌜ r ≡ projectedOf (basisOf (now (run .entry))) age year ⌝ }
 {
     let years = year - basis::fields::foundation_year(run);
     let birth = basis::fields::birth_year_terms(run, year - age);
     improvement_from(terms, birth, years, addition_in(run, year))
+}
+
+// Does the history have this year's improvements? It has those from B + 1 to F.
+fn is_actual(run: &[u8], year: u32) -> bool
+    requires { ⌜ Accepted (now run) ⌝ }
+    ensures { λ r. ⌜ r ≡ isActual (basisOf (now (run .entry))) year ⌝ }
+{
+    basis::fields::base_year(run) < year && year <= basis::fields::foundation_year(run)
+}
+
+// The improvement at an age, whose terms the caller has read, in a year up to 2130 that has one.
+pub fn improvement_at(run: &[u8], history: &[u8], terms: Convergence, age: u32, year: u32) -> i64
+    requires { ⌜ AcceptedWith (now run) (now history) × (20 ≤ age) × (age ≤ 150) × (terms ≡ basisOf (now run) .byAge age) × (firstYear (basisWith (now run) (now history)) ≤ year) × (year ≤ 2130) ⌝ }
+    ensures { λ r. ⌜ r ≡ improvementOf (basisWith (now (run .entry)) (now (history .entry))) age year ⌝ }
+{
+    if is_actual(run, year) {
+        arithmetic::wide(history::actual::actual_improvement(run, history, age, year))
+    } else {
+        projected_at(run, terms, age, year)
+    }
+}
+
+// The first year that has an improvement.
+pub fn first_year(run: &[u8]) -> u32
+    requires { ⌜ Accepted (now run) ⌝ }
+    ensures { λ r. ⌜ r ≡ firstYear (basisOf (now (run .entry))) ⌝ }
+{
+    let base = basis::fields::base_year(run);
+    let foundation = basis::fields::foundation_year(run);
+    if base < foundation {
+        base + 1
+    } else {
+        foundation
+    }
 }
 
 // Is an improvement within ±500,000,000?
@@ -49,12 +85,12 @@ pub fn is_usable(improvement: i64) -> bool
     -500_000_000 <= improvement && improvement <= 500_000_000
 }
 
-// The improvement at an age in a year from F to 2130, with refusal 9.
-pub fn improvement_needed(run: &[u8], age: u32, year: u32) -> SignedAnswer
-    requires { ⌜ Accepted (now run) × (20 ≤ age) × (age ≤ 150) × (basisOf (now run) .foundation ≤ year) × (year ≤ 2130) ⌝ }
-    ensures { λ r. ⌜ signedMeaning r ≡ improvementNeeded age year (improvementOf (basisOf (now (run .entry))) age year) ⌝ }
+// The same with refusal 9.
+pub fn improvement_needed(run: &[u8], history: &[u8], age: u32, year: u32) -> SignedAnswer
+    requires { ⌜ AcceptedWith (now run) (now history) × (20 ≤ age) × (age ≤ 150) × (firstYear (basisWith (now run) (now history)) ≤ year) × (year ≤ 2130) ⌝ }
+    ensures { λ r. ⌜ signedMeaning r ≡ improvementNeeded age year (improvementOf (basisWith (now (run .entry)) (now (history .entry))) age year) ⌝ }
 {
-    let improvement = improvement_at(run, basis::fields::age_terms(run, age), age, year);
+    let improvement = improvement_at(run, history, basis::fields::age_terms(run, age), age, year);
     if is_usable(improvement) {
         SignedAnswer::Value(improvement)
     } else {

@@ -2,9 +2,9 @@
 ghost use mathlib.Core.Path.{_≡_};
 ghost use Prim.Native.Nat.{_≤_};
 ghost use lib.IntN.{pos, natAbs};
-ghost use Rattle.basis.specs.Basis.{basisOf, Accepted};
+ghost use Rattle.history.specs.History.{basisWith, AcceptedWith};
 ghost use Rattle.basis.specs.Outcome.{meaning};
-ghost use Rattle.improvement.specs.Improvement.{improvementOf};
+ghost use Rattle.improvement.specs.Improvement.{firstYear, improvementOf};
 ghost use Rattle.projection.specs.Projection.{factorNext, factorFrom, heldYear, factorOf};
 use basis::Answer;
 use basis::Convergence;
@@ -45,14 +45,21 @@ fn factor_from(age: u32, year: u32, improvement: i64, factor: u64) -> Answer
 }
 
 // The same at an age whose terms the caller has read.
-fn factor_in(run: &[u8], terms: Convergence, age: u32, year: u32, factor: u64) -> Answer
-    requires { ⌜ Accepted (now run) × (20 ≤ age) × (age ≤ 150) × (terms ≡ basisOf (now run) .byAge age) × (basisOf (now run) .foundation ≤ year) × (year ≤ 2130) × (factor ≤ 4_000_000_000) ⌝ }
-    ensures { λ r. ⌜ meaning r ≡ factorFrom age year (improvementOf (basisOf (now (run .entry))) age year) (pos factor) ⌝ }
+fn factor_in(
+    run: &[u8],
+    history: &[u8],
+    terms: Convergence,
+    age: u32,
+    year: u32,
+    factor: u64,
+) -> Answer
+    requires { ⌜ AcceptedWith (now run) (now history) × (20 ≤ age) × (age ≤ 150) × (terms ≡ basisWith (now run) (now history) .byAge age) × (firstYear (basisWith (now run) (now history)) ≤ year) × (year ≤ 2130) × (factor ≤ 4_000_000_000) ⌝ }
+    ensures { λ r. ⌜ meaning r ≡ factorFrom age year (improvementOf (basisWith (now (run .entry)) (now (history .entry))) age year) (pos factor) ⌝ }
 {
     factor_from(
         age,
         year,
-        improvement::improvement_at(run, terms, age, year),
+        improvement::improvement_at(run, history, terms, age, year),
         factor,
     )
 }
@@ -65,9 +72,9 @@ fn held_year(year: u32) -> u32
 }
 
 // The factor at an age in a year from B on.
-pub fn factor_at(run: &[u8], age: u32, year: u32) -> Answer
-    requires { ⌜ Accepted (now run) × (20 ≤ age) × (age ≤ 150) × (basisOf (now run) .base ≤ year) ⌝ }
-    ensures { λ r. ⌜ meaning r ≡ factorOf (basisOf (now (run .entry))) age year ⌝ }
+pub fn factor_at(run: &[u8], history: &[u8], age: u32, year: u32) -> Answer
+    requires { ⌜ AcceptedWith (now run) (now history) × (20 ≤ age) × (age ≤ 150) × (basisWith (now run) (now history) .base ≤ year) ⌝ }
+    ensures { λ r. ⌜ meaning r ≡ factorOf (basisWith (now (run .entry)) (now (history .entry))) age year ⌝ }
 {
     let terms = basis::fields::age_terms(run, age);
     let base = basis::fields::base_year(run);
@@ -75,7 +82,7 @@ pub fn factor_at(run: &[u8], age: u32, year: u32) -> Answer
     let mut factor: u64 = UNIT;
     let mut k: u32 = 0;
     while k < years {
-        match factor_in(run, terms, age, base + 1 + k, factor) {
+        match factor_in(run, history, terms, age, base + 1 + k, factor) {
             Answer::Value(v) => {
                 factor = v;
             }

@@ -4,6 +4,7 @@ ghost use Prim.Native.Nat.{_≤_};
 ghost use lib.IntN.{pos};
 ghost use Rattle.basis.specs.Basis.{basisOf, Accepted};
 ghost use Rattle.basis.specs.Outcome.{meaning};
+ghost use Rattle.history.specs.History.{basisWith, AcceptedWith};
 ghost use Rattle.projection.specs.Projection.{rateFrom, rateOf};
 use crate::factor;
 use basis::Answer;
@@ -23,11 +24,11 @@ fn rate_from(run: &[u8], age: u32, factor: u64) -> u64
 }
 
 // The mortality rate at an age in a year from B on.
-pub fn rate_at(run: &[u8], age: u32, year: u32) -> Answer
-    requires { ⌜ Accepted (now run) × (20 ≤ age) × (age ≤ 150) × (basisOf (now run) .base ≤ year) ⌝ }
-    ensures { λ r. ⌜ meaning r ≡ rateOf (basisOf (now (run .entry))) age year ⌝ }
+pub fn rate_at(run: &[u8], history: &[u8], age: u32, year: u32) -> Answer
+    requires { ⌜ AcceptedWith (now run) (now history) × (20 ≤ age) × (age ≤ 150) × (basisWith (now run) (now history) .base ≤ year) ⌝ }
+    ensures { λ r. ⌜ meaning r ≡ rateOf (basisWith (now (run .entry)) (now (history .entry))) age year ⌝ }
 {
-    match factor::factor_at(run, age, year) {
+    match factor::factor_at(run, history, age, year) {
         Answer::Value(f) => Answer::Value(rate_from(run, age, f)),
         Answer::Refused(r) => Answer::Refused(r),
     }

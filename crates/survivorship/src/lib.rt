@@ -2,7 +2,7 @@
 ghost use mathlib.Core.Path.{_≡_};
 ghost use Prim.Native.Nat.{_+_, _≤_};
 ghost use lib.IntN.{pos};
-ghost use Rattle.basis.specs.Basis.{basisOf, Accepted};
+ghost use Rattle.history.specs.History.{basisWith, AcceptedWith};
 ghost use Rattle.basis.specs.Outcome.{meaning};
 ghost use Rattle.survivorship.specs.Survivorship.{yearOn, survivorsNext, survivorsAfterYear, survivorsOf};
 use basis::Answer;
@@ -35,25 +35,25 @@ fn survivors_next(s: u64, q: u64) -> u64
 }
 
 // The same with the rate of an age and a year from B on, or its refusal.
-pub fn survivors_after_year(run: &[u8], age: u32, year: u32, s: u64) -> Answer
-    requires { ⌜ Accepted (now run) × (20 ≤ age) × (age ≤ 150) × (basisOf (now run) .base ≤ year) × (s ≤ 1_000_000_000) ⌝ }
-    ensures { λ r. ⌜ meaning r ≡ survivorsAfterYear (basisOf (now (run .entry))) age year (pos s) ⌝ }
+pub fn survivors_after_year(run: &[u8], history: &[u8], age: u32, year: u32, s: u64) -> Answer
+    requires { ⌜ AcceptedWith (now run) (now history) × (20 ≤ age) × (age ≤ 150) × (basisWith (now run) (now history) .base ≤ year) × (s ≤ 1_000_000_000) ⌝ }
+    ensures { λ r. ⌜ meaning r ≡ survivorsAfterYear (basisWith (now (run .entry)) (now (history .entry))) age year (pos s) ⌝ }
 {
-    match projection::rate::rate_at(run, age, year) {
+    match projection::rate::rate_at(run, history, age, year) {
         Answer::Value(q) => Answer::Value(survivors_next(s, q)),
         Answer::Refused(r) => Answer::Refused(r),
     }
 }
 
 // The survivors after n years.
-pub fn survivors_at(run: &[u8], kind: Kind, age: u32, year: u32, n: u32) -> Answer
-    requires { ⌜ Accepted (now run) × (20 ≤ age) × (age + n ≤ 150) × (basisOf (now run) .base ≤ year) × (year ≤ 2130) ⌝ }
-    ensures { λ r. ⌜ meaning r ≡ survivorsOf (basisOf (now (run .entry))) kind age year n ⌝ }
+pub fn survivors_at(run: &[u8], history: &[u8], kind: Kind, age: u32, year: u32, n: u32) -> Answer
+    requires { ⌜ AcceptedWith (now run) (now history) × (20 ≤ age) × (age + n ≤ 150) × (basisWith (now run) (now history) .base ≤ year) × (year ≤ 2130) ⌝ }
+    ensures { λ r. ⌜ meaning r ≡ survivorsOf (basisWith (now (run .entry)) (now (history .entry))) kind age year n ⌝ }
 {
     let mut s: u64 = UNIT;
     let mut j: u32 = 0;
     while j < n {
-        match survivors_after_year(run, age + j, year_on(kind, year, j), s) {
+        match survivors_after_year(run, history, age + j, year_on(kind, year, j), s) {
             Answer::Value(v) => {
                 s = v;
             }

@@ -6,7 +6,10 @@ use lib.IntN.{ℤ, pos}
 use Rattle.arithmetic.specs.Fraction.{U}
 use Rattle.arithmetic.proofs.Rounding.{round-abs-le}
 use Rattle.arithmetic.proofs.Growth.{grown, grown-share, grown-small}
-use Rattle.basis.specs.Basis.{Basis, Limited, accumulationOf}
+use mathlib.Core.List.{List}
+use Rattle.basis.specs.Basis.{Basis, basisOf, Limited, accumulationOf}
+use Rattle.history.specs.History.{basisWith}
+use Rattle.history.proofs.With.{accumulation-with}
 use Rattle.basis.proofs.Accumulation.{accumulation-low, accumulation-high}
 use Rattle.valuation.specs.Valuation.{discountNext, discountAfter}
 
@@ -14,6 +17,12 @@ use Rattle.valuation.specs.Valuation.{discountNext, discountAfter}
 pub discount-turn : (b : Basis) (j : ℕ) (v : ℤ) {accumulation : ℕ} → accumulation ≡ accumulationOf b → discountAfter b j ≡ v → discountAfter b (suc j) ≡ discountNext v accumulation
 unfolding discountAfter
 discount-turn b j v e h = rw (h, e) refl
+
+-- a history does not change it
+pub discount-with : (run history : List ℕ) (j : ℕ) → discountAfter (basisOf run) j ≡ discountAfter (basisWith run history) j
+unfolding discountAfter
+discount-with run history zero = refl
+discount-with run history (suc j) = rw (discount-with run history j, accumulation-with run history) refl
 
 module _ (b : Basis) (limits : Limited b) where
   natural : (j : ℕ) → (v : ℕ) × (discountAfter b j ≡ pos v) × (v ≤ grown j)

@@ -4,6 +4,7 @@ ghost use Prim.Native.Nat.{_+_, _≤_};
 ghost use lib.IntN.{pos};
 ghost use Rattle.basis.specs.Basis.{basisOf, accumulationOf, Accepted};
 ghost use Rattle.basis.specs.Outcome.{meaning, value};
+ghost use Rattle.history.specs.History.{basisWith, AcceptedWith};
 ghost use Rattle.survivorship.specs.Survivorship.{survivorsOf};
 ghost use Rattle.valuation.specs.Valuation.{discountNext, discountAfter, payment, annuityOf};
 use basis::Answer;
@@ -43,9 +44,17 @@ fn payment(v: u64, s: u64) -> u64
 }
 
 // The annuity from the survivors at the deferment's end.
-fn annuity_from(run: &[u8], kind: Kind, age: u32, year: u32, deferment: u32, first: u64) -> Answer
-    requires { ⌜ Accepted (now run) × (20 ≤ age) × (age + deferment ≤ 150) × (basisOf (now run) .base ≤ year) × (year ≤ 2130) × (first ≤ 1_000_000_000) × (survivorsOf (basisOf (now run)) kind age year deferment ≡ value (pos first)) ⌝ }
-    ensures { λ r. ⌜ meaning r ≡ annuityOf (basisOf (now (run .entry))) kind age year deferment ⌝ }
+fn annuity_from(
+    run: &[u8],
+    history: &[u8],
+    kind: Kind,
+    age: u32,
+    year: u32,
+    deferment: u32,
+    first: u64,
+) -> Answer
+    requires { ⌜ AcceptedWith (now run) (now history) × (20 ≤ age) × (age + deferment ≤ 150) × (basisWith (now run) (now history) .base ≤ year) × (year ≤ 2130) × (first ≤ 1_000_000_000) × (survivorsOf (basisWith (now run) (now history)) kind age year deferment ≡ value (pos first)) ⌝ }
+    ensures { λ r. ⌜ meaning r ≡ annuityOf (basisWith (now (run .entry)) (now (history .entry))) kind age year deferment ⌝ }
 {
     let accumulation = basis::fields::accumulation(run);
     let last = 150 - age;
@@ -56,6 +65,7 @@ fn annuity_from(run: &[u8], kind: Kind, age: u32, year: u32, deferment: u32, fir
     while j < last {
         match survivorship::survivors_after_year(
             run,
+            history,
             age + j,
             survivorship::year_on(kind, year, j),
             s,
@@ -73,12 +83,19 @@ fn annuity_from(run: &[u8], kind: Kind, age: u32, year: u32, deferment: u32, fir
 }
 
 // The annuity at an age in a year, with a deferment.
-pub fn annuity_at(run: &[u8], kind: Kind, age: u32, year: u32, deferment: u32) -> Answer
-    requires { ⌜ Accepted (now run) × (20 ≤ age) × (age + deferment ≤ 150) × (basisOf (now run) .base ≤ year) × (year ≤ 2130) ⌝ }
-    ensures { λ r. ⌜ meaning r ≡ annuityOf (basisOf (now (run .entry))) kind age year deferment ⌝ }
+pub fn annuity_at(
+    run: &[u8],
+    history: &[u8],
+    kind: Kind,
+    age: u32,
+    year: u32,
+    deferment: u32,
+) -> Answer
+    requires { ⌜ AcceptedWith (now run) (now history) × (20 ≤ age) × (age + deferment ≤ 150) × (basisWith (now run) (now history) .base ≤ year) × (year ≤ 2130) ⌝ }
+    ensures { λ r. ⌜ meaning r ≡ annuityOf (basisWith (now (run .entry)) (now (history .entry))) kind age year deferment ⌝ }
 {
-    match survivorship::survivors_at(run, kind, age, year, deferment) {
-        Answer::Value(s) => annuity_from(run, kind, age, year, deferment, s),
+    match survivorship::survivors_at(run, history, kind, age, year, deferment) {
+        Answer::Value(s) => annuity_from(run, history, kind, age, year, deferment, s),
         Answer::Refused(r) => Answer::Refused(r),
     }
 }

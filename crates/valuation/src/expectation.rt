@@ -1,7 +1,7 @@
 // The expectation of life: the years that U lives have left on average, with half a year for the year of death.
 ghost use mathlib.Core.Path.{_≡_};
 ghost use Prim.Native.Nat.{_+_, _≤_};
-ghost use Rattle.basis.specs.Basis.{basisOf, Accepted};
+ghost use Rattle.history.specs.History.{basisWith, AcceptedWith};
 ghost use Rattle.basis.specs.Outcome.{meaning};
 ghost use Rattle.valuation.specs.Valuation.{expectationOf};
 use basis::Answer;
@@ -12,9 +12,16 @@ const UNIT: u64 = 1_000_000_000;
 const HALF: u64 = 500_000_000;
 
 // The expectation from the deferred age in the deferred year.
-pub fn expectation_at(run: &[u8], kind: Kind, age: u32, year: u32, deferment: u32) -> Answer
-    requires { ⌜ Accepted (now run) × (20 ≤ age) × (age + deferment ≤ 150) × (basisOf (now run) .base ≤ year) × (year ≤ 2130) ⌝ }
-    ensures { λ r. ⌜ meaning r ≡ expectationOf (basisOf (now (run .entry))) kind age year deferment ⌝ }
+pub fn expectation_at(
+    run: &[u8],
+    history: &[u8],
+    kind: Kind,
+    age: u32,
+    year: u32,
+    deferment: u32,
+) -> Answer
+    requires { ⌜ AcceptedWith (now run) (now history) × (20 ≤ age) × (age + deferment ≤ 150) × (basisWith (now run) (now history) .base ≤ year) × (year ≤ 2130) ⌝ }
+    ensures { λ r. ⌜ meaning r ≡ expectationOf (basisWith (now (run .entry)) (now (history .entry))) kind age year deferment ⌝ }
 {
     let from = age + deferment;
     let start = year + deferment;
@@ -25,6 +32,7 @@ pub fn expectation_at(run: &[u8], kind: Kind, age: u32, year: u32, deferment: u3
     while j < last {
         match survivorship::survivors_after_year(
             run,
+            history,
             from + j,
             survivorship::year_on(kind, start, j),
             s,

@@ -1,56 +1,57 @@
--- The terms, the years and the addition are those of the basis, and their limits are those of an accepted run.
-use mathlib.Core.Path.{_∙_}
-use Prim.Native.Nat.{_-_}
-use native.Mathlib.Omega.{arith}
+-- The year is one of the history's or not: the two cases of the definition.
+use mathlib.Core.Path.{_∙_, sym}
 use mir.Syntax.{w32, w64}
 use borrow.Author.Needs.{needs}
 use Rattle.arithmetic.proofs.Machine.{got}
-use Rattle.improvement.proofs.Cases.{limits-of, improvement-is}
+use Rattle.basis.specs.Basis.{basisOf}
+use Rattle.history.specs.History.{basisWith}
+use Rattle.improvement.proofs.Cases.{actual-year, projected-year, actual-range, projected-range, projected-with}
 use Rattle.improvement.proofs.improvement_at.Statement.{statement}
 use Rattle.improvement.proofs.improvement_at.Tie as tie
 
-foundation-year-requires : tie.Need-foundation-year-requires
-foundation-year-requires c κs = search needs
+is-actual-requires : tie.Need-is-actual-requires
+is-actual-requires c κs = search needs
 
-sub-years : tie.Need-sub-years
-sub-years c = search needs
-
-sub-birth-year-terms : tie.Need-sub-birth-year-terms
-sub-birth-year-terms c = search needs
-
-birth-year-terms-requires : tie.Need-birth-year-terms-requires
-birth-year-terms-requires c κs = search needs
-
-addition-in-requires : tie.Need-addition-in-requires
-addition-in-requires c κs = search needs
-
-improvement-from-requires : tie.Need-improvement-from-requires
-improvement-from-requires c κs =
+actual-improvement-requires : tie.Need-actual-improvement-requires
+actual-improvement-requires c κs =
     let s = c .before .before .before .before in
-    let a = s .args in
-    let l = s .pre .0 .limits in (
-      limits-of (s .pre .3) (l .byAge (a .age) (s .pre .1) (s .pre .2)),
-      limits-of (c .before .birth-year-terms .ensures) (l .byBirthYear (a .year - a .age) (omega arith) (omega arith)),
-    )
+    let r = actual-range (basisOf (s .args .run .now)) (s .args .year) (sym (c .before .is-actual .ensures) ∙ c .if1 .taken) in
+    (s .pre .0, s .pre .1, s .pre .2, r .0, r .1)
+
+wide-requires : tie.Need-wide-requires
+wide-requires c κs = search needs
+
+projected-at-requires : tie.Need-projected-at-requires
+projected-at-requires c κs =
+    let s = c .before .before .before .before in
+    let b = basisWith (s .args .run .now) (s .args .history .now) in
+    let late = projected-range b (s .args .year) (s .pre .4) (sym (c .before .is-actual .ensures) ∙ c .if1 .left) in
+    (s .pre .0 .basis, s .pre .1, s .pre .2, s .pre .3, late, s .pre .5)
 
 returns : tie.Need-returns
 returns c =
-    let d = c .before in
-    let s = d .before .before .before .before in
-    let birth = d .before .birth-year-terms .ensures in
-    let foundation = d .before .before .foundation-year .ensures in
-    let addition = got w32 (d .addition-in .ok) (d .addition-in .ensures) in
-    got w64 (c .improvement-from .ok)
-    (c .improvement-from .ensures ∙ improvement-is _ (s .args .age) (s .args .year) (s .pre .3) birth foundation addition)
+    let i = c .before in
+    let t = i .before in
+    let s = t .before .before .before .before in
+    let b = basisWith (s .args .run .now) (s .args .history .now) in
+    got w64 (c .wide .ok) (c .wide .ensures ∙ got w32 (i .actual-improvement .ok) (i .actual-improvement .ensures))
+    ∙ sym (actual-year b (s .args .age) (s .args .year) (sym (t .before .is-actual .ensures) ∙ t .if1 .taken))
+
+returns-2 : tie.Need-returns-2
+returns-2 c =
+    let t = c .before in
+    let s = t .before .before .before .before in
+    let b = basisWith (s .args .run .now) (s .args .history .now) in
+    got w64 (c .projected-at .ok) (c .projected-at .ensures ∙ projected-with (s .args .run .now) (s .args .history .now) (s .args .age) (s .args .year))
+    ∙ sym (projected-year b (s .args .age) (s .args .year) (sym (t .before .is-actual .ensures) ∙ t .if1 .left))
 
 pub improvement-at-spec : {M : Type 1} → statement M
 improvement-at-spec =
     tie.close
     (tie.spec
-    foundation-year-requires
-    sub-years
-    sub-birth-year-terms
-    birth-year-terms-requires
-    addition-in-requires
-    improvement-from-requires
-    returns)
+    is-actual-requires
+    actual-improvement-requires
+    wide-requires
+    projected-at-requires
+    returns
+    returns-2)

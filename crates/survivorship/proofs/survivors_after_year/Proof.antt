@@ -2,7 +2,7 @@
 use mathlib.Core.Path.{_∙_, ap, sym}
 use lib.IntN.{pos}
 use borrow.Author.Needs.{needs}
-use Rattle.basis.specs.Basis.{basisOf}
+use Rattle.history.specs.History.{basisWith}
 use Rattle.basis.specs.Outcome.{meaning, value}
 use Rattle.survivorship.proofs.Survivors.{rate-at-most, year-value, year-refused}
 use Rattle.survivorship.proofs.survivors_after_year.Statement.{statement}
@@ -15,22 +15,24 @@ enum-known-q : tie.Need-enum-known-q
 enum-known-q c = search needs
 
 survivors-next-requires : tie.Need-survivors-next-requires
-survivors-next-requires c κs = let s = c .before .before .before .before .before in
-    (s .pre .4, rate-at-most (basisOf (s .args .run .now)) (s .args .age) (s .args .year) _ (sym (c .before .before .before .rate-at .ensures) ∙ ap meaning (c .before .q .given .1)))
+survivors-next-requires c κs = let s = c .before .before .before .before .before .before in
+    let rate = sym (c .before .before .before .rate-at .ensures) ∙ ap meaning (c .before .q .given .1) in
+    (s .pre .4, rate-at-most (basisWith (s .args .run .now) (s .args .history .now)) (s .args .age) (s .args .year) _ rate)
 
 enum-known-r : tie.Need-enum-known-r
 enum-known-r c = search needs
 
 returns : tie.Need-returns
-returns c = let d = c .before in let s = d .before .before .before .before .before in
+returns c = let d = c .before in let s = d .before .before .before .before .before .before in
     let a = s .args in
     let rate = sym (d .before .before .before .rate-at .ensures) ∙ ap meaning (d .before .q .given .1) in
     ap value (c .survivors-next .ensures .0)
-    ∙ sym (year-value (basisOf (a .run .now)) (a .age) (a .year) (pos (a .s)) (pos (d .before .q .given .0 .0)) rate)
+    ∙ sym (year-value (basisWith (a .run .now) (a .history .now)) (a .age) (a .year) (pos (a .s)) (pos (d .before .q .given .0 .0)) rate)
 
 returns-2 : tie.Need-returns-2
-returns-2 c = let s = c .before .before .before .before .before in
-    sym (year-refused (basisOf (s .args .run .now)) (s .args .age) (s .args .year) (pos (s .args .s)) _ (sym (c .before .before .before .rate-at .ensures) ∙ ap meaning (c .before .r .given .1)))
+returns-2 c = let a = c .before .before .before .before .before .before .args in
+    let rate = sym (c .before .before .before .rate-at .ensures) ∙ ap meaning (c .before .r .given .1) in
+    sym (year-refused (basisWith (a .run .now) (a .history .now)) (a .age) (a .year) (pos (a .s)) _ rate)
 
 pub survivors-after-year-spec : {M : Type 1} → statement M
 survivors-after-year-spec =

@@ -6,7 +6,7 @@ use native.Mathlib.Omega.{arith}
 use lib.IntN.{pos}
 use borrow.Author.Needs.{needs}
 use Rattle.arithmetic.specs.Fraction.{U}
-use Rattle.basis.specs.Basis.{basisOf}
+use Rattle.history.specs.History.{basisWith}
 use Rattle.basis.specs.Outcome.{value, refused, meaning}
 use Rattle.survivorship.specs.Survivorship.{survivorsOf}
 use Rattle.survivorship.proofs.Survivors.{survivors-first, survivors-next, survivors-refused, year-small, year-late}
@@ -14,13 +14,13 @@ use Rattle.survivorship.proofs.survivors_at.Statement.{statement}
 use Rattle.survivorship.proofs.survivors_at.Tie as tie
 
 abbrev Inv-loop : tie.InvT-loop
-Inv-loop run kind age year n s₀ j₀ s j = (j ≤ n) × (s ≤ U) × (survivorsOf (basisOf run) kind age year j ≡ value (pos s))
+Inv-loop run history kind age year n s₀ j₀ s j = (j ≤ n) × (s ≤ U) × (survivorsOf (basisWith run history) kind age year j ≡ value (pos s))
 
 abbrev μ-loop : tie.MeasureT-loop
-μ-loop run kind age year n s₀ j₀ s j = n - j
+μ-loop run history kind age year n s₀ j₀ s j = n - j
 
 loop-holds : tie.Need-loop-holds Inv-loop μ-loop
-loop-holds c = let a = c .before .args in (omega arith, omega arith, survivors-first (basisOf (a .run .now)) (a .kind) (a .age) (a .year))
+loop-holds c = let a = c .before .before .args in (omega arith, omega arith, survivors-first (basisWith (a .run .now) (a .history .now)) (a .kind) (a .age) (a .year))
 
 add-survivors-after-year : tie.Need-add-survivors-after-year Inv-loop μ-loop
 add-survivors-after-year c = search needs
@@ -29,7 +29,7 @@ year-on-requires : tie.Need-year-on-requires Inv-loop μ-loop
 year-on-requires c κs = search needs
 
 survivors-after-year-requires : tie.Need-survivors-after-year-requires Inv-loop μ-loop
-survivors-after-year-requires c κs = let l = c .before .before in let s = l .before .before in
+survivors-after-year-requires c κs = let l = c .before .before in let s = l .before .before .before in
     (s .pre .0, omega arith, omega arith, omega (arith, s .pre .3, c .year-on .ensures, year-late (s .args .kind) (s .args .year) (l .loop .j)), l .loop .inv .1)
 
 enum-known-v : tie.Need-enum-known-v Inv-loop μ-loop
@@ -39,8 +39,8 @@ enum-known-r : tie.Need-enum-known-r Inv-loop μ-loop
 enum-known-r c = search needs
 
 returns : tie.Need-returns Inv-loop μ-loop
-returns c = let y = c .before .before .before in let l = y .before .before .before in let s = l .before .before in let a = s .args in
-    let b = basisOf (a .run .now) in
+returns c = let y = c .before .before .before in let l = y .before .before .before in let s = l .before .before .before in let a = s .args in
+    let b = basisWith (a .run .now) (a .history .now) in
     let r = c .before .r .given .0 .0 in
     let g = sym (ap meaning (c .before .r .given .1)) ∙ y .survivors-after-year .ensures in
     let e = survivors-next b (a .kind) (a .age) (a .year) (l .loop .j) (pos (l .loop .s)) (refused r) (y .before .year-on .ensures) (l .loop .inv .2) g in
@@ -53,15 +53,15 @@ loop-less : tie.Need-loop-less Inv-loop μ-loop
 loop-less c = search needs
 
 loop-again : tie.Need-loop-again Inv-loop μ-loop
-loop-again c = let y = c .before .before .before in let l = y .before .before .before in let s = l .before .before in let a = s .args in
-    let b = basisOf (a .run .now) in
+loop-again c = let y = c .before .before .before in let l = y .before .before .before in let s = l .before .before .before in let a = s .args in
+    let b = basisWith (a .run .now) (a .history .now) in
     let v = c .before .v .given .0 .0 in
     let g = sym (ap meaning (c .before .v .given .1)) ∙ y .survivors-after-year .ensures in
     let small = year-small b (a .age + l .loop .j) (y .before .year-on .result) (l .loop .s) v (l .loop .inv .1) (sym g) in
     (omega arith, small, rw add-one (survivors-next b (a .kind) (a .age) (a .year) (l .loop .j) (pos (l .loop .s)) (value (pos v)) (y .before .year-on .ensures) (l .loop .inv .2) g))
 
 returns-2 : tie.Need-returns-2 Inv-loop μ-loop
-returns-2 c = let l = c .before in let e : l .loop .j ≡ l .before .before .args .n = omega arith in
+returns-2 c = let l = c .before in let e : l .loop .j ≡ l .before .before .before .args .n = omega arith in
     sym (rw e at (l .loop .inv .2))
 
 pub survivors-at-spec : {M : Type 1} → statement M

@@ -6,9 +6,10 @@ use native.Mathlib.Numerals.{add-one}
 use lib.IntN.{pos}
 use borrow.Author.Needs.{needs}
 use Rattle.arithmetic.specs.Fraction.{U}
-use Rattle.basis.specs.Basis.{basisOf}
+use Rattle.history.specs.History.{basisWith}
 use Rattle.basis.specs.Outcome.{value, refused, steps, meaning}
 use Rattle.basis.proofs.Outcome.{persists}
+use Rattle.improvement.proofs.Cases.{first-early}
 use Rattle.projection.specs.Projection.{factorStep}
 use Rattle.projection.proofs.Years.{turn, ended, year-small}
 use Rattle.projection.proofs.Cases.{held-late, held-early}
@@ -16,11 +17,11 @@ use Rattle.projection.proofs.factor.factor_at.Statement.{statement}
 use Rattle.projection.proofs.factor.factor_at.Tie as tie
 
 abbrev Inv-loop : tie.InvT-loop
-Inv-loop run age year terms base years factor₀ k₀ factor k =
-    (k ≤ years) × (factor ≤ 4_000_000_000) × (steps (factorStep (basisOf run) age) (pos U) k ≡ value (pos factor))
+Inv-loop run history age year terms base years factor₀ k₀ factor k =
+    (k ≤ years) × (factor ≤ 4_000_000_000) × (steps (factorStep (basisWith run history) age) (pos U) k ≡ value (pos factor))
 
 abbrev μ-loop : tie.MeasureT-loop
-μ-loop run age year terms base years factor₀ k₀ factor k = years - k
+μ-loop run history age year terms base years factor₀ k₀ factor k = years - k
 
 age-terms-requires : tie.Need-age-terms-requires Inv-loop μ-loop
 age-terms-requires c κs = search needs
@@ -33,8 +34,8 @@ held-year-requires c κs = search needs
 
 sub-years : tie.Need-sub-years Inv-loop μ-loop
 sub-years c =
-    let s = c .before .before .before .before in
-    let early = held-early (basisOf (s .args .run .now) .base) (s .args .year) (s .pre .3) (s .pre .0 .limits .base-high) in
+    let s = c .before .before .before .before .before in
+    let early = held-early (basisWith (s .args .run .now) (s .args .history .now) .base) (s .args .year) (s .pre .3) (s .pre .0 .basis .limits .base-high) in
     omega (arith, c .held-year .ensures, c .before .base-year .ensures, early)
 
 loop-holds : tie.Need-loop-holds Inv-loop μ-loop
@@ -51,14 +52,14 @@ factor-in-requires : tie.Need-factor-in-requires Inv-loop μ-loop
 factor-in-requires c κs =
     let l = c .before in
     let h = l .before in
-    let s = h .before .before .before .before in
+    let s = h .before .before .before .before .before in
     let base = h .before .base-year .ensures in
     let late = held-late (s .args .year) in (
       s .pre .0,
       s .pre .1,
       s .pre .2,
       h .before .before .age-terms .ensures,
-      omega (arith, base, s .pre .0 .limits .base-low),
+      omega (arith, base, first-early (basisWith (s .args .run .now) (s .args .history .now))),
       omega (arith, h .held-year .ensures, late),
       omega (arith, l .loop .inv .1),
     )
@@ -74,8 +75,8 @@ returns c =
     let y = c .before .before .before in
     let l = y .before .before in
     let h = l .before in
-    let a = h .before .before .before .before .args in
-    let b = basisOf (a .run .now) in
+    let a = h .before .before .before .before .before .args in
+    let b = basisWith (a .run .now) (a .history .now) in
     let r = c .before .r .given .0 .0 in
     let n = h .held-year .result - h .before .base-year .result in
     let told = sym (ap meaning (c .before .r .given .1)) ∙ y .factor-in .ensures in
@@ -94,8 +95,8 @@ loop-again c =
     let y = c .before .before .before in
     let l = y .before .before in
     let h = l .before in
-    let a = h .before .before .before .before .args in
-    let b = basisOf (a .run .now) in
+    let a = h .before .before .before .before .before .args in
+    let b = basisWith (a .run .now) (a .history .now) in
     let v = c .before .v .given .0 .0 in
     let last = pos (l .loop .factor) in
     let told = sym (ap meaning (c .before .v .given .1)) ∙ y .factor-in .ensures in (
@@ -108,8 +109,8 @@ returns-2 : tie.Need-returns-2 Inv-loop μ-loop
 returns-2 c =
     let l = c .before in
     let h = l .before in
-    let a = h .before .before .before .before .args in
-    ended (basisOf (a .run .now)) (a .age) (a .year) (l .loop .k) (value (pos (l .loop .factor)))
+    let a = h .before .before .before .before .before .args in
+    ended (basisWith (a .run .now) (a .history .now)) (a .age) (a .year) (l .loop .k) (value (pos (l .loop .factor)))
     (omega (arith, h .held-year .ensures, h .before .base-year .ensures)) (l .loop .inv .2)
 
 pub factor-at-spec : {M : Type 1} → statement M

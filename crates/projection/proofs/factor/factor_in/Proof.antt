@@ -16,7 +16,7 @@ factor-from-requires c κs = search needs
 
 returns : tie.Need-returns
 returns c =
-    let a = c .before .before .before .args in
+    let a = c .before .before .before .before .args in
     let i = c .before .improvement-at in
     c .factor-from .ensures ∙ ap (λ (z : ℤ). factorFrom (a .age) (a .year) z (pos (a .factor))) (got w64 (i .ok) (i .ensures))
 

@@ -14,9 +14,9 @@ enum-known-f c = search needs
 
 rate-from-requires : tie.Need-rate-from-requires
 rate-from-requires c κs =
-    let s = c .before .before .before .before .before in
+    let s = c .before .before .before .before .before .before in
     let factor = sym (c .before .before .before .factor-at .ensures) ∙ ap meaning (c .before .f .given .1) in
-    (s .pre .0, s .pre .1, s .pre .2, factor-small _ _ (s .args .year) _ factor)
+    (s .pre .0 .basis, s .pre .1, s .pre .2, factor-small _ _ (s .args .year) _ factor)
 
 enum-known-r : tie.Need-enum-known-r
 enum-known-r c = search needs
@@ -24,13 +24,13 @@ enum-known-r c = search needs
 returns : tie.Need-returns
 returns c =
     let d = c .before in
-    let a = d .before .before .before .before .before .args in
+    let a = d .before .before .before .before .before .before .args in
     let factor = sym (d .before .before .before .factor-at .ensures) ∙ ap meaning (d .before .f .given .1) in
     ap value (c .rate-from .ensures) ∙ sym (rate-value _ (a .age) (a .year) _ factor)
 
 returns-2 : tie.Need-returns-2
 returns-2 c =
-    let a = c .before .before .before .before .before .args in
+    let a = c .before .before .before .before .before .before .args in
     let factor = sym (c .before .before .before .factor-at .ensures) ∙ ap meaning (c .before .r .given .1) in
     sym (rate-refused _ (a .age) (a .year) _ factor)
 

@@ -2,7 +2,7 @@
 use mathlib.Core.Path.{_∙_, ap, sym}
 use native.Mathlib.Omega.{arith}
 use borrow.Author.Needs.{needs}
-use Rattle.basis.specs.Basis.{basisOf}
+use Rattle.history.specs.History.{basisWith}
 use Rattle.basis.specs.Outcome.{meaning}
 use Rattle.valuation.proofs.Payments.{refused-before}
 use Rattle.survivorship.proofs.Survivors.{survivors-small}
@@ -16,9 +16,9 @@ enum-known-s : tie.Need-enum-known-s
 enum-known-s c = search needs
 
 annuity-from-requires : tie.Need-annuity-from-requires
-annuity-from-requires c κs = let s = c .before .before .before .before .before in let a = s .args in
+annuity-from-requires c κs = let s = c .before .before .before .before .before .before in let a = s .args in
     let h = sym (c .before .before .before .survivors-at .ensures) ∙ ap meaning (c .before .s .given .1) in
-    let small = survivors-small (basisOf (a .run .now)) (a .kind) (a .age) (a .year) (a .deferment) (c .before .s .given .0 .0) h in
+    let small = survivors-small (basisWith (a .run .now) (a .history .now)) (a .kind) (a .age) (a .year) (a .deferment) (c .before .s .given .0 .0) h in
     (s .pre .0, s .pre .1, s .pre .2, s .pre .3, s .pre .4, omega (arith, small), h)
 
 enum-known-r : tie.Need-enum-known-r
@@ -28,8 +28,8 @@ returns : tie.Need-returns
 returns c = search needs
 
 returns-2 : tie.Need-returns-2
-returns-2 c = let s = c .before .before .before .before .before in let a = s .args in
-    refused-before (basisOf (a .run .now)) (a .kind) (a .age) (a .year) (a .deferment) _ (sym (c .before .before .before .survivors-at .ensures) ∙ ap meaning (c .before .r .given .1))
+returns-2 c = let s = c .before .before .before .before .before .before in let a = s .args in
+    refused-before (basisWith (a .run .now) (a .history .now)) (a .kind) (a .age) (a .year) (a .deferment) _ (sym (c .before .before .before .survivors-at .ensures) ∙ ap meaning (c .before .r .given .1))
 
 pub annuity-at-spec : {M : Type 1} → statement M
 annuity-at-spec =

@@ -4,19 +4,20 @@ use Prim.Native.Nat.{suc, _+_, _-_}
 use native.Mathlib.Omega.{arith}
 use lib.IntN.{pos}
 use borrow.Author.Needs.{needs}
-use Rattle.basis.specs.Basis.{basisOf}
+use Rattle.history.specs.History.{basisWith}
+use Rattle.history.proofs.With.{accumulation-with, limits-with}
 use Rattle.basis.specs.Outcome.{refused, meaning}
-use Rattle.valuation.proofs.Discount.{discount-turn, discount-small, discount-ranges}
+use Rattle.valuation.proofs.Discount.{discount-turn, discount-with, discount-small, discount-ranges}
 use Rattle.valuation.proofs.Payments.{Paying, paying-first, paying-next, paid-refused, paid-last}
 use Rattle.survivorship.proofs.Survivors.{survivors-next, year-small, year-late}
 use Rattle.valuation.proofs.annuity.annuity_from.Statement.{statement}
 use Rattle.valuation.proofs.annuity.annuity_from.Tie as tie
 
 abbrev Inv-loop : tie.InvT-loop
-Inv-loop run kind age year deferment first accumulation last v₀ s₀ j₀ total₀ v s j total = Paying (basisOf run) kind age year deferment j s v total
+Inv-loop run history kind age year deferment first accumulation last v₀ s₀ j₀ total₀ v s j total = Paying (basisWith run history) kind age year deferment j s v total
 
 abbrev μ-loop : tie.MeasureT-loop
-μ-loop run kind age year deferment first accumulation last v₀ s₀ j₀ total₀ v s j total = last - j
+μ-loop run history kind age year deferment first accumulation last v₀ s₀ j₀ total₀ v s j total = last - j
 
 accumulation-requires : tie.Need-accumulation-requires Inv-loop μ-loop
 accumulation-requires c κs = search needs
@@ -28,14 +29,16 @@ discount-after-requires : tie.Need-discount-after-requires Inv-loop μ-loop
 discount-after-requires c κs = search needs
 
 payment-requires : tie.Need-payment-requires Inv-loop μ-loop
-payment-requires c κs = let s = c .before .before .before in let a = s .args in
-    let small = discount-small (basisOf (a .run .now)) (s .pre .0 .limits) (a .deferment) (c .discount-after .result) (omega arith) (sym (c .discount-after .ensures)) in
+payment-requires c κs = let s = c .before .before .before .before in let a = s .args in
+    let b = basisWith (a .run .now) (a .history .now) in
+    let after = sym (c .discount-after .ensures ∙ discount-with (a .run .now) (a .history .now) (a .deferment)) in
+    let small = discount-small b (limits-with (s .pre .0)) (a .deferment) (c .discount-after .result) (omega arith) after in
     (omega (arith, small), omega (arith, s .pre .5))
 
 loop-holds : tie.Need-loop-holds Inv-loop μ-loop
-loop-holds c = let d = c .before in let s = d .before .before .before in let a = s .args in
-    paying-first (basisOf (a .run .now)) (a .kind) (a .age) (a .year) (a .deferment) (a .first) (d .discount-after .result) (c .payment .result)
-    (omega arith) (s .pre .5) (s .pre .6) (d .discount-after .ensures) (c .payment .ensures)
+loop-holds c = let d = c .before in let s = d .before .before .before .before in let a = s .args in
+    paying-first (basisWith (a .run .now) (a .history .now)) (a .kind) (a .age) (a .year) (a .deferment) (a .first) (d .discount-after .result) (c .payment .result)
+    (omega arith) (s .pre .5) (s .pre .6) (d .discount-after .ensures ∙ discount-with (a .run .now) (a .history .now) (a .deferment)) (c .payment .ensures)
 
 add-survivors-after-year : tie.Need-add-survivors-after-year Inv-loop μ-loop
 add-survivors-after-year c = search needs
@@ -44,7 +47,7 @@ year-on-requires : tie.Need-year-on-requires Inv-loop μ-loop
 year-on-requires c κs = search needs
 
 survivors-after-year-requires : tie.Need-survivors-after-year-requires Inv-loop μ-loop
-survivors-after-year-requires c κs = let l = c .before .before in let s = l .before .before .before .before .before in
+survivors-after-year-requires c κs = let l = c .before .before in let s = l .before .before .before .before .before .before in
     (s .pre .0, omega arith, omega arith, omega (arith, s .pre .3, c .year-on .ensures, year-late (s .args .kind) (s .args .year) (l .loop .j)), l .loop .inv .people)
 
 enum-known-x : tie.Need-enum-known-x Inv-loop μ-loop
@@ -54,8 +57,8 @@ enum-known-r : tie.Need-enum-known-r Inv-loop μ-loop
 enum-known-r c = search needs
 
 returns : tie.Need-returns Inv-loop μ-loop
-returns c = let y = c .before .before .before in let l = y .before .before .before in let s = l .before .before .before .before .before in let a = s .args in
-    let b = basisOf (a .run .now) in
+returns c = let y = c .before .before .before in let l = y .before .before .before in let s = l .before .before .before .before .before .before in let a = s .args in
+    let b = basisWith (a .run .now) (a .history .now) in
     let r = c .before .r .given .0 .0 in
     let i = l .loop .inv in
     let g = sym (ap meaning (c .before .r .given .1)) ∙ y .survivors-after-year .ensures in
@@ -63,20 +66,21 @@ returns c = let y = c .before .before .before in let l = y .before .before .befo
     paid-refused b (a .kind) (a .age) (a .year) (a .deferment) (l .loop .j) (pos (l .loop .total)) r (i .begun) (omega arith) (i .paid) h
 
 discount-next-requires : tie.Need-discount-next-requires Inv-loop μ-loop
-discount-next-requires c κs = let l = c .before .before .before .before .before .before in let h = l .before in let s = h .before .before .before .before in
-    discount-ranges (basisOf (s .args .run .now)) (s .pre .0 .limits) (l .loop .j) (l .loop .v) (omega arith) (l .loop .inv .discount)
-    (h .before .before .accumulation .ensures)
+discount-next-requires c κs = let l = c .before .before .before .before .before .before in let h = l .before in let s = h .before .before .before .before .before in
+    discount-ranges (basisWith (s .args .run .now) (s .args .history .now)) (limits-with (s .pre .0)) (l .loop .j) (l .loop .v) (omega arith) (l .loop .inv .discount)
+    (h .before .before .accumulation .ensures ∙ accumulation-with (s .args .run .now) (s .args .history .now))
 
 add-j : tie.Need-add-j Inv-loop μ-loop
 add-j c = search needs
 
 payment-requires-2 : tie.Need-payment-requires-2 Inv-loop μ-loop
 payment-requires-2 c κs = let x = c .before .before in let y = x .before .before in
-    let l = y .before .before .before in let h = l .before in let s = h .before .before .before .before in
-    let b = basisOf (s .args .run .now) in
+    let l = y .before .before .before in let h = l .before in let s = h .before .before .before .before .before in
+    let b = basisWith (s .args .run .now) (s .args .history .now) in
     let g = sym (ap meaning (x .x .given .1)) ∙ y .survivors-after-year .ensures in
-    let turned = discount-turn b (l .loop .j) (pos (l .loop .v)) (h .before .before .accumulation .ensures) (l .loop .inv .discount) in
-    let small = discount-small b (s .pre .0 .limits) (suc (l .loop .j)) (c .discount-next .result) (omega arith) (turned ∙ sym (c .discount-next .ensures)) in
+    let accumulation = h .before .before .accumulation .ensures ∙ accumulation-with (s .args .run .now) (s .args .history .now) in
+    let turned = discount-turn b (l .loop .j) (pos (l .loop .v)) accumulation (l .loop .inv .discount) in
+    let small = discount-small b (limits-with (s .pre .0)) (suc (l .loop .j)) (c .discount-next .result) (omega arith) (turned ∙ sym (c .discount-next .ensures)) in
     (omega (arith, small), year-small b (s .args .age + l .loop .j) (y .before .year-on .result) (l .loop .s) (x .x .given .0 .0) (l .loop .inv .people) (sym g))
 
 add-total : tie.Need-add-total Inv-loop μ-loop
@@ -87,15 +91,15 @@ loop-less c = search needs
 
 loop-again : tie.Need-loop-again Inv-loop μ-loop
 loop-again c = let d = c .before in let x = d .before .before in let y = x .before .before in
-    let l = y .before .before .before in let h = l .before in let s = h .before .before .before .before in let a = s .args in
+    let l = y .before .before .before in let h = l .before in let s = h .before .before .before .before .before in let a = s .args in
     let g = sym (ap meaning (x .x .given .1)) ∙ y .survivors-after-year .ensures in
-    paying-next (basisOf (a .run .now)) (a .kind) (a .age) (a .year) (a .deferment) (l .loop .j) (l .loop .s) (l .loop .v) (l .loop .total)
+    paying-next (basisWith (a .run .now) (a .history .now)) (a .kind) (a .age) (a .year) (a .deferment) (l .loop .j) (l .loop .s) (l .loop .v) (l .loop .total)
     (x .x .given .0 .0) (d .discount-next .result) (c .payment2 .result) (l .loop .inv) (omega arith) (y .before .year-on .ensures)
-    (h .before .before .accumulation .ensures) g (d .discount-next .ensures) (c .payment2 .ensures)
+    (h .before .before .accumulation .ensures ∙ accumulation-with (s .args .run .now) (s .args .history .now)) g (d .discount-next .ensures) (c .payment2 .ensures)
 
 returns-2 : tie.Need-returns-2 Inv-loop μ-loop
-returns-2 c = let l = c .before in let s = l .before .before .before .before .before in let a = s .args in
-    paid-last (basisOf (a .run .now)) (a .kind) (a .age) (a .year) (a .deferment) (l .loop .j) (pos (l .loop .total)) (omega arith) (l .loop .inv .paid)
+returns-2 c = let l = c .before in let s = l .before .before .before .before .before .before in let a = s .args in
+    paid-last (basisWith (a .run .now) (a .history .now)) (a .kind) (a .age) (a .year) (a .deferment) (l .loop .j) (pos (l .loop .total)) (omega arith) (l .loop .inv .paid)
 
 pub annuity-from-spec : {M : Type 1} → statement M
 annuity-from-spec =

@@ -3,7 +3,7 @@ use mathlib.Core.Path.{_∙_, ap, sym, refl}
 use Prim.Native.Nat.{_+_, _-_, _≤_}
 use native.Mathlib.Omega.{arith}
 use borrow.Author.Needs.{needs}
-use Rattle.basis.specs.Basis.{basisOf}
+use Rattle.history.specs.History.{basisWith}
 use Rattle.basis.specs.Outcome.{meaning}
 use Rattle.valuation.proofs.Lives.{Living, living-first, living-next, lived-refused, lived-last}
 use Rattle.survivorship.proofs.Survivors.{year-small, year-late}
@@ -11,10 +11,10 @@ use Rattle.valuation.proofs.expectation.expectation_at.Statement.{state
 use Rattle.valuation.proofs.expectation.expectation_at.Tie as tie
 
 abbrev Inv-loop : tie.InvT-loop
-Inv-loop run kind age year deferment from start last s₀ j₀ total₀ s j total = (j ≤ last) × Living (basisOf run) kind from start j s total
+Inv-loop run history kind age year deferment from start last s₀ j₀ total₀ s j total = (j ≤ last) × Living (basisWith run history) kind from start j s total
 
 abbrev μ-loop : tie.MeasureT-loop
-μ-loop run kind age year deferment from start last s₀ j₀ total₀ s j total = last - j
+μ-loop run history kind age year deferment from start last s₀ j₀ total₀ s j total = last - j
 
 add-from : tie.Need-add-from Inv-loop μ-loop
 add-from c = search needs
@@ -26,8 +26,8 @@ sub-last : tie.Need-sub-last Inv-loop μ-loop
 sub-last c = search needs
 
 loop-holds : tie.Need-loop-holds Inv-loop μ-loop
-loop-holds c = let a = c .before .args in
-    (omega arith, living-first (basisOf (a .run .now)) (a .kind) (a .age + a .deferment) (a .year + a .deferment))
+loop-holds c = let a = c .before .before .args in
+    (omega arith, living-first (basisWith (a .run .now) (a .history .now)) (a .kind) (a .age + a .deferment) (a .year + a .deferment))
 
 add-survivors-after-year : tie.Need-add-survivors-after-year Inv-loop μ-loop
 add-survivors-after-year c = search needs
@@ -36,7 +36,7 @@ year-on-requires : tie.Need-year-on-requires Inv-loop μ-loop
 year-on-requires c κs = search needs
 
 survivors-after-year-requires : tie.Need-survivors-after-year-requires Inv-loop μ-loop
-survivors-after-year-requires c κs = let l = c .before .before in let s = l .before .before in let a = s .args in
+survivors-after-year-requires c κs = let l = c .before .before in let s = l .before .before .before in let a = s .args in
     (s .pre .0, omega arith, omega arith, omega (arith, s .pre .3, c .year-on .ensures, year-late (a .kind) (a .year + a .deferment) (l .loop .j)), l .loop .inv .1 .people)
 
 enum-known-x : tie.Need-enum-known-x Inv-loop μ-loop
@@ -46,37 +46,39 @@ enum-known-r : tie.Need-enum-known-r Inv-loop μ-loop
 enum-known-r c = search needs
 
 returns : tie.Need-returns Inv-loop μ-loop
-returns c = let y = c .before .before .before in let l = y .before .before .before in let s = l .before .before in let a = s .args in
+returns c = let y = c .before .before .before in let l = y .before .before .before in let s = l .before .before .before in let a = s .args in
     let g = sym (ap meaning (c .before .r .given .1)) ∙ y .survivors-after-year .ensures in
-    lived-refused (basisOf (a .run .now)) (a .kind) (a .age) (a .year) (a .deferment) (l .loop .j) (l .loop .s) (l .loop .total)
+    lived-refused (basisWith (a .run .now) (a .history .now)) (a .kind) (a .age) (a .year) (a .deferment) (l .loop .j) (l .loop .s) (l .loop .total)
     (c .before .r .given .0 .0) refl refl (omega arith) (l .loop .inv .1) (y .before .year-on .ensures) g
 
 add-j : tie.Need-add-j Inv-loop μ-loop
 add-j c = search needs
 
 add-total : tie.Need-add-total Inv-loop μ-loop
-add-total c = let y = c .before .before .before in let l = y .before .before .before in let s = l .before .before in let a = s .args in
+add-total c = let y = c .before .before .before in let l = y .before .before .before in let s = l .before .before .before in let a = s .args in
     let g = sym (ap meaning (c .before .x .given .1)) ∙ y .survivors-after-year .ensures in
-    let small = year-small (basisOf (a .run .now)) (a .age + a .deferment + l .loop .j) (y .before .year-on .result) (l .loop .s) (c .before .x .given .0 .0) (l .loop .inv .1 .people) (sym g) in
+    let b = basisWith (a .run .now) (a .history .now) in
+    let from = a .age + a .deferment in
+    let small = year-small b (from + l .loop .j) (y .before .year-on .result) (l .loop .s) (c .before .x .given .0 .0) (l .loop .inv .1 .people) (sym g) in
     omega (arith, l .loop .inv .1 .sum, small)
 
 loop-less : tie.Need-loop-less Inv-loop μ-loop
 loop-less c = search needs
 
 loop-again : tie.Need-loop-again Inv-loop μ-loop
-loop-again c = let y = c .before .before .before in let l = y .before .before .before in let s = l .before .before in let a = s .args in
+loop-again c = let y = c .before .before .before in let l = y .before .before .before in let s = l .before .before .before in let a = s .args in
     let g = sym (ap meaning (c .before .x .given .1)) ∙ y .survivors-after-year .ensures in
-    let b = basisOf (a .run .now) in
+    let b = basisWith (a .run .now) (a .history .now) in
     let living = l .loop .inv .1 in
     let x = c .before .x .given .0 .0 in
     (omega arith, living-next b (a .kind) (a .age + a .deferment) (a .year + a .deferment) (l .loop .j) (l .loop .s) (l .loop .total) x living (y .before .year-on .ensures) g)
 
-add-t18 : tie.Need-add-t18 Inv-loop μ-loop
-add-t18 c = omega (arith, c .before .loop .inv .1 .sum)
+add-t19 : tie.Need-add-t19 Inv-loop μ-loop
+add-t19 c = omega (arith, c .before .loop .inv .1 .sum)
 
 returns-2 : tie.Need-returns-2 Inv-loop μ-loop
-returns-2 c = let l = c .before in let s = l .before .before in let a = s .args in
-    lived-last (basisOf (a .run .now)) (a .kind) (a .age) (a .year) (a .deferment) (l .loop .j) (l .loop .s) (l .loop .total) refl refl (omega arith) (l .loop .inv .1)
+returns-2 c = let l = c .before in let s = l .before .before .before in let a = s .args in
+    lived-last (basisWith (a .run .now) (a .history .now)) (a .kind) (a .age) (a .year) (a .deferment) (l .loop .j) (l .loop .s) (l .loop .total) refl refl (omega arith) (l .loop .inv .1)
 
 pub expectation-at-spec : {M : Type 1} → statement M
 expectation-at-spec =
@@ -98,5 +100,5 @@ expectation-at-spec =
     add-total
     loop-less
     loop-again
-    add-t18
+    add-t19
     returns-2)
