@@ -6,39 +6,67 @@ use basis::Answer;
 use basis::Check;
 use survivorship::Kind;
 
-// The data run afresh, then the question.
-pub fn check_valuation(run: &[u8], age: u32, deferment: u32, year: u32) -> Check
-    ensures { λ r. ⌜ r ≡ valuationCheck (now (run .entry)) age deferment year ⌝ }
+// The data run and its history afresh, then the question.
+pub fn check_valuation(run: &[u8], history: &[u8], age: u32, deferment: u32, year: u32) -> Check
+    ensures { λ r. ⌜ r ≡ valuationCheck (now (run .entry)) (now (history .entry)) age deferment year ⌝ }
 {
-    match run_check::check_run(run) {
+    match history::check::check_basis(run, history) {
         Check::Passed => question::check_question(run, age, deferment, year),
         Check::Refused(r) => Check::Refused(r),
     }
 }
 
-pub fn survivorship(run: &[u8], kind: Kind, age: u32, deferment: u32, year: u32) -> Answer
-    ensures { λ r. ⌜ meaning r ≡ survivorshipEnquiry (now (run .entry)) kind age deferment year ⌝ }
+pub fn survivorship(
+    run: &[u8],
+    history: &[u8],
+    kind: Kind,
+    age: u32,
+    deferment: u32,
+    year: u32,
+) -> Answer
+    ensures { λ r. ⌜ meaning r ≡ survivorshipEnquiry (now (run .entry)) (now (history .entry)) kind age deferment year ⌝ }
 {
-    match check_valuation(run, age, deferment, year) {
-        Check::Passed => survivorship::survivors_at(run, kind, age, year, deferment),
+    match check_valuation(run, history, age, deferment, year) {
+        Check::Passed => survivorship::survivors_at(run, history, kind, age, year, deferment),
         Check::Refused(r) => Answer::Refused(r),
     }
 }
 
-pub fn expectation(run: &[u8], kind: Kind, age: u32, deferment: u32, year: u32) -> Answer
-    ensures { λ r. ⌜ meaning r ≡ expectationEnquiry (now (run .entry)) kind age deferment year ⌝ }
+pub fn expectation(
+    run: &[u8],
+    history: &[u8],
+    kind: Kind,
+    age: u32,
+    deferment: u32,
+    year: u32,
+) -> Answer
+    ensures { λ r. ⌜ meaning r ≡ expectationEnquiry (now (run .entry)) (now (history .entry)) kind age deferment year ⌝ }
 {
-    match check_valuation(run, age, deferment, year) {
-        Check::Passed => valuation::expectation::expectation_at(run, kind, age, year, deferment),
+    match check_valuation(run, history, age, deferment, year) {
+        Check::Passed => valuation::expectation::expectation_at(
+            run,
+            history,
+            kind,
+            age,
+            year,
+            deferment,
+        ),
         Check::Refused(r) => Answer::Refused(r),
     }
 }
 
-pub fn annuity(run: &[u8], kind: Kind, age: u32, deferment: u32, year: u32) -> Answer
-    ensures { λ r. ⌜ meaning r ≡ annuityEnquiry (now (run .entry)) kind age deferment year ⌝ }
+pub fn annuity(
+    run: &[u8],
+    history: &[u8],
+    kind: Kind,
+    age: u32,
+    deferment: u32,
+    year: u32,
+) -> Answer
+    ensures { λ r. ⌜ meaning r ≡ annuityEnquiry (now (run .entry)) (now (history .entry)) kind age deferment year ⌝ }
 {
-    match check_valuation(run, age, deferment, year) {
-        Check::Passed => valuation::annuity::annuity_at(run, kind, age, year, deferment),
+    match check_valuation(run, history, age, deferment, year) {
+        Check::Passed => valuation::annuity::annuity_at(run, history, kind, age, year, deferment),
         Check::Refused(r) => Answer::Refused(r),
     }
 }

@@ -1,6 +1,6 @@
-// One record of the grid on an accepted data run.
+// One record of the grid on an accepted data run and its history.
 ghost use mathlib.Core.Path.{_≡_};
-ghost use Rattle.basis.specs.Basis.{basisOf, Accepted};
+ghost use Rattle.history.specs.History.{basisWith, AcceptedWith};
 ghost use Rattle.grid_record.specs.Record.{recordOf, answeredOf};
 use model_points::PointAnswer;
 use model_points::Question;
@@ -33,12 +33,13 @@ fn recorded(p: Point, a: PointAnswer) -> Point
     }
 }
 
-pub fn answered(run: &[u8], p: Point) -> Point
-    requires { ⌜ Accepted (now run) ⌝ }
-    ensures { λ r. ⌜ r ≡ answeredOf (basisOf (now (run .entry))) p ⌝ }
+pub fn answered(run: &[u8], history: &[u8], p: Point) -> Point
+    requires { ⌜ AcceptedWith (now run) (now history) ⌝ }
+    ensures { λ r. ⌜ r ≡ answeredOf (basisWith (now (run .entry)) (now (history .entry))) p ⌝ }
 {
     let a = model_points::point_at(
         run,
+        history,
         Question {
             age: p.age,
             deferment: p.deferment,

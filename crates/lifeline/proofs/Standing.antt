@@ -9,11 +9,10 @@ use borrow.Author.Tests.{leb-true}
 use Rattle.arithmetic.specs.Fraction.{U}
 use Rattle.basis.specs.declared.Check.the-variants.{Passed, Refused}
 use Rattle.basis.specs.declared.Refusal.{Refusal}
-use Rattle.basis.specs.Basis.{basisOf, Accepted}
 use Rattle.basis.specs.Outcome.{refusal, firstOf}
 use Rattle.basis.proofs.Outcome.{unless-passed, both-passed}
-use Rattle.run_check.specs.Run.{runCheck}
-use Rattle.run_check.proofs.Acceptance.{accepted}
+use Rattle.history.specs.History.{basisWith, basisCheck, AcceptedWith}
+use Rattle.history.proofs.Acceptance.{accepted-with}
 use Rattle.question.specs.Question.{inRange, ageCheck}
 use Rattle.enquiry.specs.Enquiry.{valuationCheck}
 use Rattle.question.proofs.Passed.{in-range, age-passed}
@@ -29,39 +28,39 @@ survivors-passed : (survivors : ℕ) → survivorsCheck survivors ≡ Passed →
 unfolding survivorsCheck
 survivors-passed survivors h = leb-true survivors U (unless-passed (leb survivors U) (refusal 5 4554 0) h)
 
-pub step-passed : (run : List ℕ) (age year survivors : ℕ) → stepCheck run age year survivors ≡ Passed
-    → Accepted run × (20 ≤ age) × (age ≤ 150) × (basisOf run .base ≤ year) × (year ≤ 2110 + age) × (survivors ≤ U)
+pub step-passed : (run history : List ℕ) (age year survivors : ℕ) → stepCheck run history age year survivors ≡ Passed
+    → AcceptedWith run history × (20 ≤ age) × (age ≤ 150) × (basisWith run history .base ≤ year) × (year ≤ 2110 + age) × (survivors ≤ U)
 unfolding standingCheck
-step-passed run age year survivors h =
-    let base = basisOf run .base in
-    let p = both-passed (runCheck run) (standingCheck (basisOf run) age year survivors) h in
+step-passed run history age year survivors h =
+    let base = basisWith run history .base in
+    let p = both-passed (basisCheck run history) (standingCheck base age year survivors) h in
     let q = both-passed (ageCheck age) (firstOf (standingYearCheck base age year) (survivorsCheck survivors)) (p .1) in
     let s = both-passed (standingYearCheck base age year) (survivorsCheck survivors) (q .1) in
     let a = age-passed age (q .0) in
     let y = standing-year-passed base age year (s .0) in
-    (accepted run (p .0), a .0, a .1, y .0, y .1, survivors-passed survivors (s .1))
+    (accepted-with run history (p .0), a .0, a .1, y .0, y .1, survivors-passed survivors (s .1))
 
 -- ---- the start
-module _ (run : List ℕ) (age year : ℕ) where
-  pub start-passed : valuationCheck run age 0 year ≡ Passed → startAt run age year ≡ begun age year U Passed
+module _ (run history : List ℕ) (age year : ℕ) where
+  pub start-passed : valuationCheck run history age 0 year ≡ Passed → startAt run history age year ≡ begun age year U Passed
   unfolding startAt
   start-passed h = rw h refl
 
-  pub start-refused : (r : Refusal) → valuationCheck run age 0 year ≡ Refused r → startAt run age year ≡ begun 0 0 0 (Refused r)
+  pub start-refused : (r : Refusal) → valuationCheck run history age 0 year ≡ Refused r → startAt run history age year ≡ begun 0 0 0 (Refused r)
   unfolding startAt
   start-refused r h = rw h refl
 
 -- ---- the step
-module _ (run : List ℕ) (age year survivors : ℕ) where
-  pub step-refused : (r : Refusal) → stepCheck run age year survivors ≡ Refused r → stepAt run age year survivors ≡ moved age year survivors (status.Refused r)
+module _ (run history : List ℕ) (age year survivors : ℕ) where
+  pub step-refused : (r : Refusal) → stepCheck run history age year survivors ≡ Refused r → stepAt run history age year survivors ≡ moved age year survivors (status.Refused r)
   unfolding stepAt
   step-refused r h = rw h refl
 
-  pub step-ended : stepCheck run age year survivors ≡ Passed → eqb age 150 ≡ true → stepAt run age year survivors ≡ moved age year survivors status.Ended
+  pub step-ended : stepCheck run history age year survivors ≡ Passed → eqb age 150 ≡ true → stepAt run history age year survivors ≡ moved age year survivors status.Ended
   unfolding stepAt lived
   step-ended h e = rw (h, e) refl
 
-  pub step-lived : stepCheck run age year survivors ≡ Passed → eqb age 150 ≡ false
-      → stepAt run age year survivors ≡ yearLater age year survivors (survivorsAfterYear (basisOf run) age year (pos survivors))
+  pub step-lived : stepCheck run history age year survivors ≡ Passed → eqb age 150 ≡ false
+      → stepAt run history age year survivors ≡ yearLater age year survivors (survivorsAfterYear (basisWith run history) age year (pos survivors))
   unfolding stepAt lived
   step-lived h e = rw (h, e) refl

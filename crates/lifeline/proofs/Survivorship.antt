@@ -11,8 +11,7 @@ use borrow.Author.Tests.{le-leb, ne-eqb}
 use Rattle.arithmetic.specs.Fraction.{U}
 use Rattle.basis.specs.declared.Check.{Check}
 use Rattle.basis.specs.declared.Check.the-variants.{Passed, Refused}
-use Rattle.basis.specs.Basis.{basisOf}
-use Rattle.run_check.specs.Run.{runCheck}
+use Rattle.history.specs.History.{basisWith, basisCheck}
 use Rattle.basis.specs.Outcome.{Outcome, value, refused}
 use Rattle.basis.proofs.Outcome.{both-passed, checked-value}
 use Rattle.survivorship.specs.declared.Kind.the-variants.{Cohort}
@@ -30,15 +29,15 @@ use Rattle.lifeline.specs.Lifeline.{standAt, stepFrom, standBegun, stand
 use Rattle.lifeline.proofs.Standing.{start-passed, step-lived}
 
 -- the first n steps from a start have all advanced
-abbrev pub Advances : List ℕ → ℕ → ℕ → ℕ → Type 0
-Advances run age year n = (k : ℕ) → k < n → stepFrom run (standAfter run age year k) .status ≡ status.Advanced
+abbrev pub Advances : List ℕ → List ℕ → ℕ → ℕ → ℕ → Type 0
+Advances run history age year n = (k : ℕ) → k < n → stepFrom run history (standAfter run history age year k) .status ≡ status.Advanced
 
 -- ---- one step
 -- a step that advanced: the year's survivors were answered
-advanced : (run : List ℕ) (age year s : ℕ) → stepAt run age year s .status ≡ status.Advanced
-    → (t : ℤ) × (survivorsAfterYear (basisOf run) age year (pos s) ≡ value t) × (stepAt run age year s ≡ moved (age + 1) (year + 1) (natAbs t) status.Advanced)
+advanced : (run history : List ℕ) (age year s : ℕ) → stepAt run history age year s .status ≡ status.Advanced
+    → (t : ℤ) × (survivorsAfterYear (basisWith run history) age year (pos s) ≡ value t) × (stepAt run history age year s ≡ moved (age + 1) (year + 1) (natAbs t) status.Advanced)
 unfolding stepAt lived
-advanced run age year s h = by (stepCheck run age year s) (eqb age 150) (survivorsAfterYear (basisOf run) age year (pos s)) h
+advanced run history age year s h = by (stepCheck run history age year s) (eqb age 150) (survivorsAfterYear (basisWith run history) age year (pos s)) h
   where
     by : (c : Check) (e : Bool) (o : Outcome ℤ) → unlessRefused age year s c (cond e (moved age year s status.Ended) (yearLater age year s o)) .status ≡ status.Advanced
         → (t : ℤ) × (o ≡ value t) × (unlessRefused age year s c (cond e (moved age year s status.Ended) (yearLater age year s o)) ≡ moved (age + 1) (year + 1) (natAbs t) status.Advanced)
@@ -50,92 +49,92 @@ advanced run age year s h = by (stepCheck run age year s) (eqb age 150) (survivo
 stand-same : {a b y z s t : ℕ} → a ≡ b → y ≡ z → s ≡ t → standAt a y s ≡ standAt b z t
 stand-same e f g = rw (e, f, g) refl
 
-module _ (run : List ℕ) (age year : ℕ) where
+module _ (run history : List ℕ) (age year : ℕ) where
   -- the next step, from where the steps so far have come to
-  after-suc : (n : ℕ) (s : Stand) → standAfter run age year n ≡ s → standAfter run age year (suc n) ≡ standMoved (stepFrom run s)
+  after-suc : (n : ℕ) (s : Stand) → standAfter run history age year n ≡ s → standAfter run history age year (suc n) ≡ standMoved (stepFrom run history s)
   unfolding standAfter
-  after-suc n s h = ap (λ (x : Stand). standMoved (stepFrom run x)) h
+  after-suc n s h = ap (λ (x : Stand). standMoved (stepFrom run history x)) h
 
-  at-start : valuationCheck run age 0 year ≡ Passed → standAfter run age year 0 ≡ standAt age year U
+  at-start : valuationCheck run history age 0 year ≡ Passed → standAfter run history age year 0 ≡ standAt age year U
   unfolding standAfter
-  at-start h = ap standBegun (start-passed run age year h)
+  at-start h = ap standBegun (start-passed run history age year h)
 
   -- as long as each step advances, the lifeline stands n years on with the survivors after n years
-  pub steps-are-survivorship : (n : ℕ) → valuationCheck run age 0 year ≡ Passed → Advances run age year n
-      → (s : ℕ) × (standAfter run age year n ≡ standAt (age + n) (year + n) s) × (survivorsOf (basisOf run) Cohort age year n ≡ value (pos s))
-  steps-are-survivorship zero h a = (U, at-start h ∙ stand-same (omega arith) (omega arith) refl, survivors-first (basisOf run) Cohort age year)
+  pub steps-are-survivorship : (n : ℕ) → valuationCheck run history age 0 year ≡ Passed → Advances run history age year n
+      → (s : ℕ) × (standAfter run history age year n ≡ standAt (age + n) (year + n) s) × (survivorsOf (basisWith run history) Cohort age year n ≡ value (pos s))
+  steps-are-survivorship zero h a = (U, at-start h ∙ stand-same (omega arith) (omega arith) refl, survivors-first (basisWith run history) Cohort age year)
   steps-are-survivorship (suc n) h a =
       let p = steps-are-survivorship n h (λ k l. a k (omega arith)) in
-      let went = advanced run (age + n) (year + n) (p .0) (ap (λ (x : Stand). stepFrom run x .status) (sym (p .1)) ∙ a n (omega arith)) in
-      let next = survivors-next (basisOf run) Cohort age year n (pos (p .0)) (value (went .0)) refl (p .2) (sym (went .1)) in
-      let m = survivors-natural (basisOf run) Cohort age year (suc n) (went .0) next in
+      let went = advanced run history (age + n) (year + n) (p .0) (ap (λ (x : Stand). stepFrom run history x .status) (sym (p .1)) ∙ a n (omega arith)) in
+      let next = survivors-next (basisWith run history) Cohort age year n (pos (p .0)) (value (went .0)) refl (p .2) (sym (went .1)) in
+      let m = survivors-natural (basisWith run history) Cohort age year (suc n) (went .0) next in
       (m .0, after-suc n _ (p .1) ∙ ap standMoved (went .2) ∙ stand-same (omega arith) (omega arith) (ap natAbs (m .1)), next ∙ ap value (m .1))
 
   -- ---- and as long as survivorship is answered each step advances
   -- what an enquiry for n years checks lets a lifeline start, and step before the n years are over
-  start-passes : (n : ℕ) → valuationCheck run age n year ≡ Passed → valuationCheck run age 0 year ≡ Passed
+  start-passes : (n : ℕ) → valuationCheck run history age n year ≡ Passed → valuationCheck run history age 0 year ≡ Passed
   unfolding defermentCheck questionCheck
   start-passes n h =
-      let p = both-passed (runCheck run) (questionCheck (basisOf run) age n year) h in
-      let q = question-parts (basisOf run) age n year (p .1) in
-      let v = valuation-passed run age n year h in
+      let p = both-passed (basisCheck run history) (questionCheck (basisWith run history .base) age n year) h in
+      let q = question-parts (basisWith run history .base) age n year (p .1) in
+      let v = valuation-passed run history age n year h in
       rw (p .0, q .0, q .2, le-leb (age + 0) 150 (omega (arith, v .2))) refl
 
-  step-passes : (n k s : ℕ) → valuationCheck run age n year ≡ Passed → k < n → s ≤ U → stepCheck run (age + k) (year + k) s ≡ Passed
+  step-passes : (n k s : ℕ) → valuationCheck run history age n year ≡ Passed → k < n → s ≤ U → stepCheck run history (age + k) (year + k) s ≡ Passed
   unfolding ageCheck standingYearCheck survivorsCheck standingCheck
   step-passes n k s h l u =
-      let v = valuation-passed run age n year h in
+      let v = valuation-passed run history age n year h in
       rw (
-        both-passed (runCheck run) (questionCheck (basisOf run) age n year) h .0,
+        both-passed (basisCheck run history) (questionCheck (basisWith run history .base) age n year) h .0,
         le-leb 20 (age + k) (omega (arith, v .1)),
         le-leb (age + k) 150 (omega (arith, v .2)),
-        le-leb (basisOf run .base) (year + k) (omega (arith, v .3)),
+        le-leb (basisWith run history .base) (year + k) (omega (arith, v .3)),
         le-leb (year + k) (2110 + (age + k)) (omega (arith, v .1, v .4)),
         le-leb s U u,
       )
       refl
 
   -- a step before the n years are over is the next year of survivorship, answered or refused
-  pub step-is-next-year : (n k s : ℕ) → valuationCheck run age n year ≡ Passed → k < n → survivorsOf (basisOf run) Cohort age year k ≡ value (pos s)
-      → stepAt run (age + k) (year + k) s ≡ yearLater (age + k) (year + k) s (survivorsOf (basisOf run) Cohort age year (suc k))
+  pub step-is-next-year : (n k s : ℕ) → valuationCheck run history age n year ≡ Passed → k < n → survivorsOf (basisWith run history) Cohort age year k ≡ value (pos s)
+      → stepAt run history (age + k) (year + k) s ≡ yearLater (age + k) (year + k) s (survivorsOf (basisWith run history) Cohort age year (suc k))
   step-is-next-year n k s h l e =
-      let v = valuation-passed run age n year h in
-      step-lived run (age + k) (year + k) s (step-passes n k s h l (survivors-small (basisOf run) Cohort age year k s e)) (ne-eqb (age + k) 150 (λ g. omega (arith, v .2)))
-      ∙ ap (yearLater (age + k) (year + k) s) (sym (survivors-next (basisOf run) Cohort age year k (pos s) (survivorsAfterYear (basisOf run) (age + k) (year + k) (pos s)) refl e refl))
+      let v = valuation-passed run history age n year h in
+      step-lived run history (age + k) (year + k) s (step-passes n k s h l (survivors-small (basisWith run history) Cohort age year k s e)) (ne-eqb (age + k) 150 (λ g. omega (arith, v .2)))
+      ∙ ap (yearLater (age + k) (year + k) s) (sym (survivors-next (basisWith run history) Cohort age year k (pos s) (survivorsAfterYear (basisWith run history) (age + k) (year + k) (pos s)) refl e refl))
 
-  and-one : (k : ℕ) → Advances run age year k → stepFrom run (standAfter run age year k) .status ≡ status.Advanced → Advances run age year (suc k)
+  and-one : (k : ℕ) → Advances run history age year k → stepFrom run history (standAfter run history age year k) .status ≡ status.Advanced → Advances run history age year (suc k)
   and-one k before last j l = by (decLt j k)
     where
-      by : Dec (j < k) → stepFrom run (standAfter run age year j) .status ≡ status.Advanced
+      by : Dec (j < k) → stepFrom run history (standAfter run history age year j) .status ≡ status.Advanced
       by (yes g) = before j g
-      by (no g) = let e : j ≡ k = omega arith in ap (λ (i : ℕ). stepFrom run (standAfter run age year i) .status) e ∙ last
+      by (no g) = let e : j ≡ k = omega arith in ap (λ (i : ℕ). stepFrom run history (standAfter run history age year i) .status) e ∙ last
 
   -- k of n years
-  advances-to : (n k s : ℕ) → valuationCheck run age n year ≡ Passed → k ≤ n → survivorsOf (basisOf run) Cohort age year k ≡ value (pos s)
-      → Advances run age year k × (standAfter run age year k ≡ standAt (age + k) (year + k) s)
+  advances-to : (n k s : ℕ) → valuationCheck run history age n year ≡ Passed → k ≤ n → survivorsOf (basisWith run history) Cohort age year k ≡ value (pos s)
+      → Advances run history age year k × (standAfter run history age year k ≡ standAt (age + k) (year + k) s)
   advances-to n zero s h l e =
-      let first = survivors-first (basisOf run) Cohort age year in
+      let first = survivors-first (basisWith run history) Cohort age year in
       let same : U ≡ s = cc in
       ((λ k g. absurd (omega arith)), at-start (start-passes n h) ∙ stand-same (omega arith) (omega arith) same)
-  advances-to n (suc k) s h l e = by (survivorsOf (basisOf run) Cohort age year k) refl (λ t. advances-to n k t h (omega arith))
+  advances-to n (suc k) s h l e = by (survivorsOf (basisWith run history) Cohort age year k) refl (λ t. advances-to n k t h (omega arith))
     where
-      by : (o : Outcome ℤ) → survivorsOf (basisOf run) Cohort age year k ≡ o
-          → ((t : ℕ) → survivorsOf (basisOf run) Cohort age year k ≡ value (pos t) → Advances run age year k × (standAfter run age year k ≡ standAt (age + k) (year + k) t))
-          → Advances run age year (suc k) × (standAfter run age year (suc k) ≡ standAt (age + suc k) (year + suc k) s)
+      by : (o : Outcome ℤ) → survivorsOf (basisWith run history) Cohort age year k ≡ o
+          → ((t : ℕ) → survivorsOf (basisWith run history) Cohort age year k ≡ value (pos t) → Advances run history age year k × (standAfter run history age year k ≡ standAt (age + k) (year + k) t))
+          → Advances run history age year (suc k) × (standAfter run history age year (suc k) ≡ standAt (age + suc k) (year + suc k) s)
       by (refused r) f before =
-          let g = survivors-refused (basisOf run) Cohort age year k (suc k) r (omega arith) f in
+          let g = survivors-refused (basisWith run history) Cohort age year k (suc k) r (omega arith) f in
           let z : _≡_ {A = ℕ} 0 1 = cc in absurd (omega arith)
       by (value t) f before =
-          let m = survivors-natural (basisOf run) Cohort age year k t f in
+          let m = survivors-natural (basisWith run history) Cohort age year k t f in
           let came = f ∙ ap value (m .1) in
           let p = before (m .0) came in
           let went = step-is-next-year n k (m .0) h (omega arith) came ∙ ap (yearLater (age + k) (year + k) (m .0)) e in
-          let last = ap (λ (x : Stand). stepFrom run x .status) (p .1) ∙ ap (λ (x : Moved). x .status) went in
+          let last = ap (λ (x : Stand). stepFrom run history x .status) (p .1) ∙ ap (λ (x : Moved). x .status) went in
           (and-one k (p .0) last, after-suc k _ (p .1) ∙ ap standMoved went ∙ stand-same (omega arith) (omega arith) refl)
 
   -- an answered survivorship after n years is where the lifeline stands after n steps, all of which advanced
-  pub survivorship-is-steps : (n s : ℕ) → survivorshipEnquiry run Cohort age n year ≡ value (pos s) → Advances run age year n × (standAfter run age year n ≡ standAt (age + n) (year + n) s)
+  pub survivorship-is-steps : (n s : ℕ) → survivorshipEnquiry run history Cohort age n year ≡ value (pos s) → Advances run history age year n × (standAfter run history age year n ≡ standAt (age + n) (year + n) s)
   unfolding survivorshipEnquiry
   survivorship-is-steps n s h =
-      let p = checked-value (valuationCheck run age n year) (survivorsOf (basisOf run) Cohort age year n) (pos s) h in
+      let p = checked-value (valuationCheck run history age n year) (survivorsOf (basisWith run history) Cohort age year n) (pos s) h in
       advances-to n n s (p .0) (omega arith) (p .1)

@@ -8,8 +8,8 @@ use lib.IntN.{ℤ, pos, natAbs}
 use Rattle.arithmetic.specs.Fraction.{U}
 use Rattle.basis.specs.declared.Check.{Check}
 use Rattle.basis.specs.declared.Check.the-variants.{Passed, Refused}
-use Rattle.basis.specs.Basis.{Basis, basisOf}
-use Rattle.run_check.specs.Run.{runCheck}
+use Rattle.basis.specs.Basis.{Basis}
+use Rattle.history.specs.History.{basisWith, basisCheck}
 use Rattle.basis.specs.Outcome.{Outcome, value, refused, refusal, unless, firstOf}
 use Rattle.question.specs.Question.{inRange, ageCheck}
 use Rattle.enquiry.specs.Enquiry.{valuationCheck}
@@ -30,8 +30,8 @@ begunAt age year Passed = begun age year U Passed
 begunAt age year (Refused r) = begun 0 0 0 (Refused r)
 
 -- checked as an enquiry with deferment 0
-unfoldable pub startAt : List ℕ → ℕ → ℕ → Begun
-startAt run age year = begunAt age year (valuationCheck run age 0 year)
+unfoldable pub startAt : List ℕ → List ℕ → ℕ → ℕ → Begun
+startAt run history age year = begunAt age year (valuationCheck run history age 0 year)
 
 -- ---- what a step checks again, in its own order
 -- 7: before B, or year − age after 2110; a year after 2130 may stand
@@ -43,12 +43,12 @@ unfoldable pub survivorsCheck : ℕ → Check
 survivorsCheck survivors = unless (leb survivors U) (refusal 5 4554 0)
 
 -- the age (6), the year, then the survivors
-unfoldable pub standingCheck : Basis → ℕ → ℕ → ℕ → Check
-standingCheck b age year survivors = firstOf (ageCheck age) (firstOf (standingYearCheck (b .base) age year) (survivorsCheck survivors))
+unfoldable pub standingCheck : ℕ → ℕ → ℕ → ℕ → Check
+standingCheck base age year survivors = firstOf (ageCheck age) (firstOf (standingYearCheck base age year) (survivorsCheck survivors))
 
--- first of all the data run
-abbrev pub stepCheck : List ℕ → ℕ → ℕ → ℕ → Check
-stepCheck run age year survivors = firstOf (runCheck run) (standingCheck (basisOf run) age year survivors)
+-- first of all the data run, and directly after it the history
+abbrev pub stepCheck : List ℕ → List ℕ → ℕ → ℕ → ℕ → Check
+stepCheck run history age year survivors = firstOf (basisCheck run history) (standingCheck (basisWith run history .base) age year survivors)
 
 -- ---- the step
 abbrev pub moved : ℕ → ℕ → ℕ → Status → Moved
@@ -60,24 +60,25 @@ yearLater age year survivors (value s) = moved (age + 1) (year + 1) (natAbs s) s
 yearLater age year survivors (refused r) = moved age year survivors (status.Refused r)
 
 -- at age 150 it says ended, and is left unchanged; else one year of cohort survivorship
-unfoldable pub lived : List ℕ → ℕ → ℕ → ℕ → Moved
-lived run age year survivors =
-    cond (eqb age 150) (moved age year survivors status.Ended) (yearLater age year survivors (survivorsAfterYear (basisOf run) age year (pos survivors)))
+unfoldable pub lived : Basis → ℕ → ℕ → ℕ → Moved
+lived b age year survivors =
+    cond (eqb age 150) (moved age year survivors status.Ended) (yearLater age year survivors (survivorsAfterYear b age year (pos survivors)))
 
 -- a refused step leaves it unchanged
 abbrev pub unlessRefused : ℕ → ℕ → ℕ → Check → Moved → Moved
 unlessRefused age year survivors Passed m = m
 unlessRefused age year survivors (Refused r) m = moved age year survivors (status.Refused r)
 
-unfoldable pub stepAt : List ℕ → ℕ → ℕ → ℕ → Moved
-stepAt run age year survivors = unlessRefused age year survivors (stepCheck run age year survivors) (lived run age year survivors)
+unfoldable pub stepAt : List ℕ → List ℕ → ℕ → ℕ → ℕ → Moved
+stepAt run history age year survivors =
+    unlessRefused age year survivors (stepCheck run history age year survivors) (lived (basisWith run history) age year survivors)
 
 -- ---- from a start, step by step
 abbrev pub standAt : ℕ → ℕ → ℕ → Stand
 standAt age year survivors = record { age = age; year = year; survivors = survivors }
 
-abbrev pub stepFrom : List ℕ → Stand → Moved
-stepFrom run s = stepAt run (s .age) (s .year) (s .survivors)
+abbrev pub stepFrom : List ℕ → List ℕ → Stand → Moved
+stepFrom run history s = stepAt run history (s .age) (s .year) (s .survivors)
 
 -- where it stands at its start, and after a step
 abbrev pub standBegun : Begun → Stand
@@ -86,7 +87,7 @@ standBegun b = standAt (b .age) (b .year) (b .survivors)
 abbrev pub standMoved : Moved → Stand
 standMoved m = standAt (m .age) (m .year) (m .survivors)
 
--- where it stands n steps on
-unfoldable pub standAfter : List ℕ → ℕ → ℕ → ℕ → Stand
-standAfter run age year zero = standBegun (startAt run age year)
-standAfter run age year (suc n) = standMoved (stepFrom run (standAfter run age year n))
+-- where it stands n steps on, with the same history lent each time
+unfoldable pub standAfter : List ℕ → List ℕ → ℕ → ℕ → ℕ → Stand
+standAfter run history age year zero = standBegun (startAt run history age year)
+standAfter run history age year (suc n) = standMoved (stepFrom run history (standAfter run history age year n))

@@ -3,6 +3,7 @@ ghost use mathlib.Core.Path.{_≡_};
 ghost use Prim.Native.Nat.{_+_, _≤_, _<_};
 ghost use lib.IntN.{pos};
 ghost use Rattle.basis.specs.Basis.{basisOf, Accepted};
+ghost use Rattle.history.specs.History.{basisWith, AcceptedWith};
 ghost use Rattle.question.specs.Question.{inRange};
 ghost use Rattle.survivorship.specs.Survivorship.{survivorsAfterYear};
 ghost use Rattle.lifeline.specs.Lifeline.{startAt, standingYearCheck, standingCheck, survivorsCheck, stepCheck, yearLater, stepAt};
@@ -16,10 +17,10 @@ use basis::Refusal;
 const UNIT: u64 = 1_000_000_000;
 
 // U at an age and year, checked as an enquiry with deferment 0.
-pub fn start_at(run: &[u8], age: u32, year: u32) -> Begun
-    ensures { λ r. ⌜ r ≡ startAt (now (run .entry)) age year ⌝ }
+pub fn start_at(run: &[u8], history: &[u8], age: u32, year: u32) -> Begun
+    ensures { λ r. ⌜ r ≡ startAt (now (run .entry)) (now (history .entry)) age year ⌝ }
 {
-    match enquiry::values::check_valuation(run, age, 0, year) {
+    match enquiry::values::check_valuation(run, history, age, 0, year) {
         Check::Passed => Begun {
             age: age,
             year: year,
@@ -75,7 +76,7 @@ fn check_survivors(survivors: u64) -> Check
 // The age, the year, then the survivors.
 fn check_standing(run: &[u8], age: u32, year: u32, survivors: u64) -> Check
     requires { ⌜ Accepted (now run) ⌝ }
-    ensures { λ r. ⌜ r ≡ standingCheck (basisOf (now (run .entry))) age year survivors ⌝ }
+    ensures { λ r. ⌜ r ≡ standingCheck (basisOf (now (run .entry)) .base) age year survivors ⌝ }
 {
     let of_year = check_standing_year(basis::fields::base_year(run), age, year);
     basis::first_of(
@@ -84,22 +85,22 @@ fn check_standing(run: &[u8], age: u32, year: u32, survivors: u64) -> Check
     )
 }
 
-// All that a step checks before it moves: the data run afresh, then these.
-fn check_step(run: &[u8], age: u32, year: u32, survivors: u64) -> Check
-    ensures { λ r. ⌜ r ≡ stepCheck (now (run .entry)) age year survivors ⌝ }
+// All that a step checks before it moves: the data run and its history afresh, then these.
+fn check_step(run: &[u8], history: &[u8], age: u32, year: u32, survivors: u64) -> Check
+    ensures { λ r. ⌜ r ≡ stepCheck (now (run .entry)) (now (history .entry)) age year survivors ⌝ }
 {
-    match run_check::check_run(run) {
+    match history::check::check_basis(run, history) {
         Check::Passed => check_standing(run, age, year, survivors),
         Check::Refused(r) => Check::Refused(r),
     }
 }
 
 // One year of cohort survivorship; where its rate is refused, the lifeline stays.
-fn year_later(run: &[u8], age: u32, year: u32, survivors: u64) -> Moved
-    requires { ⌜ Accepted (now run) × (20 ≤ age) × (age < 150) × (basisOf (now run) .base ≤ year) × (year ≤ 2260) × (survivors ≤ 1_000_000_000) ⌝ }
-    ensures { λ r. ⌜ r ≡ yearLater age year survivors (survivorsAfterYear (basisOf (now (run .entry))) age year (pos survivors)) ⌝ }
+fn year_later(run: &[u8], history: &[u8], age: u32, year: u32, survivors: u64) -> Moved
+    requires { ⌜ AcceptedWith (now run) (now history) × (20 ≤ age) × (age < 150) × (basisWith (now run) (now history) .base ≤ year) × (year ≤ 2260) × (survivors ≤ 1_000_000_000) ⌝ }
+    ensures { λ r. ⌜ r ≡ yearLater age year survivors (survivorsAfterYear (basisWith (now (run .entry)) (now (history .entry))) age year (pos survivors)) ⌝ }
 {
-    match survivorship::survivors_after_year(run, age, year, survivors) {
+    match survivorship::survivors_after_year(run, history, age, year, survivors) {
         Answer::Value(s) => Moved {
             age: age + 1,
             year: year + 1,
@@ -116,10 +117,10 @@ fn year_later(run: &[u8], age: u32, year: u32, survivors: u64) -> Moved
 }
 
 // The checks, then the end at 150, then the year.
-pub fn step_at(run: &[u8], age: u32, year: u32, survivors: u64) -> Moved
-    ensures { λ r. ⌜ r ≡ stepAt (now (run .entry)) age year survivors ⌝ }
+pub fn step_at(run: &[u8], history: &[u8], age: u32, year: u32, survivors: u64) -> Moved
+    ensures { λ r. ⌜ r ≡ stepAt (now (run .entry)) (now (history .entry)) age year survivors ⌝ }
 {
-    match check_step(run, age, year, survivors) {
+    match check_step(run, history, age, year, survivors) {
         Check::Passed => {
             if age == 150 {
                 Moved {
@@ -129,7 +130,7 @@ pub fn step_at(run: &[u8], age: u32, year: u32, survivors: u64) -> Moved
                     status: Status::Ended,
                 }
             } else {
-                year_later(run, age, year, survivors)
+                year_later(run, history, age, year, survivors)
             }
         }
         Check::Refused(r) => Moved {

@@ -34,4 +34,4 @@ pointAnswerOf (refused r) = record { results = noResults; refusal = r }
 
 -- its own checks, then the four results
 unfoldable pub pointOf : Basis → Question → PointAnswer
-pointOf b q = pointAnswerOf (checked (questionCheck b (q .age) (q .deferment) (q .year)) (resultsOf b (q .age) (q .deferment) (q .year)))
+pointOf b q = pointAnswerOf (checked (questionCheck (b .base) (q .age) (q .deferment) (q .year)) (resultsOf b (q .age) (q .deferment) (q .year)))

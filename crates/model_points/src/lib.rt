@@ -1,7 +1,7 @@
-// A model point: a question about one life, and its four results on an accepted data run.
+// A model point: a question about one life, and its four results on an accepted data run and its history.
 ghost use mathlib.Core.Path.{_≡_};
 ghost use Prim.Native.Nat.{_+_, _≤_};
-ghost use Rattle.basis.specs.Basis.{basisOf, Accepted};
+ghost use Rattle.history.specs.History.{basisWith, AcceptedWith};
 ghost use Rattle.basis.specs.Outcome.{meaning, refused};
 ghost use Rattle.model_points.specs.Point.{fourOf, resultsOf, pointAnswerOf, pointOf};
 use basis::Answer;
@@ -61,24 +61,24 @@ fn four(first: Answer, second: Answer, third: Answer, fourth: Answer) -> PointAn
 }
 
 // The results of a question that has been checked.
-fn results_at(run: &[u8], age: u32, deferment: u32, year: u32) -> PointAnswer
-    requires { ⌜ Accepted (now run) × (20 ≤ age) × (age + deferment ≤ 150) × (basisOf (now run) .base ≤ year) × (year ≤ 2130) ⌝ }
-    ensures { λ r. ⌜ r ≡ pointAnswerOf (resultsOf (basisOf (now (run .entry))) age deferment year) ⌝ }
+fn results_at(run: &[u8], history: &[u8], age: u32, deferment: u32, year: u32) -> PointAnswer
+    requires { ⌜ AcceptedWith (now run) (now history) × (20 ≤ age) × (age + deferment ≤ 150) × (basisWith (now run) (now history) .base ≤ year) × (year ≤ 2130) ⌝ }
+    ensures { λ r. ⌜ r ≡ pointAnswerOf (resultsOf (basisWith (now (run .entry)) (now (history .entry))) age deferment year) ⌝ }
 {
     four(
-        valuation::expectation::expectation_at(run, Kind::Period, age, year, deferment),
-        valuation::expectation::expectation_at(run, Kind::Cohort, age, year, deferment),
-        valuation::annuity::annuity_at(run, Kind::Period, age, year, deferment),
-        valuation::annuity::annuity_at(run, Kind::Cohort, age, year, deferment),
+        valuation::expectation::expectation_at(run, history, Kind::Period, age, year, deferment),
+        valuation::expectation::expectation_at(run, history, Kind::Cohort, age, year, deferment),
+        valuation::annuity::annuity_at(run, history, Kind::Period, age, year, deferment),
+        valuation::annuity::annuity_at(run, history, Kind::Cohort, age, year, deferment),
     )
 }
 
-pub fn point_at(run: &[u8], q: Question) -> PointAnswer
-    requires { ⌜ Accepted (now run) ⌝ }
-    ensures { λ r. ⌜ r ≡ pointOf (basisOf (now (run .entry))) q ⌝ }
+pub fn point_at(run: &[u8], history: &[u8], q: Question) -> PointAnswer
+    requires { ⌜ AcceptedWith (now run) (now history) ⌝ }
+    ensures { λ r. ⌜ r ≡ pointOf (basisWith (now (run .entry)) (now (history .entry))) q ⌝ }
 {
     match question::check_question(run, q.age, q.deferment, q.year) {
-        Check::Passed => results_at(run, q.age, q.deferment, q.year),
+        Check::Passed => results_at(run, history, q.age, q.deferment, q.year),
         Check::Refused(r) => refused_point(r),
     }
 }

@@ -1,13 +1,11 @@
 -- What is known of a question once its checks have passed: all that the work asks for. From the laws of checks.
 use mathlib.Core.Path.{_≡_, refl}
 use mathlib.Core.Bool.{Bool, true, false, _&&_}
-use mathlib.Core.List.{List}
 use Prim.Native.Nat.{ℕ, _+_, _≤_}
 use native.Mathlib.Omega.{arith}
 use lib.Dec.{leb}
 use borrow.Author.Tests.{leb-true}
 use Rattle.basis.specs.declared.Check.the-variants.{Passed}
-use Rattle.basis.specs.Basis.{Basis, basisOf, Accepted}
 use Rattle.basis.specs.Outcome.{refusal, firstOf}
 use Rattle.basis.proofs.Outcome.{unless-passed, both-passed}
 use Rattle.question.specs.Question.{inRange, ageCheck, defermentCheck, yearCheck, cellCheck, questionCheck}
@@ -42,17 +40,17 @@ cell-passed first age year h =
     (a .0, a .1, y .0, y .1)
 
 -- each of the three
-pub question-parts : (b : Basis) (age deferment year : ℕ) → questionCheck b age deferment year ≡ Passed
-    → (ageCheck age ≡ Passed) × (defermentCheck age deferment ≡ Passed) × (yearCheck (b .base) year ≡ Passed)
+pub question-parts : (base age deferment year : ℕ) → questionCheck base age deferment year ≡ Passed
+    → (ageCheck age ≡ Passed) × (defermentCheck age deferment ≡ Passed) × (yearCheck base year ≡ Passed)
 unfolding questionCheck
-question-parts b age deferment year h =
-    let p = both-passed (ageCheck age) (firstOf (defermentCheck age deferment) (yearCheck (b .base) year)) h in
-    let q = both-passed (defermentCheck age deferment) (yearCheck (b .base) year) (p .1) in
+question-parts base age deferment year h =
+    let p = both-passed (ageCheck age) (firstOf (defermentCheck age deferment) (yearCheck base year)) h in
+    let q = both-passed (defermentCheck age deferment) (yearCheck base year) (p .1) in
     (p .0, q .0, q .1)
 
-pub question-passed : (run : List ℕ) (age deferment year : ℕ) → Accepted run → questionCheck (basisOf run) age deferment year ≡ Passed
-    → Accepted run × (20 ≤ age) × (age + deferment ≤ 150) × (basisOf run .base ≤ year) × (year ≤ 2130)
-question-passed run age deferment year ok h =
-    let p = question-parts (basisOf run) age deferment year h in
-    let y = year-passed (basisOf run .base) year (p .2) in
-    (ok, age-passed age (p .0) .0, deferment-passed age deferment (p .1), y .0, y .1)
+pub question-passed : (base age deferment year : ℕ) → questionCheck base age deferment year ≡ Passed
+    → (20 ≤ age) × (age + deferment ≤ 150) × (base ≤ year) × (year ≤ 2130)
+question-passed base age deferment year h =
+    let p = question-parts base age deferment year h in
+    let y = year-passed base year (p .2) in
+    (age-passed age (p .0) .0, deferment-passed age deferment (p .1), y .0, y .1)

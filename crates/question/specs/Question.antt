@@ -3,7 +3,6 @@ use Prim.Native.Nat.{ℕ, _+_}
 use mathlib.Core.Bool.{Bool, _&&_}
 use lib.Dec.{leb}
 use Rattle.basis.specs.declared.Check.{Check}
-use Rattle.basis.specs.Basis.{Basis}
 use Rattle.basis.specs.Outcome.{refusal, unless, firstOf}
 
 abbrev pub inRange : ℕ → ℕ → ℕ → Bool
@@ -26,5 +25,5 @@ abbrev pub cellCheck : ℕ → ℕ → ℕ → Check
 cellCheck first age year = firstOf (ageCheck age) (yearCheck first year)
 
 -- one for survivorship, an expectation or an annuity may name years from B on; year + deferment may be after 2130
-unfoldable pub questionCheck : Basis → ℕ → ℕ → ℕ → Check
-questionCheck b age deferment year = firstOf (ageCheck age) (firstOf (defermentCheck age deferment) (yearCheck (b .base) year))
+unfoldable pub questionCheck : ℕ → ℕ → ℕ → ℕ → Check
+questionCheck base age deferment year = firstOf (ageCheck age) (firstOf (defermentCheck age deferment) (yearCheck base year))

@@ -68,7 +68,7 @@ pub fn check_cell(first: u32, age: u32, year: u32) -> Check
 // 6, then 8, then 7, for years from B on.
 pub fn check_question(run: &[u8], age: u32, deferment: u32, year: u32) -> Check
     requires { ⌜ Accepted (now run) ⌝ }
-    ensures { λ r. ⌜ r ≡ questionCheck (basisOf (now (run .entry))) age deferment year ⌝ }
+    ensures { λ r. ⌜ r ≡ questionCheck (basisOf (now (run .entry)) .base) age deferment year ⌝ }
 {
     let of_year = check_year(basis::fields::base_year(run), year);
     basis::first_of(

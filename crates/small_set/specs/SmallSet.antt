@@ -4,18 +4,17 @@ use mathlib.Core.List.{List, map}
 use lib.ListN.{replicate}
 use Rattle.basis.specs.declared.Check.{Check}
 use Rattle.basis.specs.declared.Check.the-variants.{Passed, Refused}
-use Rattle.basis.specs.Basis.{basisOf}
 use Rattle.basis.specs.Outcome.{noRefusal}
-use Rattle.run_check.specs.Run.{runCheck}
+use Rattle.history.specs.History.{basisWith, basisCheck}
 use Rattle.model_points.specs.declared.PointAnswer.{PointAnswer}
 use Rattle.model_points.specs.Point.{noResults, pointOf}
 use Rattle.small_set.specs.declared.Questions.{Questions}
 use Rattle.small_set.specs.declared.SmallSet.{SmallSet}
 
--- a refused basis refuses the set as a whole: its points then carry 0 in every result, refusal and place
+-- a refused basis, and a refused history as well, refuses the set as a whole: its points then carry 0 in every result, refusal and place
 abbrev pub setOf : Check → List PointAnswer → SmallSet
 setOf Passed points = record { refusal = noRefusal; points = points }
 setOf (Refused r) points = record { refusal = r; points = replicate 6 (record { results = noResults; refusal = noRefusal }) }
 
-unfoldable pub smallSetOf : List ℕ → Questions → SmallSet
-smallSetOf run questions = setOf (runCheck run) (map (pointOf (basisOf run)) (questions .points))
+unfoldable pub smallSetOf : List ℕ → List ℕ → Questions → SmallSet
+smallSetOf run history questions = setOf (basisCheck run history) (map (pointOf (basisWith run history)) (questions .points))

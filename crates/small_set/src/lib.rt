@@ -1,7 +1,7 @@
 // The small set: six model points on one basis, by value. Any bytes and any questions are answered or refused.
 ghost use mathlib.Core.Path.{_≡_};
 ghost use mathlib.Core.List.{map};
-ghost use Rattle.basis.specs.Basis.{basisOf, Accepted};
+ghost use Rattle.history.specs.History.{basisWith, AcceptedWith};
 ghost use Rattle.model_points.specs.Point.{pointOf};
 ghost use Rattle.small_set.specs.SmallSet.{smallSetOf};
 use basis::Check;
@@ -22,34 +22,34 @@ pub struct SmallSet {
     pub points: [PointAnswer; 6],
 }
 
-// The six answers on an accepted data run.
-fn six(run: &[u8], questions: [Question; 6]) -> [PointAnswer; 6]
-    requires { ⌜ Accepted (now run) ⌝ }
-    ensures { λ r. ⌜ r ≡ map (pointOf (basisOf (now (run .entry)))) questions ⌝ }
+// The six answers on an accepted data run and its history.
+fn six(run: &[u8], history: &[u8], questions: [Question; 6]) -> [PointAnswer; 6]
+    requires { ⌜ AcceptedWith (now run) (now history) ⌝ }
+    ensures { λ r. ⌜ r ≡ map (pointOf (basisWith (now (run .entry)) (now (history .entry)))) questions ⌝ }
 {
     [
-        model_points::point_at(run, questions[0]),
-        model_points::point_at(run, questions[1]),
-        model_points::point_at(run, questions[2]),
-        model_points::point_at(run, questions[3]),
-        model_points::point_at(run, questions[4]),
-        model_points::point_at(run, questions[5]),
+        model_points::point_at(run, history, questions[0]),
+        model_points::point_at(run, history, questions[1]),
+        model_points::point_at(run, history, questions[2]),
+        model_points::point_at(run, history, questions[3]),
+        model_points::point_at(run, history, questions[4]),
+        model_points::point_at(run, history, questions[5]),
     ]
 }
 
-// The run is checked once. A refused one refuses the whole: its points carry 0 in every result, refusal and place.
-pub fn small_set(run: &[u8], questions: Questions) -> SmallSet
-    ensures { λ r. ⌜ r ≡ smallSetOf (now (run .entry)) questions ⌝ }
+// The run and its history are checked once. A refused one refuses the whole: its points carry 0 in every result, refusal and place.
+pub fn small_set(run: &[u8], history: &[u8], questions: Questions) -> SmallSet
+    ensures { λ r. ⌜ r ≡ smallSetOf (now (run .entry)) (now (history .entry)) questions ⌝ }
 {
     let none = Refusal {
         number: 0,
         first: 0,
         second: 0,
     };
-    match run_check::check_run(run) {
+    match history::check::check_basis(run, history) {
         Check::Passed => {
             let asked = questions.points;
-            let points = six(run, asked);
+            let points = six(run, history, asked);
             SmallSet {
                 refusal: none,
                 points,

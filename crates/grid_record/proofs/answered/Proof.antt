@@ -13,7 +13,7 @@ recorded-requires c κs = search needs
 
 returns : tie.Need-returns
 unfolding answeredOf
-returns c = c .recorded .ensures ∙ ap (recordOf (c .before .before .before .args .p)) (c .before .point-at .ensures)
+returns c = c .recorded .ensures ∙ ap (recordOf (c .before .before .before .before .args .p)) (c .before .point-at .ensures)
 
 pub answered-spec : {M : Type 1} → statement M
 answered-spec = tie.close (tie.spec point-at-requires recorded-requires returns)

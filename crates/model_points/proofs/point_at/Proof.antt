@@ -1,6 +1,7 @@
 -- The checks decide first; what they let pass is all that the work asks for.
 use mathlib.Core.Path.{_∙_, sym, ap}
 use borrow.Author.Needs.{needs}
+use Rattle.history.specs.History.{basisWith}
 use Rattle.basis.proofs.Outcome.{checked-passed, checked-refused}
 use Rattle.model_points.specs.Point.{pointAnswerOf, pointOf}
 use Rattle.question.proofs.Passed.{question-passed}
@@ -15,9 +16,11 @@ enum-told c = search needs
 
 results-at-requires : tie.Need-results-at-requires
 results-at-requires c κs =
-    let s = c .before .before .before .before in
+    let s = c .before .before .before .before .before in
     let q = s .args .q in
-    question-passed (s .args .run .now) (q .age) (q .deferment) (q .year) (s .pre) (sym (c .before .before .check-question .ensures) ∙ c .enum-told .given .1)
+    let passed = sym (c .before .before .check-question .ensures) ∙ c .enum-told .given .1 in
+    let p = question-passed (basisWith (s .args .run .now) (s .args .history .now) .base) (q .age) (q .deferment) (q .year) passed in
+    (s .pre, p .0, p .1, p .2, p .3)
 
 enum-known-r : tie.Need-enum-known-r
 enum-known-r c = search needs

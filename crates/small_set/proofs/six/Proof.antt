@@ -1,6 +1,6 @@
 -- Six answers, one for each element of a list of six.
 use borrow.Author.Needs.{needs}
-use Rattle.basis.specs.Basis.{basisOf}
+use Rattle.history.specs.History.{basisWith}
 use Rattle.model_points.specs.Point.{pointOf}
 use Rattle.small_set.proofs.Sixes.{six-list}
 use Rattle.small_set.proofs.six.Statement.{statement}
@@ -40,11 +40,11 @@ array-copy-out-point-at-6 : tie.Need-array-copy-out-point-at-6
 array-copy-out-point-at-6 c = search needs
 
 point-at-requires-6 : tie.Need-point-at-requires-6
-point-at-requires-6 c κs = search needs
+point-at-requires-6 c κs = c .before .before .before .before .before .before .before .before .before .before .before .before .before .pre
 
 returns : tie.Need-returns
 returns c =
-    let s = c .before .before .before .before .before .before .before .before .before .before .before .before .before in
+    let s = c .before .before .before .before .before .before .before .before .before .before .before .before .before .before in
     simp (
       c .point-at6 .ensures,
       c .before .before .point-at5 .ensures,
@@ -53,7 +53,7 @@ returns c =
       c .before .before .before .before .before .before .before .before .point-at2 .ensures,
       c .before .before .before .before .before .before .before .before .before .before .point-at .ensures,
     )
-    (six-list (pointOf (basisOf (s .args .run .now))) (s .args .t2) (record { age = 0; deferment = 0; year = 0 }) (s .good .1 .0 .1 .0 .1))
+    (six-list (pointOf (basisWith (s .args .run .now) (s .args .history .now))) (s .args .t3) (record { age = 0; deferment = 0; year = 0 }) (s .good .1 .1 .0 .1 .0 .1))
 
 pub six-spec : {M : Type 1} → statement M
 six-spec =

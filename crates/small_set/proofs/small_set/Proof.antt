@@ -1,13 +1,13 @@
--- The run's check decides; an accepted run is what the six answers ask for.
+-- The check of the run and its history decides; an accepted one is what the six answers ask for.
 use mathlib.Core.Path.{_∙_, sym}
 use borrow.Author.Needs.{needs}
-use Rattle.run_check.proofs.Acceptance.{accepted}
+use Rattle.history.proofs.Acceptance.{accepted-with}
 use Rattle.small_set.specs.SmallSet.{smallSetOf}
 use Rattle.small_set.proofs.small_set.Statement.{statement}
 use Rattle.small_set.proofs.small_set.Tie as tie
 
-check-run-requires : tie.Need-check-run-requires
-check-run-requires c κs = search needs
+check-basis-requires : tie.Need-check-basis-requires
+check-basis-requires c κs = search needs
 
 enum-told : tie.Need-enum-told
 enum-told c = search needs
@@ -15,7 +15,8 @@ enum-told c = search needs
 six-requires : tie.Need-six-requires
 six-requires c κs =
     let told = c .before in
-    accepted (told .before .before .before .before .args .run .now) (sym (told .before .before .check-run .ensures) ∙ told .enum-told .given .1)
+    let a = told .before .before .before .before .before .args in
+    accepted-with (a .run .now) (a .history .now) (sym (told .before .before .check-basis .ensures) ∙ told .enum-told .given .1)
 
 enum-known-refusal : tie.Need-enum-known-refusal
 enum-known-refusal c = search needs
@@ -24,13 +25,13 @@ returns : tie.Need-returns
 unfolding smallSetOf
 returns c =
     let told = c .before .before in
-    simp (sym (told .before .before .check-run .ensures) ∙ told .enum-told .given .1, c .six .ensures)
+    simp (sym (told .before .before .check-basis .ensures) ∙ told .enum-told .given .1, c .six .ensures)
 
 returns-2 : tie.Need-returns-2
 unfolding smallSetOf
-returns-2 c = simp (sym (c .before .before .before .check-run .ensures) ∙ c .before .refusal .given .1)
+returns-2 c = simp (sym (c .before .before .before .check-basis .ensures) ∙ c .before .refusal .given .1)
 
 pub small-set-spec : {M : Type 1} → statement M
 small-set-spec =
     tie.close
-    (tie.spec check-run-requires enum-told six-requires enum-known-refusal returns returns-2)
+    (tie.spec check-basis-requires enum-told six-requires enum-known-refusal returns returns-2)

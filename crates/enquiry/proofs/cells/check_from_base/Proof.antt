@@ -1,23 +1,23 @@
--- Once it has passed the run is accepted, so that the first year is there to be read; then the cell's own checks decide.
+-- Once they have passed the run is accepted, so that the first year is there to be read; then the cell's own checks decide.
 use mathlib.Core.Path.{_∙_, sym, ap}
 use Prim.Native.Nat.{ℕ}
 use borrow.Author.Needs.{needs}
 use Rattle.basis.proofs.Outcome.{first-passed, first-refused}
-use Rattle.run_check.proofs.Acceptance.{accepted}
+use Rattle.history.proofs.Acceptance.{accepted-with}
 use Rattle.question.specs.Question.{cellCheck}
 use Rattle.enquiry.proofs.cells.check_from_base.Statement.{statement}
 use Rattle.enquiry.proofs.cells.check_from_base.Tie as tie
 
-check-run-requires : tie.Need-check-run-requires
-check-run-requires c κs = search needs
+check-basis-requires : tie.Need-check-basis-requires
+check-basis-requires c κs = search needs
 
 enum-told : tie.Need-enum-told
 enum-told c = search needs
 
 base-year-requires : tie.Need-base-year-requires
 base-year-requires c κs =
-    let a = c .before .before .before .before .args in
-    accepted (a .run .now) (sym (c .before .before .check-run .ensures) ∙ c .enum-told .given .1)
+    let a = c .before .before .before .before .before .args in
+    accepted-with (a .run .now) (a .history .now) (sym (c .before .before .check-basis .ensures) ∙ c .enum-told .given .1) .basis
 
 check-cell-requires : tie.Need-check-cell-requires
 check-cell-requires c κs = search needs
@@ -28,15 +28,15 @@ enum-known-r c = search needs
 returns : tie.Need-returns
 returns c =
     let told = c .before .before in
-    let a = told .before .before .before .before .args in
+    let a = told .before .before .before .before .before .args in
     c .check-cell .ensures
     ∙ ap (λ (first : ℕ). cellCheck first (a .age) (a .year)) (c .before .base-year .ensures)
-    ∙ sym (first-passed _ _ (sym (told .before .before .check-run .ensures) ∙ told .enum-told .given .1))
+    ∙ sym (first-passed _ _ (sym (told .before .before .check-basis .ensures) ∙ told .enum-told .given .1))
 
 returns-2 : tie.Need-returns-2
-returns-2 c = sym (first-refused _ _ _ (sym (c .before .before .before .check-run .ensures) ∙ c .before .r .given .1))
+returns-2 c = sym (first-refused _ _ _ (sym (c .before .before .before .check-basis .ensures) ∙ c .before .r .given .1))
 
 pub check-from-base-spec : {M : Type 1} → statement M
 check-from-base-spec =
     tie.close
-    (tie.spec check-run-requires enum-told base-year-requires check-cell-requires enum-known-r returns returns-2)
+    (tie.spec check-basis-requires enum-told base-year-requires check-cell-requires enum-known-r returns returns-2)

@@ -1,24 +1,25 @@
 -- The checks decide first; what they let pass is all that the work asks for.
 use mathlib.Core.Path.{_∙_, sym}
 use borrow.Author.Needs.{needs}
-use Rattle.basis.specs.Basis.{basisOf}
+use Rattle.history.specs.History.{basisWith}
+use Rattle.improvement.specs.Improvement.{firstYear}
 use Rattle.basis.proofs.Outcome.{checked-passed, checked-refused}
 use Rattle.enquiry.specs.Enquiry.{improvementEnquiry}
 use Rattle.enquiry.proofs.Passed.{cell-passed}
 use Rattle.enquiry.proofs.cells.improvement.Statement.{statement}
 use Rattle.enquiry.proofs.cells.improvement.Tie as tie
 
-check-from-foundation-requires : tie.Need-check-from-foundation-requires
-check-from-foundation-requires c κs = search needs
+check-from-first-requires : tie.Need-check-from-first-requires
+check-from-first-requires c κs = search needs
 
 enum-told : tie.Need-enum-told
 enum-told c = search needs
 
 improvement-needed-requires : tie.Need-improvement-needed-requires
 improvement-needed-requires c κs =
-    let a = c .before .before .before .before .args in
-    let passed = sym (c .before .before .check-from-foundation .ensures) ∙ c .enum-told .given .1 in
-    let p = cell-passed (a .run .now) (basisOf (a .run .now) .foundation) (a .age) (a .year) passed in
+    let a = c .before .before .before .before .before .args in
+    let passed = sym (c .before .before .check-from-first .ensures) ∙ c .enum-told .given .1 in
+    let p = cell-passed (a .run .now) (a .history .now) (firstYear (basisWith (a .run .now) (a .history .now))) (a .age) (a .year) passed in
     p
 
 enum-known-r : tie.Need-enum-known-r
@@ -28,13 +29,13 @@ returns : tie.Need-returns
 unfolding improvementEnquiry
 returns c =
     let told = c .before in
-    c .improvement-needed .ensures ∙ sym (checked-passed _ _ (sym (told .before .before .check-from-foundation .ensures) ∙ told .enum-told .given .1))
+    c .improvement-needed .ensures ∙ sym (checked-passed _ _ (sym (told .before .before .check-from-first .ensures) ∙ told .enum-told .given .1))
 
 returns-2 : tie.Need-returns-2
 unfolding improvementEnquiry
-returns-2 c = sym (checked-refused _ _ _ (sym (c .before .before .before .check-from-foundation .ensures) ∙ c .before .r .given .1))
+returns-2 c = sym (checked-refused _ _ _ (sym (c .before .before .before .check-from-first .ensures) ∙ c .before .r .given .1))
 
 pub improvement-spec : {M : Type 1} → statement M
 improvement-spec =
     tie.close
-    (tie.spec check-from-foundation-requires enum-told improvement-needed-requires enum-known-r returns returns-2)
+    (tie.spec check-from-first-requires enum-told improvement-needed-requires enum-known-r returns returns-2)

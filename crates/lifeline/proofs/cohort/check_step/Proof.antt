@@ -2,20 +2,20 @@
 use mathlib.Core.Path.{_∙_, sym}
 use borrow.Author.Needs.{needs}
 use Rattle.basis.proofs.Outcome.{first-passed, first-refused}
-use Rattle.run_check.proofs.Acceptance.{accepted}
+use Rattle.history.proofs.Acceptance.{accepted-with}
 use Rattle.lifeline.proofs.cohort.check_step.Statement.{statement}
 use Rattle.lifeline.proofs.cohort.check_step.Tie as tie
 
-check-run-requires : tie.Need-check-run-requires
-check-run-requires c κs = search needs
+check-basis-requires : tie.Need-check-basis-requires
+check-basis-requires c κs = search needs
 
 enum-told : tie.Need-enum-told
 enum-told c = search needs
 
 check-standing-requires : tie.Need-check-standing-requires
 check-standing-requires c κs =
-    let a = c .before .before .before .before .args in
-    accepted (a .run .now) (sym (c .before .before .check-run .ensures) ∙ c .enum-told .given .1)
+    let a = c .before .before .before .before .before .args in
+    accepted-with (a .run .now) (a .history .now) (sym (c .before .before .check-basis .ensures) ∙ c .enum-told .given .1) .basis
 
 enum-known-r : tie.Need-enum-known-r
 enum-known-r c = search needs
@@ -23,11 +23,11 @@ enum-known-r c = search needs
 returns : tie.Need-returns
 returns c =
     let told = c .before in
-    c .check-standing .ensures ∙ sym (first-passed _ _ (sym (told .before .before .check-run .ensures) ∙ told .enum-told .given .1))
+    c .check-standing .ensures ∙ sym (first-passed _ _ (sym (told .before .before .check-basis .ensures) ∙ told .enum-told .given .1))
 
 returns-2 : tie.Need-returns-2
-returns-2 c = sym (first-refused _ _ _ (sym (c .before .before .before .check-run .ensures) ∙ c .before .r .given .1))
+returns-2 c = sym (first-refused _ _ _ (sym (c .before .before .before .check-basis .ensures) ∙ c .before .r .given .1))
 
 pub check-step-spec : {M : Type 1} → statement M
 check-step-spec =
-    tie.close (tie.spec check-run-requires enum-told check-standing-requires enum-known-r returns returns-2)
+    tie.close (tie.spec check-basis-requires enum-told check-standing-requires enum-known-r returns returns-2)

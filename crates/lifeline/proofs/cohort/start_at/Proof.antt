@@ -15,10 +15,10 @@ enum-known-r : tie.Need-enum-known-r
 enum-known-r c = search needs
 
 returns : tie.Need-returns
-returns c = sym (start-passed _ _ _ (sym (c .before .before .check-valuation .ensures) ∙ c .enum-told .given .1))
+returns c = sym (start-passed _ _ _ _ (sym (c .before .before .check-valuation .ensures) ∙ c .enum-told .given .1))
 
 returns-2 : tie.Need-returns-2
-returns-2 c = sym (start-refused _ _ _ _ (sym (c .before .before .before .check-valuation .ensures) ∙ c .before .r .given .1))
+returns-2 c = sym (start-refused _ _ _ _ _ (sym (c .before .before .before .check-valuation .ensures) ∙ c .before .r .given .1))
 
 pub start-at-spec : {M : Type 1} → statement M
 start-at-spec =

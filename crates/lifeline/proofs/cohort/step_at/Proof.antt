@@ -15,23 +15,23 @@ enum-told c = search needs
 
 year-later-requires : tie.Need-year-later-requires
 year-later-requires c κs =
-    let a = c .before .before .before .before .before .args in
-    let p = step-passed (a .run .now) (a .age) (a .year) (a .survivors) (sym (c .before .before .before .check-step .ensures) ∙ c .before .enum-told .given .1) in
+    let a = c .before .before .before .before .before .before .args in
+    let p = step-passed (a .run .now) (a .history .now) (a .age) (a .year) (a .survivors) (sym (c .before .before .before .check-step .ensures) ∙ c .before .enum-told .given .1) in
     (p .0, p .1, omega (arith, p .2), p .3, omega (arith, p .2, p .4), p .5)
 
 enum-known-r : tie.Need-enum-known-r
 enum-known-r c = search needs
 
 returns : tie.Need-returns
-returns c = sym (step-ended _ _ _ _ (sym (c .before .before .before .check-step .ensures) ∙ c .before .enum-told .given .1) (eq-eqb _ _ (c .if1 .taken)))
+returns c = sym (step-ended _ _ _ _ _ (sym (c .before .before .before .check-step .ensures) ∙ c .before .enum-told .given .1) (eq-eqb _ _ (c .if1 .taken)))
 
 returns-2 : tie.Need-returns-2
 returns-2 c =
     let else = c .before in
-    c .year-later .ensures ∙ sym (step-lived _ _ _ _ (sym (else .before .before .before .check-step .ensures) ∙ else .before .enum-told .given .1) (ne-eqb _ _ (else .if1 .left)))
+    c .year-later .ensures ∙ sym (step-lived _ _ _ _ _ (sym (else .before .before .before .check-step .ensures) ∙ else .before .enum-told .given .1) (ne-eqb _ _ (else .if1 .left)))
 
 returns-3 : tie.Need-returns-3
-returns-3 c = sym (step-refused _ _ _ _ _ (sym (c .before .before .before .check-step .ensures) ∙ c .before .r .given .1))
+returns-3 c = sym (step-refused _ _ _ _ _ _ (sym (c .before .before .before .check-step .ensures) ∙ c .before .r .given .1))
 
 pub step-at-spec : {M : Type 1} → statement M
 step-at-spec =

@@ -12,26 +12,26 @@ survivors-after-year-requires c κs = search needs
 enum-known-s : tie.Need-enum-known-s
 enum-known-s c = search needs
 
-add-t9 : tie.Need-add-t9
-add-t9 c = search needs
-
 add-t10 : tie.Need-add-t10
 add-t10 c = search needs
+
+add-t11 : tie.Need-add-t11
+add-t11 c = search needs
 
 enum-known-r : tie.Need-enum-known-r
 enum-known-r c = search needs
 
 returns : tie.Need-returns
 returns c =
-    let a = c .before .before .before .before .before .args in
+    let a = c .before .before .before .before .before .before .args in
     ap (yearLater (a .age) (a .year) (a .survivors)) (sym (ap meaning (c .before .s .given .1)) ∙ c .before .before .before .survivors-after-year .ensures)
 
 returns-2 : tie.Need-returns-2
 returns-2 c =
-    let a = c .before .before .before .before .before .args in
+    let a = c .before .before .before .before .before .before .args in
     ap (yearLater (a .age) (a .year) (a .survivors)) (sym (ap meaning (c .before .r .given .1)) ∙ c .before .before .before .survivors-after-year .ensures)
 
 pub year-later-spec : {M : Type 1} → statement M
 year-later-spec =
     tie.close
-    (tie.spec survivors-after-year-requires enum-known-s add-t9 add-t10 enum-known-r returns returns-2)
+    (tie.spec survivors-after-year-requires enum-known-s add-t10 add-t11 enum-known-r returns returns-2)

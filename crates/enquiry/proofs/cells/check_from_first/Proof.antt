@@ -1,0 +1,43 @@
+-- Once they have passed the run is accepted, so that the first year is there to be read; then the cell's own checks decide.
+use mathlib.Core.Path.{_∙_, sym, ap}
+use Prim.Native.Nat.{ℕ}
+use borrow.Author.Needs.{needs}
+use Rattle.basis.proofs.Outcome.{first-passed, first-refused}
+use Rattle.history.proofs.Acceptance.{accepted-with}
+use Rattle.improvement.proofs.Cases.{first-with}
+use Rattle.question.specs.Question.{cellCheck}
+use Rattle.enquiry.proofs.cells.check_from_first.Statement.{statement}
+use Rattle.enquiry.proofs.cells.check_from_first.Tie as tie
+
+check-basis-requires : tie.Need-check-basis-requires
+check-basis-requires c κs = search needs
+
+enum-told : tie.Need-enum-told
+enum-told c = search needs
+
+first-year-requires : tie.Need-first-year-requires
+first-year-requires c κs =
+    let a = c .before .before .before .before .before .args in
+    accepted-with (a .run .now) (a .history .now) (sym (c .before .before .check-basis .ensures) ∙ c .enum-told .given .1) .basis
+
+check-cell-requires : tie.Need-check-cell-requires
+check-cell-requires c κs = search needs
+
+enum-known-r : tie.Need-enum-known-r
+enum-known-r c = search needs
+
+returns : tie.Need-returns
+returns c =
+    let told = c .before .before in
+    let a = told .before .before .before .before .before .args in
+    c .check-cell .ensures
+    ∙ ap (λ (first : ℕ). cellCheck first (a .age) (a .year)) (c .before .first-year .ensures ∙ first-with (a .run .now) (a .history .now))
+    ∙ sym (first-passed _ _ (sym (told .before .before .check-basis .ensures) ∙ told .enum-told .given .1))
+
+returns-2 : tie.Need-returns-2
+returns-2 c = sym (first-refused _ _ _ (sym (c .before .before .before .check-basis .ensures) ∙ c .before .r .given .1))
+
+pub check-from-first-spec : {M : Type 1} → statement M
+check-from-first-spec =
+    tie.close
+    (tie.spec check-basis-requires enum-told first-year-requires check-cell-requires enum-known-r returns returns-2)
