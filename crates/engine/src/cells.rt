@@ -8,22 +8,27 @@ use crate::answers;
 use enquiry::cells;
 
 #[no_mangle]
-pub extern "C" fn parvusek_improvement(run: &[u8], age: u32, year: u32) -> CSignedAnswer
-    ensures { λ r. ⌜ r ≡ signedAnswerOf (improvementEnquiry (now (run .entry)) age year) ⌝ }
+pub extern "C" fn parvusek_improvement(
+    run: &[u8],
+    history: &[u8],
+    age: u32,
+    year: u32,
+) -> CSignedAnswer
+    ensures { λ r. ⌜ r ≡ signedAnswerOf (improvementEnquiry (now (run .entry)) (now (history .entry)) age year) ⌝ }
 {
-    answers::signed_answer_of(cells::improvement(run, age, year))
+    answers::signed_answer_of(cells::improvement(run, history, age, year))
 }
 
 #[no_mangle]
-pub extern "C" fn parvusek_factor(run: &[u8], age: u32, year: u32) -> CAnswer
-    ensures { λ r. ⌜ r ≡ answerOf (factorEnquiry (now (run .entry)) age year) ⌝ }
+pub extern "C" fn parvusek_factor(run: &[u8], history: &[u8], age: u32, year: u32) -> CAnswer
+    ensures { λ r. ⌜ r ≡ answerOf (factorEnquiry (now (run .entry)) (now (history .entry)) age year) ⌝ }
 {
-    answers::answer_of(cells::factor(run, age, year))
+    answers::answer_of(cells::factor(run, history, age, year))
 }
 
 #[no_mangle]
-pub extern "C" fn parvusek_rate(run: &[u8], age: u32, year: u32) -> CAnswer
-    ensures { λ r. ⌜ r ≡ answerOf (rateEnquiry (now (run .entry)) age year) ⌝ }
+pub extern "C" fn parvusek_rate(run: &[u8], history: &[u8], age: u32, year: u32) -> CAnswer
+    ensures { λ r. ⌜ r ≡ answerOf (rateEnquiry (now (run .entry)) (now (history .entry)) age year) ⌝ }
 {
-    answers::answer_of(cells::rate(run, age, year))
+    answers::answer_of(cells::rate(run, history, age, year))
 }

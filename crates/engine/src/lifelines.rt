@@ -1,4 +1,5 @@
-// Lifelines as C keeps them: the host holds age, year and survivors between the calls, and lends the data run to each.
+// Lifelines as C keeps them: the host holds age, year and survivors between the calls, and lends the data run and its
+// history to each.
 ghost use mathlib.Core.Path.{_≡_};
 ghost use Rattle.lifeline.specs.Lifeline.{startAt, stepAt};
 ghost use Rattle.engine.specs.Lifelines.{lifelineBegun, lifelineMoved};
@@ -52,20 +53,26 @@ fn moved(m: Moved) -> CLifeline
 }
 
 #[no_mangle]
-pub extern "C" fn parvusek_lifeline_start(run: &[u8], age: u32, year: u32) -> CLifeline
-    ensures { λ r. ⌜ r ≡ lifelineBegun (startAt (now (run .entry)) age year) ⌝ }
+pub extern "C" fn parvusek_lifeline_start(
+    run: &[u8],
+    history: &[u8],
+    age: u32,
+    year: u32,
+) -> CLifeline
+    ensures { λ r. ⌜ r ≡ lifelineBegun (startAt (now (run .entry)) (now (history .entry)) age year) ⌝ }
 {
-    begun(cohort::start_at(run, age, year))
+    begun(cohort::start_at(run, history, age, year))
 }
 
 #[no_mangle]
 pub extern "C" fn parvusek_lifeline_step(
     run: &[u8],
+    history: &[u8],
     age: u32,
     year: u32,
     survivors: u64,
 ) -> CLifeline
-    ensures { λ r. ⌜ r ≡ lifelineMoved (stepAt (now (run .entry)) age year survivors) ⌝ }
+    ensures { λ r. ⌜ r ≡ lifelineMoved (stepAt (now (run .entry)) (now (history .entry)) age year survivors) ⌝ }
 {
-    moved(cohort::step_at(run, age, year, survivors))
+    moved(cohort::step_at(run, history, age, year, survivors))
 }

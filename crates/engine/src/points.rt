@@ -11,16 +11,16 @@ use small_set::Questions;
 use small_set::SmallSet;
 
 #[no_mangle]
-pub extern "C" fn parvusek_small_set(run: &[u8], questions: Questions) -> SmallSet
-    ensures { λ r. ⌜ r ≡ smallSetOf (now (run .entry)) questions ⌝ }
+pub extern "C" fn parvusek_small_set(run: &[u8], history: &[u8], questions: Questions) -> SmallSet
+    ensures { λ r. ⌜ r ≡ smallSetOf (now (run .entry)) (now (history .entry)) questions ⌝ }
 {
-    small_set::small_set(run, questions)
+    small_set::small_set(run, history, questions)
 }
 
 #[no_mangle]
-pub extern "C" fn parvusek_grid(run: &[u8], points: &mut [Point]) -> Refusal
-    ensures { λ r. ⌜ r ≡ refusalOf (gridCheck (now (run .entry)) (length (now (points .entry)))) ⌝ }
-    ensures { λ _. ⌜ now (points .exit) ≡ gridOf (now (run .entry)) (now (points .entry)) ⌝ }
+pub extern "C" fn parvusek_grid(run: &[u8], history: &[u8], points: &mut [Point]) -> Refusal
+    ensures { λ r. ⌜ r ≡ refusalOf (gridCheck (now (run .entry)) (now (history .entry)) (length (now (points .entry)))) ⌝ }
+    ensures { λ _. ⌜ now (points .exit) ≡ gridOf (now (run .entry)) (now (history .entry)) (now (points .entry)) ⌝ }
 {
-    answers::refusal_of(grid::fill(run, points))
+    answers::refusal_of(grid::fill(run, history, points))
 }

@@ -12,71 +12,77 @@ use survivorship::Kind;
 #[no_mangle]
 pub extern "C" fn parvusek_period_survivorship(
     run: &[u8],
+    history: &[u8],
     age: u32,
     deferment: u32,
     year: u32,
 ) -> CAnswer
-    ensures { λ r. ⌜ r ≡ answerOf (survivorshipEnquiry (now (run .entry)) Period age deferment year) ⌝ }
+    ensures { λ r. ⌜ r ≡ answerOf (survivorshipEnquiry (now (run .entry)) (now (history .entry)) Period age deferment year) ⌝ }
 {
-    answers::answer_of(values::survivorship(run, Kind::Period, age, deferment, year))
+    answers::answer_of(values::survivorship(run, history, Kind::Period, age, deferment, year))
 }
 
 #[no_mangle]
 pub extern "C" fn parvusek_cohort_survivorship(
     run: &[u8],
+    history: &[u8],
     age: u32,
     deferment: u32,
     year: u32,
 ) -> CAnswer
-    ensures { λ r. ⌜ r ≡ answerOf (survivorshipEnquiry (now (run .entry)) Cohort age deferment year) ⌝ }
+    ensures { λ r. ⌜ r ≡ answerOf (survivorshipEnquiry (now (run .entry)) (now (history .entry)) Cohort age deferment year) ⌝ }
 {
-    answers::answer_of(values::survivorship(run, Kind::Cohort, age, deferment, year))
+    answers::answer_of(values::survivorship(run, history, Kind::Cohort, age, deferment, year))
 }
 
 #[no_mangle]
 pub extern "C" fn parvusek_period_expectation(
     run: &[u8],
+    history: &[u8],
     age: u32,
     deferment: u32,
     year: u32,
 ) -> CAnswer
-    ensures { λ r. ⌜ r ≡ answerOf (expectationEnquiry (now (run .entry)) Period age deferment year) ⌝ }
+    ensures { λ r. ⌜ r ≡ answerOf (expectationEnquiry (now (run .entry)) (now (history .entry)) Period age deferment year) ⌝ }
 {
-    answers::answer_of(values::expectation(run, Kind::Period, age, deferment, year))
+    answers::answer_of(values::expectation(run, history, Kind::Period, age, deferment, year))
 }
 
 #[no_mangle]
 pub extern "C" fn parvusek_cohort_expectation(
     run: &[u8],
+    history: &[u8],
     age: u32,
     deferment: u32,
     year: u32,
 ) -> CAnswer
-    ensures { λ r. ⌜ r ≡ answerOf (expectationEnquiry (now (run .entry)) Cohort age deferment year) ⌝ }
+    ensures { λ r. ⌜ r ≡ answerOf (expectationEnquiry (now (run .entry)) (now (history .entry)) Cohort age deferment year) ⌝ }
 {
-    answers::answer_of(values::expectation(run, Kind::Cohort, age, deferment, year))
+    answers::answer_of(values::expectation(run, history, Kind::Cohort, age, deferment, year))
 }
 
 #[no_mangle]
 pub extern "C" fn parvusek_period_annuity(
     run: &[u8],
+    history: &[u8],
     age: u32,
     deferment: u32,
     year: u32,
 ) -> CAnswer
-    ensures { λ r. ⌜ r ≡ answerOf (annuityEnquiry (now (run .entry)) Period age deferment year) ⌝ }
+    ensures { λ r. ⌜ r ≡ answerOf (annuityEnquiry (now (run .entry)) (now (history .entry)) Period age deferment year) ⌝ }
 {
-    answers::answer_of(values::annuity(run, Kind::Period, age, deferment, year))
+    answers::answer_of(values::annuity(run, history, Kind::Period, age, deferment, year))
 }
 
 #[no_mangle]
 pub extern "C" fn parvusek_cohort_annuity(
     run: &[u8],
+    history: &[u8],
     age: u32,
     deferment: u32,
     year: u32,
 ) -> CAnswer
-    ensures { λ r. ⌜ r ≡ answerOf (annuityEnquiry (now (run .entry)) Cohort age deferment year) ⌝ }
+    ensures { λ r. ⌜ r ≡ answerOf (annuityEnquiry (now (run .entry)) (now (history .entry)) Cohort age deferment year) ⌝ }
 {
-    answers::answer_of(values::annuity(run, Kind::Cohort, age, deferment, year))
+    answers::answer_of(values::annuity(run, history, Kind::Cohort, age, deferment, year))
 }

@@ -8,10 +8,10 @@ use lib.ListN.{length, getD, set}
 use borrow.Author.Tests.{leb-true}
 use Rattle.basis.specs.declared.Check.{Check}
 use Rattle.basis.specs.declared.Check.the-variants.{Passed, Refused}
-use Rattle.basis.specs.Basis.{Basis, basisOf, Accepted}
+use Rattle.basis.specs.Basis.{Basis}
 use Rattle.basis.specs.Outcome.{refusal}
-use Rattle.run_check.specs.Run.{runCheck}
-use Rattle.run_check.proofs.Acceptance.{accepted}
+use Rattle.history.specs.History.{basisWith, basisCheck, AcceptedWith}
+use Rattle.history.proofs.Acceptance.{accepted-with}
 use Rattle.basis.proofs.Outcome.{both-passed, unless-passed}
 use Rattle.grid_record.specs.declared.Point.{Point}
 use Rattle.grid_record.specs.Record.{answeredOf}
@@ -38,26 +38,26 @@ module _ (b : Basis) where
   answers-set (suc i) (p ∷ points) past h = ap (λ (rest : List Point). answeredOf b p ∷ rest) (answers-set i points past (le-of-suc-le-suc h))
 
 -- the list after the grid is that with as many records answered as its checks say
-pub grid-is : (run : List ℕ) (points : List Point) → answers (basisOf run) (recordsOf (gridCheck run (length points))) points ≡ gridOf run points
+pub grid-is : (run history : List ℕ) (points : List Point) → answers (basisWith run history) (recordsOf (gridCheck run history (length points))) points ≡ gridOf run history points
 unfolding gridOf
-grid-is run points = refl
+grid-is run history points = refl
 
 -- ---- the count: a record is answered only where the checks have passed
 passes : (check : Check) (i : ℕ) → i < recordsOf check → check ≡ Passed
 passes Passed i h = refl
 passes (Refused r) i h = absurd (not-suc-le-zero h)
 
-module _ (run : List ℕ) (count : ℕ) where
+module _ (run history : List ℕ) (count : ℕ) where
   -- no more records are answered than there are
-  pub records-fit : recordsOf (gridCheck run count) ≤ count
+  pub records-fit : recordsOf (gridCheck run history count) ≤ count
   unfolding gridCheck countCheck
-  records-fit = by (gridCheck run count) refl
+  records-fit = by (gridCheck run history count) refl
     where
-      by : (check : Check) → gridCheck run count ≡ check → recordsOf check ≤ count
-      by Passed h = leb-true 119 count (unless-passed (leb 119 count) (refusal 11 119 0) (both-passed (countCheck 119 count) (runCheck run) h .0))
+      by : (check : Check) → gridCheck run history count ≡ check → recordsOf check ≤ count
+      by Passed h = leb-true 119 count (unless-passed (leb 119 count) (refusal 11 119 0) (both-passed (countCheck 119 count) (basisCheck run history) h .0))
       by (Refused r) h = zero-le
 
-  -- and the run is accepted
-  pub turn-accepted : (i : ℕ) → i < recordsOf (gridCheck run count) → Accepted run
+  -- and the run is accepted with its history
+  pub turn-accepted : (i : ℕ) → i < recordsOf (gridCheck run history count) → AcceptedWith run history
   unfolding gridCheck
-  turn-accepted i h = accepted run (both-passed (countCheck 119 count) (runCheck run) (passes (gridCheck run count) i h) .1)
+  turn-accepted i h = accepted-with run history (both-passed (countCheck 119 count) (basisCheck run history) (passes (gridCheck run history count) i h) .1)

@@ -4,17 +4,17 @@ use mathlib.Core.List.{List, [], _∷_}
 use lib.ListN.{length}
 use Rattle.basis.specs.declared.Check.{Check}
 use Rattle.basis.specs.declared.Check.the-variants.{Passed, Refused}
-use Rattle.basis.specs.Basis.{Basis, basisOf}
+use Rattle.basis.specs.Basis.{Basis}
 use Rattle.basis.specs.Outcome.{firstOf}
-use Rattle.run_check.specs.Run.{runCheck}
+use Rattle.history.specs.History.{basisWith, basisCheck}
 use Rattle.lent.specs.Lent.{countCheck}
 use Rattle.grid_record.specs.declared.Point.{Point}
 use Rattle.grid_record.specs.Record.{answeredOf}
 use Rattle.grid.specs.declared.GridStart.{GridStart}
 
--- a list shorter than 119 is refused as 11 with 119 for the bytes, before the basis is looked at
-unfoldable pub gridCheck : List ℕ → ℕ → Check
-gridCheck run count = firstOf (countCheck 119 count) (runCheck run)
+-- a list shorter than 119 is refused as 11 with 119 for the bytes, before the basis and its history are looked at
+unfoldable pub gridCheck : List ℕ → List ℕ → ℕ → Check
+gridCheck run history count = firstOf (countCheck 119 count) (basisCheck run history)
 
 -- how many records are answered: 119, and none of a refused grid
 abbrev pub recordsOf : Check → ℕ
@@ -31,5 +31,5 @@ answers b (suc n) [] = []
 answers b (suc n) (p ∷ points) = answeredOf b p ∷ answers b n points
 
 -- the list after the grid
-unfoldable pub gridOf : List ℕ → List Point → List Point
-gridOf run points = answers (basisOf run) (recordsOf (gridCheck run (length points))) points
+unfoldable pub gridOf : List ℕ → List ℕ → List Point → List Point
+gridOf run history points = answers (basisWith run history) (recordsOf (gridCheck run history (length points))) points

@@ -11,21 +11,21 @@ pub struct GridStart {
     pub records: usize,
 }
 
-// 11 before the basis is looked at.
-fn check_grid(run: &[u8], count: usize) -> Check
-    ensures { λ r. ⌜ r ≡ gridCheck (now (run .entry)) count ⌝ }
+// 11 before the basis and its history are looked at.
+fn check_grid(run: &[u8], history: &[u8], count: usize) -> Check
+    ensures { λ r. ⌜ r ≡ gridCheck (now (run .entry)) (now (history .entry)) count ⌝ }
 {
     match lent::check_room(119, count) {
-        Check::Passed => run_check::check_run(run),
+        Check::Passed => history::check::check_basis(run, history),
         Check::Refused(r) => Check::Refused(r),
     }
 }
 
-// The run is checked here, once for the whole list.
-fn start_grid(run: &[u8], count: usize) -> GridStart
-    ensures { λ r. ⌜ r ≡ gridStart (gridCheck (now (run .entry)) count) ⌝ }
+// The run and its history are checked here, once for the whole list.
+fn start_grid(run: &[u8], history: &[u8], count: usize) -> GridStart
+    ensures { λ r. ⌜ r ≡ gridStart (gridCheck (now (run .entry)) (now (history .entry)) count) ⌝ }
 {
-    match check_grid(run, count) {
+    match check_grid(run, history, count) {
         Check::Passed => GridStart {
             check: Check::Passed,
             records: 119,
@@ -38,15 +38,15 @@ fn start_grid(run: &[u8], count: usize) -> GridStart
 }
 
 // Each record's results or its own refusal, in its place.
-pub fn fill(run: &[u8], points: &mut [Point]) -> Check
-    ensures { λ r. ⌜ r ≡ gridCheck (now (run .entry)) (length (now (points .entry))) ⌝ }
-    ensures { λ _. ⌜ now (points .exit) ≡ gridOf (now (run .entry)) (now (points .entry)) ⌝ }
+pub fn fill(run: &[u8], history: &[u8], points: &mut [Point]) -> Check
+    ensures { λ r. ⌜ r ≡ gridCheck (now (run .entry)) (now (history .entry)) (length (now (points .entry))) ⌝ }
+    ensures { λ _. ⌜ now (points .exit) ≡ gridOf (now (run .entry)) (now (history .entry)) (now (points .entry)) ⌝ }
 {
-    let start = start_grid(run, points.len());
+    let start = start_grid(run, history, points.len());
     let n = start.records;
     let mut i: usize = 0;
     while i < n {
-        points[i] = grid_record::answered(run, points[i]);
+        points[i] = grid_record::answered(run, history, points[i]);
         i = i + 1;
     }
     start.check

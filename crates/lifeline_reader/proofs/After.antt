@@ -11,20 +11,20 @@ use Rattle.lifeline_reader.specs.Reader.{lineAt, started, stepped}
 abbrev pub lineOver : RefT (List ℕ) → Stand → Lifeline
 lineOver run s = lineAt run (s .age) (s .year) (s .survivors)
 
-abbrev pub lineAfter : RefT (List ℕ) → ℕ → ℕ → ℕ → Lifeline
-lineAfter run age year n = lineOver run (standAfter (now run) age year n)
+abbrev pub lineAfter : RefT (List ℕ) → List ℕ → ℕ → ℕ → ℕ → Lifeline
+lineAfter run history age year n = lineOver run (standAfter (now run) history age year n)
 
 abbrev pub standOf : Lifeline → Stand
 standOf l = standAt (l .age) (l .year) (l .survivors)
 
-module _ (run : RefT (List ℕ)) (age year : ℕ) where
-  pub stand-is : (n : ℕ) → standOf (lineAfter run age year n) ≡ standAfter (now run) age year n
+module _ (run : RefT (List ℕ)) (history : List ℕ) (age year : ℕ) where
+  pub stand-is : (n : ℕ) → standOf (lineAfter run history age year n) ≡ standAfter (now run) history age year n
   stand-is n = refl
 
-  pub after-none : lineAfter run age year 0 ≡ started run age year .line
+  pub after-none : lineAfter run history age year 0 ≡ started run history age year .line
   unfolding standAfter
   after-none = refl
 
-  pub after-one : (n : ℕ) → stepped (lineAfter run age year n) .line ≡ lineAfter run age year (suc n)
+  pub after-one : (n : ℕ) → stepped (lineAfter run history age year n) history .line ≡ lineAfter run history age year (suc n)
   unfolding standAfter
   after-one n = refl

@@ -1,5 +1,5 @@
 -- The lifeline reader (01, "holds the lent data run with an age"): the start and the step by their numbers, over one lent run that is
--- held throughout.
+-- held throughout. The history is not held: it is lent to each call (02, change 2).
 use Prim.Native.Nat.{ℕ}
 use mathlib.Core.List.{List}
 use denote.Ref.{RefT, now}
@@ -17,12 +17,12 @@ lineAt run age year survivors = record { run = run; age = age; year = year; surv
 abbrev pub startedAt : RefT (List ℕ) → Begun → Started
 startedAt run b = record { line = lineAt run (b .age) (b .year) (b .survivors); check = b .check }
 
-abbrev pub started : RefT (List ℕ) → ℕ → ℕ → Started
-started run age year = startedAt run (startAt (now run) age year)
+abbrev pub started : RefT (List ℕ) → List ℕ → ℕ → ℕ → Started
+started run history age year = startedAt run (startAt (now run) history age year)
 
 -- a line after a step, over the same run
 abbrev pub steppedTo : Lifeline → Moved → Stepped
 steppedTo l m = record { line = lineAt (l .run) (m .age) (m .year) (m .survivors); status = m .status }
 
-abbrev pub stepped : Lifeline → Stepped
-stepped l = steppedTo l (stepAt (now (l .run)) (l .age) (l .year) (l .survivors))
+abbrev pub stepped : Lifeline → List ℕ → Stepped
+stepped l history = steppedTo l (stepAt (now (l .run)) history (l .age) (l .year) (l .survivors))

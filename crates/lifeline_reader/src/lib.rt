@@ -1,5 +1,5 @@
 // The lifeline reader (the paper's words): a small struct that holds the lent data run itself. Its start and its step have the
-// work done by the numbers, and hold the same run again.
+// work done by the numbers, and hold the same run again; the history is lent to each of them.
 ghost use mathlib.Core.Path.{_≡_};
 ghost use Rattle.lifeline.specs.Lifeline.{standAfter};
 ghost use Rattle.lifeline_reader.specs.Reader.{started, stepped};
@@ -28,10 +28,10 @@ pub struct Stepped<'a> {
     pub status: Status,
 }
 
-pub fn start<'a>(run: &'a [u8], age: u32, year: u32) -> Started<'a>
-    ensures { λ r. ⌜ r ≡ started (run .entry) age year ⌝ }
+pub fn start<'a>(run: &'a [u8], history: &[u8], age: u32, year: u32) -> Started<'a>
+    ensures { λ r. ⌜ r ≡ started (run .entry) (now (history .entry)) age year ⌝ }
 {
-    let b = cohort::start_at(run, age, year);
+    let b = cohort::start_at(run, history, age, year);
     Started {
         line: Lifeline {
             run,
@@ -43,10 +43,10 @@ pub fn start<'a>(run: &'a [u8], age: u32, year: u32) -> Started<'a>
     }
 }
 
-pub fn step<'a>(l: Lifeline<'a>) -> Stepped<'a>
-    ensures { λ r. ⌜ r ≡ stepped (l .entry) ⌝ }
+pub fn step<'a>(l: Lifeline<'a>, history: &[u8]) -> Stepped<'a>
+    ensures { λ r. ⌜ r ≡ stepped (l .entry) (now (history .entry)) ⌝ }
 {
-    let m = cohort::step_at(l.run, l.age, l.year, l.survivors);
+    let m = cohort::step_at(l.run, history, l.age, l.year, l.survivors);
     Stepped {
         line: Lifeline {
             run: l.run,
@@ -59,14 +59,14 @@ pub fn step<'a>(l: Lifeline<'a>) -> Stepped<'a>
 }
 
 // For callers that hold no lifeline: where one stands from its start, n steps on.
-pub fn stand_after(run: &[u8], age: u32, year: u32, n: u32) -> Stand
-    ensures { λ r. ⌜ r ≡ standAfter (now (run .entry)) age year n ⌝ }
+pub fn stand_after(run: &[u8], history: &[u8], age: u32, year: u32, n: u32) -> Stand
+    ensures { λ r. ⌜ r ≡ standAfter (now (run .entry)) (now (history .entry)) age year n ⌝ }
 {
-    let s = start(run, age, year);
+    let s = start(run, history, age, year);
     let mut l = s.line;
     let mut i: u32 = 0;
     while i < n {
-        let t = step(l);
+        let t = step(l, history);
         l = t.line;
         i = i + 1;
     }

@@ -1,5 +1,5 @@
--- `lifeline_reader::start` meets its contract: a walk of its MIR, by hand. `start_at` is called on the slice and the numbers, and the two structs,
--- one in the other, are made of the slice and what it returned.
+-- `lifeline_reader::start` meets its contract: a walk of its MIR, by hand. `start_at` is called on the two slices and the numbers, and the two
+-- structs, one in the other, are made of the run's slice and what it returned.
 -- Assumes nothing.
 use mathlib.Core.Path.{_≡_, refl, ap, subst}
 use Prim.Native.Nat.{ℕ, _<_, _^_}
@@ -17,7 +17,7 @@ use prog.Wp.{Heap, Calls, Loops, WpFn, Tables}
 use ghost.Atoms.{Atoms, sem}
 use contract.Monad.{Fun, fact}
 use contract.Running.{givenOf, tables, tablesOf}
-use types.Kit.{Given, ‵, raw, _⊛_, ⋆, some, later, _$_, _∵_, !, qed, by, move, use1, use2, split, join, pick, rewrite, fsplit, fjoin, suffices, frame, await, done}
+use types.Kit.{Given, Item, ‵, raw, _⊛_, ⋆, some, later, _$_, _∵_, !, qed, by, move, use1, use2, split, join, pick, rewrite, fsplit, fjoin, suffices, frame, await, done}
 use types.Part.{whole, sub, look-in, agg}
 use types.Run.{look, init, forget, stop, fld, from, load, and-then, no-more, assigns, land, returns, enter, alloc1, alloc0, params1, pass1, pass0, free1, free0}
 use sound.WpLaws.{FmC, fmOf, WpFn-mono}
@@ -62,32 +62,38 @@ use Rattle.lifeline_reader.proofs.start.Statement as stated
 use Rattle.lifeline_reader.proofs.start.Code as code
 
 abbrev stayed : Stays (start.ended .signature .params) (start.ended .kept)
-stayed = (stay-none-slice (0 ∷ []) tt (plain (λ _. u8)) yes, (stay-none (λ _. u32) yes, (stay-none (λ _. u32) yes, tt)))
+stayed = (
+  stay-none-slice (0 ∷ []) tt (plain (λ _. u8)) yes,
+  (stay-none-slice (1 ∷ []) tt (plain (λ _. u8)) yes, (stay-none (λ _. u32) yes, (stay-none (λ _. u32) yes, tt))),
+)
 
 -- the contract that the proof cites
 abbrev StartAt : {M : Type 1} (𝓤 : URA M) (H : Heap 𝓤) (A : Atoms 𝓤) (mem : Memory → SProp 𝓤) (run : Routine → Fun 𝓤) → Contract 𝓤
 StartAt 𝓤 H A mem run = tripleOf 𝓤 H A start-at.signature (start-at.spec 𝓤 H A mem run)
 
-module _ {M : Type 1} (𝓤 : URA M) (H : Heap 𝓤) (A : Atoms 𝓤) (W : Given 𝓤 H A) (mem : Memory → SProp 𝓤) (run : Routine → Fun 𝓤) (κ : Lft) (q : Share) (s : RefT (List ℕ)) (x t : ℕ)
-    (x-fits : x < 2 ^ 32) (t-fits : t < 2 ^ 32) where
+module _ {M : Type 1} (𝓤 : URA M) (H : Heap 𝓤) (A : Atoms 𝓤) (W : Given 𝓤 H A) (mem : Memory → SProp 𝓤) (run : Routine → Fun 𝓤) (κ₀ κ₁ : Lft) (q₀ q₁ : Share)
+    (s h : RefT (List ℕ)) (x t : ℕ) (x-fits : x < 2 ^ 32) (t-fits : t < 2 ^ 32) where
   abbrev α : NamedLft
-  α = namedLft 1 0 tt (κ, tt)
+  α = namedLft 2 0 tt (κ₀, (κ₁, tt))
 
   -- the machine values of the parameters
   abbrev v : Val
   v = sliceVal (s .ptr) (length (s .now))
 
+  abbrev hv : Val
+  hv = sliceVal (h .ptr) (length (h .now))
+
   abbrev Arg : Type 0
-  Arg = RefT (List ℕ) × (ℕ × (ℕ × Unit {0}))
+  Arg = RefT (List ℕ) × (RefT (List ℕ) × (ℕ × (ℕ × Unit {0})))
 
   abbrev a : Arg
-  a = (s, (x, (t, tt)))
+  a = (s, (h, (x, (t, tt))))
 
-  abbrev at : Vals start.signature (κ, tt)
-  at = (v ∷ [], (vint w32 x ∷ [], (vint w32 t ∷ [], tt)))
+  abbrev at : Vals start.signature (κ₀, (κ₁, tt))
+  at = (v ∷ [], (hv ∷ [], (vint w32 x ∷ [], (vint w32 t ∷ [], tt))))
 
   abbrev Post : Val → SProp 𝓤
-  Post = walkOf 𝓤 H A start.ended stayed (start.clauses 𝓤 H A mem run) .post (((κ, tt), (q, tt), tt, a, at), tt)
+  Post = walkOf 𝓤 H A start.ended stayed (start.clauses 𝓤 H A mem run) .post (((κ₀, (κ₁, tt)), (q₀, (q₁, tt)), tt, a, at), tt)
 
   -- the machine values of what the call returns and of the result, as the structs' laws spell them. (`lowered` does not compute at a check that is not known.)
   abbrev begun-val : Begun → Val
@@ -96,22 +102,30 @@ module _ {M : Type 1} (𝓤 : URA M) (H : Heap 𝓤) (A : Atoms 𝓤) (W : Given
   abbrev started-val : Started → Val
   started-val r = LL.val (S.the-type α) (S′.the-laws α) r
 
+  -- what the run owns, and what the history owns
   abbrev Own : Fml
-  Own = ShrSlice (named 0) κ u8 .own s (v ∷ [])
+  Own = ShrSlice (named 0) κ₀ u8 .own s (v ∷ [])
 
-  -- the call: what it is passed and asks, and what is known of its result. The run's slice is Copy, and one copy is kept
+  abbrev HOwn : Fml
+  HOwn = ShrSlice (named 1) κ₁ u8 .own h (hv ∷ [])
+
+  abbrev Tok : Item 𝓤
+  Tok = ‵ (flft κ₀ q₀) ⊛ (‵ (flft κ₁ q₁) ⊛ ‵ ftrue)
+
+  -- the call: what it is passed and asks, and what is known of its result. The two slices are Copy, and one copy of each is kept
   abbrev to : StartAt 𝓤 H A mem run .Ghost
-  to = (((κ, tt), (q, tt), tt, a, at), tt)
+  to = (((κ₀, (κ₁, tt)), (q₀, (q₁, tt)), tt, a, at), tt)
 
-  apart : ent 𝓤 (onEntry 𝓤 H A start.signature (κ, tt) (q, tt) a at) (sep 𝓤 (StartAt 𝓤 H A mem run .pre to) (sem 𝓤 H A Own))
+  apart : ent 𝓤 (onEntry 𝓤 H A start.signature (κ₀, (κ₁, tt)) (q₀, (q₁, tt)) a at) (sep 𝓤 (StartAt 𝓤 H A mem run .pre to) (sep 𝓤 (sem 𝓤 H A Own) (sem 𝓤 H A HOwn)))
   apart =
-      qed W ((‵ (flft κ q) ⊛ ‵ ftrue) ∷ ‵ (owns (ShrSlice (named 0) κ u8 ∷ u32 ∷ u32 ∷ []) a at) ∷ []) ∵
-      move ! (1 ∷ []) $ fsplit ! $ use1 W (‵ Own ⊛ ‵ Own) (shr-slice-copy 𝓤 H A W (named 0) κ u8 .twice s (v ∷ [])) $ split ! $
-      move ! (0 ∷ 2 ∷ []) $ fjoin ! $ move ! (2 ∷ 0 ∷ []) $ use2 W (raw (StartAt 𝓤 H A mem run .pre to))
-      (qed W ((‵ (flft κ q) ⊛ ‵ ftrue) ∷ ‵ (owns (ShrSlice (named 0) κ u8 ∷ u32 ∷ u32 ∷ []) a at) ∷ []) ∵ join ! $ frame ! $ done !) $ frame ! $ done !
+      qed W (Tok ∷ ‵ (owns (ShrSlice (named 0) κ₀ u8 ∷ ShrSlice (named 1) κ₁ u8 ∷ u32 ∷ u32 ∷ []) a at) ∷ []) ∵
+      move ! (1 ∷ []) $ fsplit ! $ use1 W (‵ Own ⊛ ‵ Own) (shr-slice-copy 𝓤 H A W (named 0) κ₀ u8 .twice s (v ∷ [])) $ split ! $
+      move ! (2 ∷ []) $ fsplit ! $ use1 W (‵ HOwn ⊛ ‵ HOwn) (shr-slice-copy 𝓤 H A W (named 1) κ₁ u8 .twice h (hv ∷ [])) $ split ! $
+      move ! (0 ∷ 2 ∷ []) $ fjoin ! $ move ! (2 ∷ 0 ∷ []) $ fjoin ! $ move ! (3 ∷ 0 ∷ []) $ use2 W (raw (StartAt 𝓤 H A mem run .pre to))
+      (qed W (Tok ∷ ‵ (owns (ShrSlice (named 0) κ₀ u8 ∷ ShrSlice (named 1) κ₁ u8 ∷ u32 ∷ u32 ∷ []) a at) ∷ []) ∵ join ! $ frame ! $ done !) $ move ! (0 ∷ 2 ∷ []) $ frame ! $ frame ! $ done !
 
-  said : (r : Begun) → ent 𝓤 (ensured 𝓤 H A start-at.ended (start-at.clauses 𝓤 H A mem run) (κ, tt) a tt r) (fact 𝓤 (r ≡ startAt (now s) x t))
-  said r = exE 𝓤 _ (λ ws. snd∗ 𝓤 (sem 𝓤 H A (lasts start-at.ended (κ, tt) a ws)) (fact 𝓤 (r ≡ startAt (now s) x t)))
+  said : (r : Begun) → ent 𝓤 (ensured 𝓤 H A start-at.ended (start-at.clauses 𝓤 H A mem run) (κ₀, (κ₁, tt)) a tt r) (fact 𝓤 (r ≡ startAt (now s) (now h) x t))
+  said r = exE 𝓤 _ (λ ws. snd∗ 𝓤 (sem 𝓤 H A (lasts start-at.ended (κ₀, (κ₁, tt)) a ws)) (fact 𝓤 (r ≡ startAt (now s) (now h) x t)))
 
   -- ---- at a result r of the call, whose machine value is written out
   module _ (r : Begun) (is : Is B.the-row r (begun-val r ∷ [])) where
@@ -128,59 +142,60 @@ module _ {M : Type 1} (𝓤 : URA M) (H : Heap 𝓤) (A : Atoms 𝓤) (W : Given
         nothing ! $ owned ! F.the-row (Is F.the-row) (EL.makes F.the-type F′.the-plain 𝓤 H A) (r .check) _ (had .1 .1 .1 .0) $ fjoin ! $ move ! (1 ∷ 0 ∷ []) $ fjoin ! $
         by ! (own-shut 𝓤 H A W (S.the-type α) (S′.the-laws α) (made .line, (r .check, tt)))
 
-    exits : r ≡ startAt (now s) x t → ent 𝓤 (⋆ 𝓤 H A ((‵ (flft κ q) ⊛ ‵ ftrue) ∷ ‵ Own ∷ [])) (Post (started-val made))
+    exits : r ≡ startAt (now s) (now h) x t → ent 𝓤 (⋆ 𝓤 H A (Tok ∷ ‵ Own ∷ ‵ HOwn ∷ [])) (Post (started-val made))
     exits e =
-        qed W ((‵ (flft κ q) ⊛ ‵ ftrue) ∷ ‵ Own ∷ []) ∵
-        suffices ! _ (ends-at 𝓤 H A start.ended stayed (start.clauses 𝓤 H A mem run) W (((κ, tt), (q, tt), tt, a, at), tt) (started-val made) made (tt, (tt, (tt, tt))) (tt, (tt, (tt, tt)))) $
+        qed W (Tok ∷ ‵ Own ∷ ‵ HOwn ∷ []) ∵
+        suffices ! _ (ends-at 𝓤 H A start.ended stayed (start.clauses 𝓤 H A mem run) W (((κ₀, (κ₁, tt)), (q₀, (q₁, tt)), tt, a, at), tt) (started-val made) made (tt, (tt, (tt, (tt, tt)))) (tt, (tt, (tt, (tt, tt))))) $
         says ! (ap (startedAt s) e) $
-        frame ! $ use1 W (‵ Own ⊛ ‵ Own) (shr-slice-copy 𝓤 H A W (named 0) κ u8 .twice s (v ∷ [])) $ split ! $
-        nothing ! $ owned ! u32 (Is u32) (uint-makes 𝓤 H A W w32) t _ (refl, t-fits) $ fjoin ! $ owned ! u32 (Is u32) (uint-makes 𝓤 H A W w32) x _ (refl, x-fits) $ fjoin ! $ move ! (1 ∷ 0 ∷ []) $
-        fjoin ! $ frame ! $ by ! makes
+        frame ! $ use1 W (‵ Own ⊛ ‵ Own) (shr-slice-copy 𝓤 H A W (named 0) κ₀ u8 .twice s (v ∷ [])) $ split ! $
+        nothing ! $ owned ! u32 (Is u32) (uint-makes 𝓤 H A W w32) t _ (refl, t-fits) $ fjoin ! $ owned ! u32 (Is u32) (uint-makes 𝓤 H A W w32) x _ (refl, x-fits) $ fjoin ! $ move ! (3 ∷ 0 ∷ []) $
+        fjoin ! $ move ! (1 ∷ 0 ∷ []) $ fjoin ! $ frame ! $ by ! makes
 
   module _ (C : Calls 𝓤 H) (Λ : Loops 𝓤 H) (fm : FmC 𝓤 H (W .laws) C) (known : Triple 𝓤 (C #lifeline·cohort·start-at) (StartAt 𝓤 H A mem run)) where
-    walk : Room u8 (length (s .now)) → ent 𝓤 (onEntry 𝓤 H A start.signature (κ, tt) (q, tt) a at) (WpFn 𝓤 H C Λ code.function (v ∷ vint w32 x ∷ vint w32 t ∷ []) Post)
-    walk room =
-        qed W (raw (onEntry 𝓤 H A start.signature (κ, tt) (q, tt) a at) ∷ []) ∵ enter ! C Λ code.function (v ∷ vint w32 x ∷ vint w32 t ∷ []) _ $
-        alloc1 ! (λ l₀. alloc1 ! (λ l₁. alloc1 ! (λ l₂. alloc1 ! (λ l₃. alloc1 ! (λ l₄. alloc1 ! (λ l₅. alloc0 ! $ params1 ! $
-        pass1 ! (init ! 8 refl (tt, (tt, (record { fits = room .0 }, tt)))) $ pass1 ! (init ! 6 refl (tt, record { fits = x-fits })) $ pass1 ! (init ! 4 refl (tt, record { fits = t-fits })) $
+    walk : Room u8 (length (s .now)) → Room u8 (length (h .now)) → ent 𝓤 (onEntry 𝓤 H A start.signature (κ₀, (κ₁, tt)) (q₀, (q₁, tt)) a at) (WpFn 𝓤 H C Λ code.function (v ∷ hv ∷ vint w32 x ∷ vint w32 t ∷ []) Post)
+    walk room hroom =
+        qed W (raw (onEntry 𝓤 H A start.signature (κ₀, (κ₁, tt)) (q₀, (q₁, tt)) a at) ∷ []) ∵ enter ! C Λ code.function (v ∷ hv ∷ vint w32 x ∷ vint w32 t ∷ []) _ $
+        alloc1 ! (λ l₀. alloc1 ! (λ l₁. alloc1 ! (λ l₂. alloc1 ! (λ l₃. alloc1 ! (λ l₄. alloc1 ! (λ l₅. alloc1 ! (λ l₆. alloc0 ! $ params1 ! $
+        pass1 ! (init ! 10 refl (tt, (tt, (record { fits = room .0 }, tt)))) $ pass1 ! (init ! 8 refl (tt, (tt, (record { fits = hroom .0 }, tt)))) $
+        pass1 ! (init ! 6 refl (tt, record { fits = x-fits })) $ pass1 ! (init ! 4 refl (tt, record { fits = t-fits })) $
         pass0 ! $
-        move ! (12 ∷ []) $ use1 W (raw (StartAt 𝓤 H A mem run .pre to) ⊛ ‵ Own) apart $ split ! $
-        -- [what `start_at` asks; what the run owns; _5; …; _4; …; _3; …; _2; …; _1; …; room for _0; …]
-        calls-at ! fm (StartAt 𝓤 H A mem run) known to (and-then ! (load ! (from ! (stop !)) (look ! 10 refl)) (and-then ! (load ! (from ! (stop !)) (look ! 8 refl))
-        (and-then ! (load ! (from ! (stop !)) (look ! 6 refl)) (no-more !)))) (λ u.
-        use1 W (later (some (λ (r : Begun). ((‵ (flft κ q) ⊛ ‵ ftrue) ⊛ ‵ (B.the-row .own r (u ∷ []))) ⊛ raw (ensured 𝓤 H A start-at.ended (start-at.clauses 𝓤 H A mem run) (κ, tt) a tt r))))
+        move ! (14 ∷ []) $ use1 W (raw (StartAt 𝓤 H A mem run .pre to) ⊛ (‵ Own ⊛ ‵ HOwn)) apart $ split ! $ move ! (1 ∷ []) $ split ! $ move ! (2 ∷ []) $
+        -- [what `start_at` asks; what the run owns; what the history owns; _6; …; _5; …; _4; …; _3; …; _2; …; _1; …; room for _0; …]
+        calls-at ! fm (StartAt 𝓤 H A mem run) known to (and-then ! (load ! (from ! (stop !)) (look ! 13 refl)) (and-then ! (load ! (from ! (stop !)) (look ! 11 refl))
+        (and-then ! (load ! (from ! (stop !)) (look ! 9 refl)) (and-then ! (load ! (from ! (stop !)) (look ! 7 refl)) (no-more !))))) (λ u.
+        use1 W (later (some (λ (r : Begun). (Tok ⊛ ‵ (B.the-row .own r (u ∷ []))) ⊛ raw (ensured 𝓤 H A start-at.ended (start-at.clauses 𝓤 H A mem run) (κ₀, (κ₁, tt)) a tt r))))
         (id⊢ 𝓤 _) $ await ! tt $ pick ! (λ r.
-        split ! $ move ! (1 ∷ []) $ use1 W (raw (fact 𝓤 (r ≡ startAt (now s) x t))) (said r) $ heard ! (r ≡ startAt (now s) x t) (λ e. split ! $ move ! (1 ∷ []) $
+        split ! $ move ! (1 ∷ []) $ use1 W (raw (fact 𝓤 (r ≡ startAt (now s) (now h) x t))) (said r) $ heard ! (r ≡ startAt (now s) (now h) x t) (λ e. split ! $ move ! (1 ∷ []) $
         facts ! B.the-row (Is B.the-row) (shows 𝓤 H A B.the-row) r (u ∷ []) (λ isu.
-        -- [the token; what the run owns; _5; …]
-        land ! (from ! (stop !)) (init ! 4 refl (LL.lawful B.the-type B′.the-laws 𝓤 H A W .typed r _ isu .0)) $
-        rewrite ! 4 (λ (w : Val). ‵ (fat fullShare B′.mir l₄ 0 w)) (ap only (LL.tells B.the-type B′.the-laws r (u ∷ []) isu)) refl $
+        -- [the tokens; what the run owns; what the history owns; _6; …]
+        land ! (from ! (stop !)) (init ! 5 refl (LL.lawful B.the-type B′.the-laws 𝓤 H A W .typed r _ isu .0)) $
+        rewrite ! 5 (λ (w : Val). ‵ (fat fullShare B′.mir l₅ 0 w)) (ap only (LL.tells B.the-type B′.the-laws r (u ∷ []) isu)) refl $
         let is = subst (Is B.the-row r) (LL.tells B.the-type B′.the-laws r (u ∷ []) isu) isu in
         let wt = LL.lawful B.the-type B′.the-laws 𝓤 H A W .typed r _ is .0 in
-        assigns ! (agg ! (and-then ! (load ! (from ! (stop !)) (look ! 10 refl)) (and-then ! (load ! (from ! (fld ! refl (stop !))) (look-in ! 4 (sub ! 0 refl (whole !))))
-        (and-then ! (load ! (from ! (fld ! refl (stop !))) (look-in ! 4 (sub ! 1 refl (whole !))))
-        (and-then ! (load ! (from ! (fld ! refl (stop !))) (look-in ! 4 (sub ! 2 refl (whole !)))) (no-more !))))))
-        (from ! (stop !)) (init ! 2 refl (tt, ((tt, (record { fits = room .0 }, tt)), (wt .1 .0, (wt .1 .1 .0, (wt .1 .1 .1 .0, tt)))))) $
-        assigns ! (agg ! (and-then ! (load ! (from ! (stop !)) (look ! 2 refl))
-        (and-then ! (load ! (from ! (fld ! refl (stop !))) (look-in ! 4 (sub ! 3 refl (whole !)))) (no-more !)))) (from ! (stop !))
-        (init ! 12 refl (wt .0, (((tt, (record { fits = room .0 }, tt)), (wt .1 .0, (wt .1 .1 .0, (wt .1 .1 .1 .0, tt)))), (wt .1 .1 .1 .1 .0, tt)))) $
-        returns ! (look ! 12 refl) $ forget ! 2 refl $ forget ! 4 refl $ forget ! 6 refl $ forget ! 8 refl $ forget ! 10 refl $ forget ! 12 refl $
-        move ! (12 ∷ 13 ∷ []) $ free1 ! $ move ! (10 ∷ 11 ∷ []) $ free1 ! $ move ! (8 ∷ 9 ∷ []) $ free1 ! $ move ! (6 ∷ 7 ∷ []) $ free1 ! $ move ! (4 ∷ 5 ∷ []) $ free1 ! $ move ! (2 ∷ 3 ∷ []) $
-        free1 ! $ free0 ! $ by ! (exits r is e)))))))))))
+        assigns ! (agg ! (and-then ! (load ! (from ! (stop !)) (look ! 13 refl)) (and-then ! (load ! (from ! (fld ! refl (stop !))) (look-in ! 5 (sub ! 0 refl (whole !))))
+        (and-then ! (load ! (from ! (fld ! refl (stop !))) (look-in ! 5 (sub ! 1 refl (whole !))))
+        (and-then ! (load ! (from ! (fld ! refl (stop !))) (look-in ! 5 (sub ! 2 refl (whole !)))) (no-more !))))))
+        (from ! (stop !)) (init ! 3 refl (tt, ((tt, (record { fits = room .0 }, tt)), (wt .1 .0, (wt .1 .1 .0, (wt .1 .1 .1 .0, tt)))))) $
+        assigns ! (agg ! (and-then ! (load ! (from ! (stop !)) (look ! 3 refl))
+        (and-then ! (load ! (from ! (fld ! refl (stop !))) (look-in ! 5 (sub ! 3 refl (whole !)))) (no-more !)))) (from ! (stop !))
+        (init ! 15 refl (wt .0, (((tt, (record { fits = room .0 }, tt)), (wt .1 .0, (wt .1 .1 .0, (wt .1 .1 .1 .0, tt)))), (wt .1 .1 .1 .1 .0, tt)))) $
+        returns ! (look ! 15 refl) $ forget ! 3 refl $ forget ! 5 refl $ forget ! 7 refl $ forget ! 9 refl $ forget ! 11 refl $ forget ! 13 refl $ forget ! 15 refl $
+        move ! (15 ∷ 16 ∷ []) $ free1 ! $ move ! (13 ∷ 14 ∷ []) $ free1 ! $ move ! (11 ∷ 12 ∷ []) $ free1 ! $ move ! (9 ∷ 10 ∷ []) $ free1 ! $ move ! (7 ∷ 8 ∷ []) $ free1 ! $ move ! (5 ∷ 6 ∷ []) $
+        free1 ! $ move ! (3 ∷ 4 ∷ []) $ free1 ! $ free0 ! $ by ! (exits r is e))))))))))))
 
 module _ {M : Type 1} (𝓤 : URA M) (H : Heap 𝓤) (A : Atoms 𝓤) (W : Given 𝓤 H A) (mem : Memory → SProp 𝓤) (run : Routine → Fun 𝓤) (𝓣 : Tables 𝓤 H) where
   start-walks : Triple 𝓤 (𝓣 .C #lifeline·cohort·start-at) (StartAt 𝓤 H A mem run) → Walks 𝓤 H A start.ended stayed (WpFn 𝓤 H (𝓣 .C) (𝓣 .Λ) code.function) (start.clauses 𝓤 H A mem run)
-  start-walks known = walked 𝓤 H A start.ended stayed (start.clauses 𝓤 H A mem run) (WpFn 𝓤 H (𝓣 .C) (𝓣 .Λ) code.function) (λ κs. (slice-vals, (uint-vals w32, (uint-vals w32, tt))))
-      (λ κs. (shr-slice-tells (named 0) (κs .0) u8, (uint-tells w32, (uint-tells w32, tt))))
-      (λ κs qs bounds a g are. via 𝓤 _ (fst∗ 𝓤 _ (emp 𝓤)) (walk 𝓤 H A W mem run (κs .0) (qs .0) (a .0) (a .1 .0) (a .1 .1 .0) (are .1 .0 .1)
-      (are .1 .1 .0 .1) (𝓣 .C) (𝓣 .Λ) (fmOf 𝓤 H (W .laws) 𝓣) known (are .0 .0 .1)))
+  start-walks known = walked 𝓤 H A start.ended stayed (start.clauses 𝓤 H A mem run) (WpFn 𝓤 H (𝓣 .C) (𝓣 .Λ) code.function) (λ κs. (slice-vals, (slice-vals, (uint-vals w32, (uint-vals w32, tt)))))
+      (λ κs. (shr-slice-tells (named 0) (κs .0) u8, (shr-slice-tells (named 1) (κs .1 .0) u8, (uint-tells w32, (uint-tells w32, tt)))))
+      (λ κs qs bounds a g are. via 𝓤 _ (fst∗ 𝓤 _ (emp 𝓤)) (walk 𝓤 H A W mem run (κs .0) (κs .1 .0) (qs .0) (qs .1 .0) (a .0) (a .1 .0) (a .1 .1 .0) (a .1 .1 .1 .0)
+      (are .1 .1 .0 .1) (are .1 .1 .1 .0 .1) (𝓣 .C) (𝓣 .Λ) (fmOf 𝓤 H (W .laws) 𝓣) known (are .0 .0 .1) (are .1 .0 .0 .1)))
 
   start-meets : Triple 𝓤 (𝓣 .C #lifeline·cohort·start-at) (StartAt 𝓤 H A mem run) → Meets 𝓤 H A start.signature (WpFn 𝓤 H (𝓣 .C) (𝓣 .Λ) code.function) (start.spec 𝓤 H A mem run)
   start-meets known = walk-meets 𝓤 H A start.ended stayed W (
-    goes-none-slice 𝓤 H A W 1 (0 ∷ []) tt (plain (λ _. u8)) yes,
+    goes-none-slice 𝓤 H A W 2 (0 ∷ []) tt (plain (λ _. u8)) yes,
     (
-      goes-none 𝓤 H A W 1 (λ _. u32) yes (λ κs x f. refl),
-      (goes-none 𝓤 H A W 1 (λ _. u32) yes (λ κs x f. refl), tt),
+      goes-none-slice 𝓤 H A W 2 (1 ∷ []) tt (plain (λ _. u8)) yes,
+      (goes-none 𝓤 H A W 2 (λ _. u32) yes (λ κs x f. refl), (goes-none 𝓤 H A W 2 (λ _. u32) yes (λ κs x f. refl), tt)),
     ),
   )
       (start.clauses 𝓤 H A mem run) (WpFn 𝓤 H (𝓣 .C) (𝓣 .Λ) code.function) (WpFn-mono 𝓤 H (W .laws) 𝓣 code.function) (start-walks known)
