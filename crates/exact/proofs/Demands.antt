@@ -1,5 +1,5 @@
--- Demand 3 for every data run: an answered enquiry has passed its checks, so its run is accepted and its age and years are in
--- range; the distances over the basis do the rest. Assumes nothing.
+-- Demand 3 for every data run and history: an answered enquiry has passed its checks, so these are accepted and its age and years are
+-- in range; the distances over the basis do the rest. Assumes nothing.
 use mathlib.Core.Path.{_≡_}
 use mathlib.Core.List.{List}
 use Prim.Native.Nat.{ℕ, _+_, _*_, _-_, _≤_}
@@ -7,9 +7,10 @@ use native.Mathlib.Nat.{one-mul}
 use native.Mathlib.Omega.{arith}
 use lib.IntN.{ℤ}
 use Rattle.arithmetic.proofs.Distance.{within-more}
-use Rattle.basis.specs.Basis.{basisOf, Limited}
+use Rattle.basis.specs.Basis.{Limited}
+use Rattle.history.specs.History.{basisWith, basisCheck}
+use Rattle.history.proofs.With.{limits-with}
 use Rattle.basis.specs.Outcome.{value, firstOf}
-use Rattle.run_check.specs.Run.{runCheck}
 use Rattle.basis.proofs.Outcome.{checked-value}
 use Rattle.projection.specs.Projection.{factorOf, rateOf}
 use Rattle.survivorship.specs.Survivorship.{yearOn, survivorsOf}
@@ -27,47 +28,47 @@ use Rattle.exact.proofs.Values.{expectation-within, annuity-within}
 use Rattle.exact.proofs.Largest.{largest-most}
 
 -- an answered annuity, w times the distances
-annuity-answered : (run : List ℕ) (w : ℕ) → 1 ≤ w → (Limited (basisOf run) → (j : ℕ) → j ≤ 130 → Discounted (basisOf run) w j) →
-    (kind : Kind) (age deferment year : ℕ) (a : ℤ) → annuityEnquiry run kind age deferment year ≡ value a →
+annuity-answered : (run history : List ℕ) (w : ℕ) → 1 ≤ w → (Limited (basisWith run history) → (j : ℕ) → j ≤ 130 → Discounted (basisWith run history) w j) →
+    (kind : Kind) (age deferment year : ℕ) (a : ℤ) → annuityEnquiry run history kind age deferment year ≡ value a →
     let N = 150 - age in
-    let K = largestYears (basisOf run) kind year N in
-    ImprovingOver (basisOf run) kind age year N →
-    WithinQuarters a (exactAnnuity (basisOf run) kind age year deferment) (w * ((N + 1) * (3 * N * (K + 1) + 2)))
+    let K = largestYears (basisWith run history) kind year N in
+    ImprovingOver (basisWith run history) kind age year N →
+    WithinQuarters a (exactAnnuity (basisWith run history) kind age year deferment) (w * ((N + 1) * (3 * N * (K + 1) + 2)))
 unfolding annuityEnquiry
-annuity-answered run w once worth kind age deferment year a answered improving =
-    let b = basisOf run in
+annuity-answered run history w once worth kind age deferment year a answered improving =
+    let b = basisWith run history in
     let N = 150 - age in
-    let h = checked-value (valuationCheck run age deferment year) (annuityOf b kind age year deferment) a answered in
-    let p = valuation-passed run age deferment year (h .0) in
-    annuity-within b kind age year deferment (largestYears b kind year N) (p .0 .limits) (p .1) (p .2) improving
-    (largest-most (λ j. yearsTo b (yearOn kind year j)) N) w once (worth (p .0 .limits)) a (h .1)
+    let h = checked-value (valuationCheck run history age deferment year) (annuityOf b kind age year deferment) a answered in
+    let p = valuation-passed run history age deferment year (h .0) in
+    annuity-within b kind age year deferment (largestYears b kind year N) (limits-with (p .0)) (p .1) (p .2) improving
+    (largest-most (λ j. yearsTo b (yearOn kind year j)) N) w once (worth (limits-with (p .0))) a (h .1)
 
-pub demand-3 : (run : List ℕ) → Demand3 run
+pub demand-3 : (run history : List ℕ) → Demand3 run history
 unfolding factorEnquiry rateEnquiry survivorshipEnquiry expectationEnquiry
-demand-3 run =
-    let b = basisOf run in
+demand-3 run history =
+    let b = basisWith run history in
     record {
       factor = λ age year f answered improving.
-          let h = checked-value (firstOf (runCheck run) (cellCheck (b .base) age year)) (factorOf b age year) f answered in
-          let p = cell-passed run (b .base) age year (h .0) in
-          factor-within b age year (p .0 .limits) (p .1) (p .2) improving f (h .1);
+          let h = checked-value (firstOf (basisCheck run history) (cellCheck (b .base) age year)) (factorOf b age year) f answered in
+          let p = cell-passed run history (b .base) age year (h .0) in
+          factor-within b age year (limits-with (p .0)) (p .1) (p .2) improving f (h .1);
       rate = λ age year q answered improving.
-          let h = checked-value (firstOf (runCheck run) (cellCheck (b .base) age year)) (rateOf b age year) q answered in
-          let p = cell-passed run (b .base) age year (h .0) in
-          rate-within b age year (p .0 .limits) (p .1) (p .2) improving q (h .1);
+          let h = checked-value (firstOf (basisCheck run history) (cellCheck (b .base) age year)) (rateOf b age year) q answered in
+          let p = cell-passed run history (b .base) age year (h .0) in
+          rate-within b age year (limits-with (p .0)) (p .1) (p .2) improving q (h .1);
       survivorship = λ kind age n year s answered improving.
-          let h = checked-value (valuationCheck run age n year) (survivorsOf b kind age year n) s answered in
-          let p = valuation-passed run age n year (h .0) in
+          let h = checked-value (valuationCheck run history age n year) (survivorsOf b kind age year n) s answered in
+          let p = valuation-passed run history age n year (h .0) in
           let K = largestYears b kind year n in
-          within-more (survived b kind age year K n (p .0 .limits) (p .1) (p .2) improving (largest-most (λ j. yearsTo b (yearOn kind year j)) n) s (h .1) .near) (omega arith);
+          within-more (survived b kind age year K n (limits-with (p .0)) (p .1) (p .2) improving (largest-most (λ j. yearsTo b (yearOn kind year j)) n) s (h .1) .near) (omega arith);
       expectation = λ kind age deferment year e answered improving.
-          let h = checked-value (valuationCheck run age deferment year) (expectationOf b kind age year deferment) e answered in
-          let p = valuation-passed run age deferment year (h .0) in
+          let h = checked-value (valuationCheck run history age deferment year) (expectationOf b kind age year deferment) e answered in
+          let p = valuation-passed run history age deferment year (h .0) in
           let N = 150 - age - deferment in
-          expectation-within b kind age year deferment (largestYears b kind (year + deferment) N) (p .0 .limits) (p .1) (p .2) improving
+          expectation-within b kind age year deferment (largestYears b kind (year + deferment) N) (limits-with (p .0)) (p .1) (p .2) improving
           (largest-most (λ j. yearsTo b (yearOn kind (year + deferment) j)) N) e (h .1);
       annuity = λ sign kind age deferment year a answered improving.
-          rw one-mul at (annuity-answered run 1 (omega arith) (λ limits. discounted b limits sign) kind age deferment year a answered improving);
+          rw one-mul at (annuity-answered run history 1 (omega arith) (λ limits. discounted b limits sign) kind age deferment year a answered improving);
       annuityBelowZero = λ sign kind age deferment year a answered improving.
-          annuity-answered run 4 (omega arith) (λ limits. discounted-below-zero b limits sign) kind age deferment year a answered improving;
+          annuity-answered run history 4 (omega arith) (λ limits. discounted-below-zero b limits sign) kind age deferment year a answered improving;
     }

@@ -46,7 +46,7 @@ module _ (b : Basis) (age year : ℕ) (limits : Limited b) (low : 20 ≤ age) (h
       let late = held-late year in
       rw (y .1)
       (factored-next b age k a (limits .byAge age low high)
-      (limits .byBirthYear (t - age) (omega (arith, limits .foundation-low, limits .base-low)) (omega arith))
+      (limits .byBirthYear (t - age) (omega (arith, limits .base-low)) (omega arith))
       (improving t (omega arith) (omega arith)) (usable-abs (improvementOf b age t) (y .0)) c))
       f h
 

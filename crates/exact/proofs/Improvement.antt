@@ -10,14 +10,14 @@ use lib.IntN.{ℤ, pos, natAbs, _-ℤ_, _*ℤ_}
 use lib.Signed.{_≤ℤ_}
 use Rattle.arithmetic.specs.Fraction.{Fraction, Within, whole, _*ᶠ_, U}
 use Rattle.arithmetic.proofs.Difference.{_⊖_, parts, ring, up, dn, ⊖-eq, ⊖-abs, abs-⊖, ≤-⊖}
-use Rattle.arithmetic.proofs.Distance.{within-whole, within-round, within-sum}
+use Rattle.arithmetic.proofs.Distance.{within-whole, within-more, within-round, within-sum}
 use Rattle.arithmetic.proofs.Above.{Above, above-round, above-sum, sum-above, above-natural}
 use Rattle.arithmetic.proofs.UnitRange.{InUnit}
 use Rattle.basis.specs.Basis.{Basis}
 use Rattle.basis.specs.declared.Convergence.{Convergence}
 use Rattle.component.specs.Component.{weightOf, componentOf}
-use Rattle.improvement.specs.Improvement.{additionOf, improvementOf}
-use Rattle.exact.specs.Model.{exactComponent, exactImprovement}
+use Rattle.improvement.specs.Improvement.{additionOf, projectedOf, isActual, improvementOf}
+use Rattle.exact.specs.Model.{exactComponent, exactProjected, exactImprovement}
 use Rattle.exact.specs.Distance.{NotBelowZero}
 
 -- ---- the component
@@ -40,22 +40,36 @@ module _ (c : Convergence) (n : ℕ) (h : 1 ≤ c .period) where
   unfolding componentOf exactComponent
   component-above = sum-above (within-whole (c .long)) (above-round (whole (c .initial -ℤ c .long) *ᶠ weightOf (c .period) (c .remaining) n) weighted-proper)
 
--- ---- the improvement
+-- ---- the improvement: the projection's, and an actual one, which is exact
 module _ (b : Basis) (age year : ℕ) (h : 1 ≤ b .byAge age .period) (k : 1 ≤ b .byBirthYear (year - age) .period) where
-  pub improvement-within : Within (improvementOf b age year) (exactImprovement b age year) 2
-  unfolding improvementOf exactImprovement
-  improvement-within =
+  projected-within : Within (projectedOf b age year) (exactProjected b age year) 2
+  unfolding projectedOf exactProjected
+  projected-within =
       let n = year - b .foundation in
       within-sum (within-sum (component-within (b .byAge age) n h) (component-within (b .byBirthYear (year - age)) n k)) (within-whole (additionOf b year))
 
-  improvement-above : Above (improvementOf b age year) (exactImprovement b age year) 2
-  unfolding improvementOf exactImprovement
-  improvement-above =
+  projected-above : Above (projectedOf b age year) (exactProjected b age year) 2
+  unfolding projectedOf exactProjected
+  projected-above =
       let n = year - b .foundation in
       above-sum (above-sum (component-above (b .byAge age) n h) (component-within (b .byBirthYear (year - age)) n k)) (within-whole (additionOf b year))
 
+  pub improvement-within : Within (improvementOf b age year) (exactImprovement b age year) 2
+  unfolding improvementOf exactImprovement
+  improvement-within = by (isActual b year)
+    where
+      by : (t : Bool) → Within (cond t (b .actual age year) (projectedOf b age year)) (cond t (whole (b .actual age year)) (exactProjected b age year)) 2
+      by true = within-more (within-whole (b .actual age year)) (omega arith)
+      by false = projected-within
+
   pub improvement-natural : NotBelowZero (exactImprovement b age year) → pos 0 ≤ℤ improvementOf b age year
-  improvement-natural e = above-natural improvement-above e
+  unfolding improvementOf exactImprovement
+  improvement-natural e = by (isActual b year) e
+    where
+      by : (t : Bool) → NotBelowZero (cond t (whole (b .actual age year)) (exactProjected b age year))
+          → pos 0 ≤ℤ cond t (b .actual age year) (projectedOf b age year)
+      by true e = e
+      by false e = above-natural projected-above e
 
 -- ---- what is left of U
 -- after a number from 0 to u

@@ -1,4 +1,4 @@
--- The distances of demand 3 (01, "Distances from the exact model"): for every data run, of every enquiry that is answered.
+-- The distances of demand 3 (01, "Distances from the exact model"): for every data run and history, of every enquiry that is answered.
 use mathlib.Core.Path.{_≡_}
 use mathlib.Core.Bool.{cond}
 use mathlib.Core.List.{List}
@@ -7,7 +7,8 @@ use lib.Dec.{ltb}
 use lib.IntN.{ℤ, pos, natAbs, _-ℤ_, _*ℤ_}
 use lib.Signed.{_≤ℤ_, _<ℤ_}
 use Rattle.arithmetic.specs.Fraction.{Fraction, Within}
-use Rattle.basis.specs.Basis.{Basis, basisOf}
+use Rattle.basis.specs.Basis.{Basis}
+use Rattle.history.specs.History.{basisWith}
 use Rattle.basis.specs.Outcome.{value}
 use Rattle.projection.specs.Projection.{heldYear}
 use Rattle.survivorship.specs.Survivorship.{yearOn}
@@ -19,7 +20,7 @@ use Rattle.exact.specs.Model.{exactImprovement, yearsTo, exactFactor, ex
 abbrev pub NotBelowZero : Fraction → Type 0
 NotBelowZero q = pos 0 ≤ℤ q .num
 
--- those that enter the exact factor at an age in a year: from B + 1 to the year, at most to 2130
+-- those that enter the exact factor at an age in a year: from B + 1 to the year, at most to 2130, the actual ones among them
 abbrev pub Improving : Basis → ℕ → ℕ → Type 0
 Improving b age year = (t : ℕ) → b .base < t → t ≤ heldYear year → NotBelowZero (exactImprovement b age t)
 
@@ -42,34 +43,34 @@ pub record WithinQuarters (v : ℤ) (q : Fraction) (m : ℕ) : Type 0 where
   pub near : 4 * natAbs (v *ℤ pos (q .den) -ℤ q .num) ≤ m * q .den
 
 -- ---- Demand 3: where the engine answers, with no exact improvement taken below zero
-pub record Demand3 (run : List ℕ) : Type 0 where
+pub record Demand3 (run history : List ℕ) : Type 0 where
   -- factor 2d ≤ 3k
-  pub factor : (age year : ℕ) (f : ℤ) → factorEnquiry run age year ≡ value f → Improving (basisOf run) age year →
-      Within f (exactFactor (basisOf run) age year) (3 * yearsTo (basisOf run) year)
+  pub factor : (age year : ℕ) (f : ℤ) → factorEnquiry run history age year ≡ value f → Improving (basisWith run history) age year →
+      Within f (exactFactor (basisWith run history) age year) (3 * yearsTo (basisWith run history) year)
   -- rate 2d ≤ 3k + 1
-  pub rate : (age year : ℕ) (q : ℤ) → rateEnquiry run age year ≡ value q → Improving (basisOf run) age year →
-      Within q (exactRate (basisOf run) age year) (3 * yearsTo (basisOf run) year + 1)
+  pub rate : (age year : ℕ) (q : ℤ) → rateEnquiry run history age year ≡ value q → Improving (basisWith run history) age year →
+      Within q (exactRate (basisWith run history) age year) (3 * yearsTo (basisWith run history) year + 1)
   -- survivorship after n years 2d ≤ n(3K + 2)
-  pub survivorship : (kind : Kind) (age n year : ℕ) (s : ℤ) → survivorshipEnquiry run kind age n year ≡ value s → ImprovingOver (basisOf run) kind age year n →
-      let K = largestYears (basisOf run) kind year n in
-      Within s (exactSurvivors (basisOf run) kind age year n) (n * (3 * K + 2))
+  pub survivorship : (kind : Kind) (age n year : ℕ) (s : ℤ) → survivorshipEnquiry run history kind age n year ≡ value s → ImprovingOver (basisWith run history) kind age year n →
+      let K = largestYears (basisWith run history) kind year n in
+      Within s (exactSurvivors (basisWith run history) kind age year n) (n * (3 * K + 2))
   -- expectation 4d ≤ N(N + 1)(3K + 2), N = 150 − age − deferment
-  pub expectation : (kind : Kind) (age deferment year : ℕ) (e : ℤ) → expectationEnquiry run kind age deferment year ≡ value e →
+  pub expectation : (kind : Kind) (age deferment year : ℕ) (e : ℤ) → expectationEnquiry run history kind age deferment year ≡ value e →
       let N = 150 - age - deferment in
-      let K = largestYears (basisOf run) kind (year + deferment) N in
-      ImprovingOver (basisOf run) kind (age + deferment) (year + deferment) N →
-      WithinQuarters e (exactExpectation (basisOf run) kind age year deferment) (N * (N + 1) * (3 * K + 2))
+      let K = largestYears (basisWith run history) kind (year + deferment) N in
+      ImprovingOver (basisWith run history) kind (age + deferment) (year + deferment) N →
+      WithinQuarters e (exactExpectation (basisWith run history) kind age year deferment) (N * (N + 1) * (3 * K + 2))
   -- annuity 4d ≤ (N + 1)(3N(K + 1) + 2), N = 150 − age, where the rate of discount is not below zero
-  pub annuity : pos 0 ≤ℤ basisOf run .discount →
-      (kind : Kind) (age deferment year : ℕ) (a : ℤ) → annuityEnquiry run kind age deferment year ≡ value a →
+  pub annuity : pos 0 ≤ℤ basisWith run history .discount →
+      (kind : Kind) (age deferment year : ℕ) (a : ℤ) → annuityEnquiry run history kind age deferment year ≡ value a →
       let N = 150 - age in
-      let K = largestYears (basisOf run) kind year N in
-      ImprovingOver (basisOf run) kind age year N →
-      WithinQuarters a (exactAnnuity (basisOf run) kind age year deferment) ((N + 1) * (3 * N * (K + 1) + 2))
+      let K = largestYears (basisWith run history) kind year N in
+      ImprovingOver (basisWith run history) kind age year N →
+      WithinQuarters a (exactAnnuity (basisWith run history) kind age year deferment) ((N + 1) * (3 * N * (K + 1) + 2))
   -- where it is below zero, at most four times that (02, change 1)
-  pub annuityBelowZero : basisOf run .discount <ℤ pos 0 →
-      (kind : Kind) (age deferment year : ℕ) (a : ℤ) → annuityEnquiry run kind age deferment year ≡ value a →
+  pub annuityBelowZero : basisWith run history .discount <ℤ pos 0 →
+      (kind : Kind) (age deferment year : ℕ) (a : ℤ) → annuityEnquiry run history kind age deferment year ≡ value a →
       let N = 150 - age in
-      let K = largestYears (basisOf run) kind year N in
-      ImprovingOver (basisOf run) kind age year N →
-      WithinQuarters a (exactAnnuity (basisOf run) kind age year deferment) (4 * ((N + 1) * (3 * N * (K + 1) + 2)))
+      let K = largestYears (basisWith run history) kind year N in
+      ImprovingOver (basisWith run history) kind age year N →
+      WithinQuarters a (exactAnnuity (basisWith run history) kind age year deferment) (4 * ((N + 1) * (3 * N * (K + 1) + 2)))
