@@ -1,10 +1,10 @@
-// A text that comes in parts, answered line by line on an accepted data run. The caller gives room for 192 bytes of
+// A text that comes in parts, answered line by line on an accepted data run and its history. The caller gives room for 192 bytes of
 // reply to each byte of a part: an empty line is one byte.
 ghost use mathlib.Core.Path.{_≡_};
 ghost use mathlib.Core.List.{[], _∷_};
 ghost use Prim.Native.Nat.{_+_, _*_, _≤_, _<_};
 ghost use lib.ListN.{length, take};
-ghost use Rattle.basis.specs.Basis.{basisOf, Accepted};
+ghost use Rattle.history.specs.History.{basisWith, AcceptedWith};
 ghost use Rattle.enquiry_text.specs.Line.{lineOf};
 ghost use Rattle.reply_text.specs.Inner.Put.{Put};
 ghost use Rattle.enquiry_lines.specs.Lines.{ended, unfinished, lastLine, replyTo, replies};
@@ -17,15 +17,22 @@ use enquiry_text::parse;
 use reply_text::reply;
 
 // The reply to a line by its number from 1.
-fn put_line(run: &[u8], out: &mut [u8], at: usize, number: u64, text: &[u8]) -> usize
-    requires { ⌜ Accepted (now run) ⌝ }
+fn put_line(
+    run: &[u8],
+    history: &[u8],
+    out: &mut [u8],
+    at: usize,
+    number: u64,
+    text: &[u8],
+) -> usize
+    requires { ⌜ AcceptedWith (now run) (now history) ⌝ }
     requires { ⌜ at + 192 ≤ length (now out) ⌝ }
-    ensures { λ r. ⌜ Put (now (out .entry)) at (replyTo (basisOf (now (run .entry))) number (lineOf (now (text .entry)))) (now (out .exit)) r ⌝ }
+    ensures { λ r. ⌜ Put (now (out .entry)) at (replyTo (basisWith (now (run .entry)) (now (history .entry))) number (lineOf (now (text .entry)))) (now (out .exit)) r ⌝ }
     ensures { λ r. ⌜ r ≤ at + 192 ⌝ }
 {
     match parse::parse_line(text) {
         Line::Enquiry(q) => {
-            let a = model_points::point_at(run, q);
+            let a = model_points::point_at(run, history, q);
             reply::put_reply(out, at, q, a)
         }
         Line::Malformed => {
@@ -40,20 +47,20 @@ fn put_line(run: &[u8], out: &mut [u8], at: usize, number: u64, text: &[u8]) -> 
 }
 
 // Takes one byte.
-fn feed_byte(run: &[u8], s: Pending, b: u8, out: &mut [u8], at: usize) -> Fed
-    requires { ⌜ Accepted (now run) ⌝ }
+fn feed_byte(run: &[u8], history: &[u8], s: Pending, b: u8, out: &mut [u8], at: usize) -> Fed
+    requires { ⌜ AcceptedWith (now run) (now history) ⌝ }
     requires { ⌜ at + 192 ≤ length (now out) ⌝ }
     requires { ⌜ Sound s ⌝ }
     requires { ⌜ s .complete + 1 < 18446744073709551616 ⌝ }
     ensures { λ r. ⌜ kept (r .pending) ≡ take 16 (unfinished (kept s) (b ∷ [])) ⌝ }
     ensures { λ r. ⌜ r .pending .complete ≡ s .complete + length (ended (kept s) (b ∷ [])) ⌝ }
-    ensures { λ r. ⌜ Put (now (out .entry)) at (replies (basisOf (now (run .entry))) (s .complete + 1) (ended (kept s) (b ∷ []))) (now (out .exit)) (r .at) ⌝ }
+    ensures { λ r. ⌜ Put (now (out .entry)) at (replies (basisWith (now (run .entry)) (now (history .entry))) (s .complete + 1) (ended (kept s) (b ∷ []))) (now (out .exit)) (r .at) ⌝ }
     ensures { λ r. ⌜ (Sound (r .pending)) × (r .at ≤ at + 192) ⌝ }
 {
     let len = s.len;
     let mut bytes = s.bytes;
     if b == b'\n' {
-        let next = put_line(run, out, at, s.complete + 1, &bytes[..len]);
+        let next = put_line(run, history, out, at, s.complete + 1, &bytes[..len]);
         return Fed {
             pending: Pending {
                 bytes: bytes,
@@ -91,21 +98,21 @@ pub fn begin() -> Pending
 }
 
 // Takes a part of the input, and puts the replies to the lines that end in it at the start of `out`.
-pub fn feed(run: &[u8], s: Pending, part: &[u8], out: &mut [u8]) -> Fed
-    requires { ⌜ Accepted (now run) ⌝ }
+pub fn feed(run: &[u8], history: &[u8], s: Pending, part: &[u8], out: &mut [u8]) -> Fed
+    requires { ⌜ AcceptedWith (now run) (now history) ⌝ }
     requires { ⌜ 192 * length (now part) ≤ length (now out) ⌝ }
     requires { ⌜ Sound s ⌝ }
     requires { ⌜ s .complete + length (now part) < 18446744073709551616 ⌝ }
     ensures { λ r. ⌜ kept (r .pending) ≡ take 16 (unfinished (kept s) (now (part .entry))) ⌝ }
     ensures { λ r. ⌜ r .pending .complete ≡ s .complete + length (ended (kept s) (now (part .entry))) ⌝ }
-    ensures { λ r. ⌜ Put (now (out .entry)) 0 (replies (basisOf (now (run .entry))) (s .complete + 1) (ended (kept s) (now (part .entry)))) (now (out .exit)) (r .at) ⌝ }
+    ensures { λ r. ⌜ Put (now (out .entry)) 0 (replies (basisWith (now (run .entry)) (now (history .entry))) (s .complete + 1) (ended (kept s) (now (part .entry)))) (now (out .exit)) (r .at) ⌝ }
     ensures { λ r. ⌜ (Sound (r .pending)) × (r .at ≤ 192 * length (now (part .entry))) × (r .pending .complete ≤ s .complete + length (now (part .entry))) ⌝ }
 {
     let mut pending = s;
     let mut at: usize = 0;
     let mut i: usize = 0;
     while i < part.len() {
-        let f = feed_byte(run, pending, part[i], out, at);
+        let f = feed_byte(run, history, pending, part[i], out, at);
         let next = f.pending;
         pending = next;
         at = f.at;
@@ -118,17 +125,17 @@ pub fn feed(run: &[u8], s: Pending, part: &[u8], out: &mut [u8]) -> Fed
 }
 
 // The end of the input: an unfinished line is a line.
-pub fn finish(run: &[u8], s: Pending, out: &mut [u8]) -> usize
-    requires { ⌜ Accepted (now run) ⌝ }
+pub fn finish(run: &[u8], history: &[u8], s: Pending, out: &mut [u8]) -> usize
+    requires { ⌜ AcceptedWith (now run) (now history) ⌝ }
     requires { ⌜ 192 ≤ length (now out) ⌝ }
     requires { ⌜ Sound s ⌝ }
     requires { ⌜ s .complete + 1 < 18446744073709551616 ⌝ }
-    ensures { λ r. ⌜ Put (now (out .entry)) 0 (replies (basisOf (now (run .entry))) (s .complete + 1) (lastLine (kept s))) (now (out .exit)) r ⌝ }
+    ensures { λ r. ⌜ Put (now (out .entry)) 0 (replies (basisWith (now (run .entry)) (now (history .entry))) (s .complete + 1) (lastLine (kept s))) (now (out .exit)) r ⌝ }
 {
     let len = s.len;
     if len == 0 {
         return 0;
     }
     let bytes = s.bytes;
-    put_line(run, out, 0, s.complete + 1, &bytes[..len])
+    put_line(run, history, out, 0, s.complete + 1, &bytes[..len])
 }

@@ -1,9 +1,9 @@
-// The points program: answers the lines of standard input by the basis in basis.bin, on standard output. It moves
-// bytes; what they mean is enquiry_lines' to say.
+// The points program: answers the lines of standard input by the basis in basis.bin and the history in history.bin, on
+// standard output. It moves bytes; what they mean is enquiry_lines' to say.
 ghost use mathlib.Core.Path.{_≡_};
 ghost use Prim.Native.Nat.{_+_, _*_, _≤_};
 ghost use lib.ListN.{length};
-ghost use Rattle.basis.specs.Basis.{Accepted};
+ghost use Rattle.history.specs.History.{AcceptedWith};
 ghost use Rattle.io.specs.Counts.{Counts};
 ghost use Rattle.enquiry_lines.specs.Inner.State.{Sound};
 use basis::Check;
@@ -27,6 +27,13 @@ fn file_room() -> [u8; 4609]
     [0; 4609]
 }
 
+// One byte longer than the longest history, of 88 years, for the same reason.
+fn history_room() -> [u8; 90113]
+    ensures { λ r. ⌜ 90113 ≡ length r ⌝ }
+{
+    [0; 90113]
+}
+
 fn run_room() -> [u8; 4554]
     ensures { λ r. ⌜ 4554 ≡ length r ⌝ }
 {
@@ -40,11 +47,11 @@ fn reply_room() -> [u8; 786432]
     [0; 786432]
 }
 
-// How many bytes of basis.bin stand at the start of `file`; a missing file has none.
-fn read_basis(file: &mut [u8]) -> usize
+// How many bytes of a file stand at the start of `file`; a missing file has none.
+fn read_named(name: &[u8], file: &mut [u8]) -> usize
     ensures { λ r. ⌜ Counts r (now (file .exit)) ⌝ }
 {
-    let fd = os::open_read(b"basis.bin");
+    let fd = os::open_read(name);
     if fd < 0 {
         return 0;
     }
@@ -55,15 +62,22 @@ fn read_basis(file: &mut [u8]) -> usize
 
 // Reads a block and answers the lines that end in it; `blocks` more can follow. The last block is empty, or one whose
 // replies are not taken.
-fn answer_block(run: &[u8], s: Pending, part: &mut [u8], out: &mut [u8], blocks: u64) -> Turn
-    requires { ⌜ Accepted (now run) ⌝ }
+fn answer_block(
+    run: &[u8],
+    history: &[u8],
+    s: Pending,
+    part: &mut [u8],
+    out: &mut [u8],
+    blocks: u64,
+) -> Turn
+    requires { ⌜ AcceptedWith (now run) (now history) ⌝ }
     requires { ⌜ (length (now part) ≤ 4096) × (786432 ≤ length (now out)) ⌝ }
     requires { ⌜ (Sound s) × (s .complete + 4096 * (blocks + 1) ≤ 4096000000000000000) ⌝ }
     ensures { λ r. ⌜ (Sound (r .pending)) × (r .pending .complete + 4096 * blocks ≤ 4096000000000000000) ⌝ }
 {
     let got = libc::read(STDIN_FILENO, part);
     let n = io::count(got, part);
-    let f = lines::feed(run, s, &part[..n], out);
+    let f = lines::feed(run, history, s, &part[..n], out);
     let at = f.at;
     let is_written = io::write_all(STDOUT_FILENO, &out[..at]);
     let pending = f.pending;
@@ -75,8 +89,8 @@ fn answer_block(run: &[u8], s: Pending, part: &mut [u8], out: &mut [u8], blocks:
 }
 
 // Nothing says that the input ends, so the blocks are counted down from a number that no run uses up.
-fn answer_blocks(run: &[u8], part: &mut [u8], out: &mut [u8]) -> Turn
-    requires { ⌜ Accepted (now run) ⌝ }
+fn answer_blocks(run: &[u8], history: &[u8], part: &mut [u8], out: &mut [u8]) -> Turn
+    requires { ⌜ AcceptedWith (now run) (now history) ⌝ }
     requires { ⌜ (length (now part) ≤ 4096) × (786432 ≤ length (now out)) ⌝ }
     ensures { λ r. ⌜ (Sound (r .pending)) × (r .pending .complete ≤ 4096000000000000000) ⌝ }
 {
@@ -85,7 +99,7 @@ fn answer_blocks(run: &[u8], part: &mut [u8], out: &mut [u8]) -> Turn
     let mut blocks: u64 = 1_000_000_000_000_000;
     while 0 < blocks {
         blocks -= 1;
-        let t = answer_block(run, pending, part, out, blocks);
+        let t = answer_block(run, history, pending, part, out, blocks);
         let next = t.pending;
         pending = next;
         is_written = t.is_written;
@@ -101,24 +115,26 @@ fn answer_blocks(run: &[u8], part: &mut [u8], out: &mut [u8]) -> Turn
 }
 
 // All of standard input: its blocks, then a last line that lacks its byte 10.
-fn answer_input(run: &[u8], part: &mut [u8], out: &mut [u8])
-    requires { ⌜ Accepted (now run) ⌝ }
+fn answer_input(run: &[u8], history: &[u8], part: &mut [u8], out: &mut [u8])
+    requires { ⌜ AcceptedWith (now run) (now history) ⌝ }
     requires { ⌜ (length (now part) ≤ 4096) × (786432 ≤ length (now out)) ⌝ }
 {
-    let t = answer_blocks(run, part, out);
+    let t = answer_blocks(run, history, part, out);
     if !t.is_written {
         return;
     }
-    let at = lines::finish(run, t.pending, out);
+    let at = lines::finish(run, history, t.pending, out);
     io::write_all(STDOUT_FILENO, &out[..at]);
 }
 
 fn main() {
     let mut file = file_room();
+    let mut history = history_room();
     let mut run = run_room();
     let mut out = reply_room();
-    let n = read_basis(&mut file);
-    let o = open_basis::open_file(&file[..n], &mut run, &mut out);
+    let n = read_named(b"basis.bin", &mut file);
+    let m = read_named(b"history.bin", &mut history);
+    let o = open_basis::open_files(&file[..n], &history[..m], &mut run, &mut out);
     let at = o.at;
     let is_written = io::write_all(STDOUT_FILENO, &out[..at]);
     let check = o.check;
@@ -127,6 +143,6 @@ fn main() {
     };
     if is_written {
         let mut part = io::buffer();
-        answer_input(&run, &mut part, &mut out);
+        answer_input(&run, &history[..m], &mut part, &mut out);
     }
 }

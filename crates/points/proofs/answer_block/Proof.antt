@@ -19,7 +19,8 @@ slice-aggregate-feed : tie.Need-slice-aggregate-feed
 slice-aggregate-feed c = search needs
 
 feed-requires : tie.Need-feed-requires
-feed-requires c κs = search needs
+feed-requires c κs = let s = c .before .before .before .before .before .before .before .before .before .before .before .before in
+    (s .pre .0, (search needs, (s .pre .1 .1 .0, search needs)))
 
 slice-reshare-prefix-write-all : tie.Need-slice-reshare-prefix-write-all
 slice-reshare-prefix-write-all c = search needs
@@ -27,7 +28,7 @@ slice-reshare-prefix-write-all c = search needs
 slice-aggregate-write-all : tie.Need-slice-aggregate-write-all
 slice-aggregate-write-all c = let f = c .before .before .before .feed in
     let p = f .ensures .1 .1 .0 in
-    sym (length-take-le (f .result .at) (f .last .1 .1 .1 .0) (omega (arith, p .next, p .fits, p .same)))
+    sym (length-take-le (f .result .at) (f .last .1 .1 .1 .1 .0) (omega (arith, p .next, p .fits, p .same)))
 
 write-all-requires : tie.Need-write-all-requires
 write-all-requires c κs = search needs

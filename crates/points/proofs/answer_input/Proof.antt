@@ -27,7 +27,7 @@ slice-reshare-prefix-write-all c = search needs
 slice-aggregate-write-all : tie.Need-slice-aggregate-write-all
 slice-aggregate-write-all c = let f = c .before .before .before .finish in
     let p = f .ensures in
-    sym (length-take-le (f .result) (f .last .1 .1 .0) (omega (arith, p .next, p .fits, p .same)))
+    sym (length-take-le (f .result) (f .last .1 .1 .1 .0) (omega (arith, p .next, p .fits, p .same)))
 
 write-all-requires : tie.Need-write-all-requires
 write-all-requires c κs = search needs

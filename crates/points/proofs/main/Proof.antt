@@ -1,8 +1,8 @@
--- The run of a file that is accepted is an accepted run.
+-- The run of a file that is accepted, with a history that is, is what the input is answered by.
 use mathlib.Core.Path.{sym, _∙_}
 use native.Mathlib.Omega.{arith}
 use lib.Seq.{length-take-le}
-use Rattle.enquiry_lines.proofs.Opened.{opened-accepted}
+use Rattle.enquiry_lines.proofs.Opened.{opened-with}
 use borrow.Author.Needs.{needs}
 use Rattle.points.proofs.main.Statement.{statement}
 use Rattle.points.proofs.main.Tie as tie
@@ -10,40 +10,61 @@ use Rattle.points.proofs.main.Tie as tie
 file-room-requires : tie.Need-file-room-requires
 file-room-requires c κs = search needs
 
+history-room-requires : tie.Need-history-room-requires
+history-room-requires c κs = search needs
+
 run-room-requires : tie.Need-run-room-requires
 run-room-requires c κs = search needs
 
 reply-room-requires : tie.Need-reply-room-requires
 reply-room-requires c κs = search needs
 
-slice-aggregate-read-basis : tie.Need-slice-aggregate-read-basis
-slice-aggregate-read-basis c = search needs
+slice-aggregate-read-named : tie.Need-slice-aggregate-read-named
+slice-aggregate-read-named c = search needs
 
-read-basis-requires : tie.Need-read-basis-requires
-read-basis-requires c κs = search needs
+slice-aggregate-read-named-2 : tie.Need-slice-aggregate-read-named-2
+slice-aggregate-read-named-2 c = search needs
+
+read-named-requires : tie.Need-read-named-requires
+read-named-requires c κs = search needs
+
+slice-aggregate-read-named-3 : tie.Need-slice-aggregate-read-named-3
+slice-aggregate-read-named-3 c = search needs
+
+slice-aggregate-read-named-4 : tie.Need-slice-aggregate-read-named-4
+slice-aggregate-read-named-4 c = search needs
+
+read-named-requires-2 : tie.Need-read-named-requires-2
+read-named-requires-2 c κs = search needs
 
 array-share-prefix-file : tie.Need-array-share-prefix-file
 array-share-prefix-file c = search needs
 
-slice-aggregate-open-file : tie.Need-slice-aggregate-open-file
-slice-aggregate-open-file c = search needs
+slice-aggregate-open-files : tie.Need-slice-aggregate-open-files
+slice-aggregate-open-files c = search needs
 
-slice-aggregate-open-file-2 : tie.Need-slice-aggregate-open-file-2
-slice-aggregate-open-file-2 c = search needs
+array-share-prefix-history : tie.Need-array-share-prefix-history
+array-share-prefix-history c = search needs
 
-slice-aggregate-open-file-3 : tie.Need-slice-aggregate-open-file-3
-slice-aggregate-open-file-3 c = search needs
+slice-aggregate-open-files-2 : tie.Need-slice-aggregate-open-files-2
+slice-aggregate-open-files-2 c = search needs
 
-open-file-requires : tie.Need-open-file-requires
-open-file-requires c κs = search needs
+slice-aggregate-open-files-3 : tie.Need-slice-aggregate-open-files-3
+slice-aggregate-open-files-3 c = search needs
+
+slice-aggregate-open-files-4 : tie.Need-slice-aggregate-open-files-4
+slice-aggregate-open-files-4 c = search needs
+
+open-files-requires : tie.Need-open-files-requires
+open-files-requires c κs = search needs
 
 array-share-prefix-out : tie.Need-array-share-prefix-out
 array-share-prefix-out c = search needs
 
 slice-aggregate-write-all : tie.Need-slice-aggregate-write-all
-slice-aggregate-write-all c = let f = c .before .before .before .open-file in
+slice-aggregate-write-all c = let f = c .before .before .before .open-files in
     let p = f .ensures .1 .1 in
-    sym (length-take-le (f .result .at) (f .last .1 .1 .0) (omega (arith, p .next, p .fits, p .same)))
+    sym (length-take-le (f .result .at) (f .last .1 .1 .1 .0) (omega (arith, p .next, p .fits, p .same)))
 
 write-all-requires : tie.Need-write-all-requires
 write-all-requires c κs = search needs
@@ -63,19 +84,25 @@ buffer-requires c κs = search needs
 slice-aggregate-answer-input : tie.Need-slice-aggregate-answer-input
 slice-aggregate-answer-input c = search needs
 
+array-share-prefix-history-2 : tie.Need-array-share-prefix-history-2
+array-share-prefix-history-2 c = search needs
+
 slice-aggregate-answer-input-2 : tie.Need-slice-aggregate-answer-input-2
 slice-aggregate-answer-input-2 c = search needs
 
 slice-aggregate-answer-input-3 : tie.Need-slice-aggregate-answer-input-3
 slice-aggregate-answer-input-3 c = search needs
 
+slice-aggregate-answer-input-4 : tie.Need-slice-aggregate-answer-input-4
+slice-aggregate-answer-input-4 c = search needs
+
 answer-input-requires : tie.Need-answer-input-requires
-answer-input-requires c κs = let t = c .before .before .before .before .before in
+answer-input-requires c κs = let t = c .before .before .before .before .before .before in
     let o = t .before .before .before .before .before .before in
-    let r = o .before .before .before .before .before .before .before in
-    let e = sym (o .open-file .ensures .0) ∙ t .enum-told .given .1 in (
-      rw (o .open-file .ensures .1 .0) (opened-accepted _ (r .before .run-room .result) (sym (r .before .run-room .ensures)) e),
-      (omega (arith, c .before .before .before .buffer .ensures), omega (arith, o .open-file .ensures .1 .1 .same, r .reply-room .ensures)),
+    let r = o .before .before .before .before .before .before .before .before .before .before .before .before .before in
+    let e = sym (o .open-files .ensures .0) ∙ t .enum-told .given .1 in (
+      rw (o .open-files .ensures .1 .0) (opened-with _ _ (r .before .run-room .result) (sym (r .before .run-room .ensures)) e),
+      (omega (arith, c .before .before .before .before .buffer .ensures), omega (arith, o .open-files .ensures .1 .1 .same, r .reply-room .ensures)),
     )
 
 returns-2 : tie.Need-returns-2
@@ -89,15 +116,22 @@ main-spec =
     tie.close
     (tie.spec
     file-room-requires
+    history-room-requires
     run-room-requires
     reply-room-requires
-    slice-aggregate-read-basis
-    read-basis-requires
+    slice-aggregate-read-named
+    slice-aggregate-read-named-2
+    read-named-requires
+    slice-aggregate-read-named-3
+    slice-aggregate-read-named-4
+    read-named-requires-2
     array-share-prefix-file
-    slice-aggregate-open-file
-    slice-aggregate-open-file-2
-    slice-aggregate-open-file-3
-    open-file-requires
+    slice-aggregate-open-files
+    array-share-prefix-history
+    slice-aggregate-open-files-2
+    slice-aggregate-open-files-3
+    slice-aggregate-open-files-4
+    open-files-requires
     array-share-prefix-out
     slice-aggregate-write-all
     write-all-requires
@@ -106,8 +140,10 @@ main-spec =
     returns
     buffer-requires
     slice-aggregate-answer-input
+    array-share-prefix-history-2
     slice-aggregate-answer-input-2
     slice-aggregate-answer-input-3
+    slice-aggregate-answer-input-4
     answer-input-requires
     returns-2
     returns-3)

@@ -3,7 +3,7 @@ use mathlib.Core.Path.{sym, _∙_}
 use native.Mathlib.Omega.{arith}
 use lib.ListN.{length-set}
 use lib.Seq.{length-take-le}
-use Rattle.basis.specs.Basis.{basisOf}
+use Rattle.history.specs.History.{basisWith}
 use Rattle.enquiry_lines.specs.Inner.State.{kept}
 use Rattle.enquiry_lines.proofs.SoFar.{line-ends, line-grows, line-full, put-ended, put-none}
 use borrow.Author.Needs.{needs}
@@ -17,15 +17,15 @@ array-share-prefix-bytes : tie.Need-array-share-prefix-bytes
 array-share-prefix-bytes c = search needs
 
 slice-aggregate-put-line : tie.Need-slice-aggregate-put-line
-slice-aggregate-put-line c = let s = c .before .before .before .before .before .before .before in
+slice-aggregate-put-line c = let s = c .before .before .before .before .before .before .before .before in
     let h = s .pre .1 .1 .0 in
     sym (length-take-le _ (s .args .s .bytes) (omega (arith, h .short, h .room)))
 
 put-line-requires : tie.Need-put-line-requires
 put-line-requires c κs = search needs
 
-add-t12 : tie.Need-add-t12
-add-t12 c = search needs
+add-t13 : tie.Need-add-t13
+add-t13 c = search needs
 
 same-length : tie.Need-same-length
 same-length c = search needs
@@ -33,32 +33,32 @@ same-length c = search needs
 returns : tie.Need-returns
 returns c = let p = c .before .before .before in
     let t = p .before .before .before .before in
-    let s = t .before .before .before .before in
+    let s = t .before .before .before .before .before in
     let l = line-ends (s .args .s) (s .args .b) (t .if1 .taken) in
-    let reply = put-ended (basisOf (s .args .run .now)) _ (kept (s .args .s)) (s .args .b) _ _ (t .if1 .taken) (p .put-line .ensures .0) in
+    let reply = put-ended (basisWith (s .args .run .now) (s .args .history .now)) _ (kept (s .args .s)) (s .args .b) _ _ (t .if1 .taken) (p .put-line .ensures .0) in
     (l .begun, (l .complete, (reply, (record { short = omega arith; room = s .pre .1 .1 .0 .room }, p .put-line .ensures .1))))
 
 array-write-bytes : tie.Need-array-write-bytes
 array-write-bytes c = search needs
 
-add-t20 : tie.Need-add-t20
-add-t20 c = search needs
+add-t21 : tie.Need-add-t21
+add-t21 c = search needs
 
 returns-2 : tie.Need-returns-2
-returns-2 c = let s = c .before .before .before .before .before in
+returns-2 c = let s = c .before .before .before .before .before .before in
     let a = s .args in
     let h = s .pre .1 .1 .0 in
     let l = line-grows (a .s) (a .b) h (c .before .if1 .left) (omega arith) in
     let room = length-set (a .s .bytes) (a .s .len) (a .b) ∙ h .room in
-    let none = put-none (basisOf (a .run .now)) _ (kept (a .s)) (a .b) (a .out .now) (a .at) (c .before .if1 .left) (omega arith) in
+    let none = put-none (basisWith (a .run .now) (a .history .now)) _ (kept (a .s)) (a .b) (a .out .now) (a .at) (c .before .if1 .left) (omega arith) in
     (l .begun, (l .complete, (none, (record { short = omega arith; room = room }, omega arith))))
 
 returns-3 : tie.Need-returns-3
-returns-3 c = let s = c .before .before .before .before .before in
+returns-3 c = let s = c .before .before .before .before .before .before in
     let a = s .args in
     let h = s .pre .1 .1 .0 in
     let l = line-full (a .s) (a .b) h (c .before .if1 .left) (omega arith) in
-    let none = put-none (basisOf (a .run .now)) _ (kept (a .s)) (a .b) (a .out .now) (a .at) (c .before .if1 .left) (omega arith) in
+    let none = put-none (basisWith (a .run .now) (a .history .now)) _ (kept (a .s)) (a .b) (a .out .now) (a .at) (c .before .if1 .left) (omega arith) in
     (l .begun, (l .complete, (none, (h, omega arith))))
 
 pub feed-byte-spec : {M : Type 1} → statement M
@@ -69,10 +69,10 @@ feed-byte-spec =
     array-share-prefix-bytes
     slice-aggregate-put-line
     put-line-requires
-    add-t12
+    add-t13
     same-length
     returns
     array-write-bytes
-    add-t20
+    add-t21
     returns-2
     returns-3)

@@ -1,6 +1,6 @@
 -- A line that is an enquiry is answered by its point, and any other by refusal 12.
 use mathlib.Core.Path.{ap, sym, _∙_}
-use Rattle.basis.specs.Basis.{basisOf}
+use Rattle.history.specs.History.{basisWith}
 use Rattle.enquiry_lines.specs.Lines.{replyTo}
 use borrow.Author.Needs.{needs}
 use Rattle.enquiry_lines.proofs.lines.put_line.Statement.{statement}
@@ -30,8 +30,8 @@ same-length c = search needs
 returns : tie.Need-returns
 returns c = let q = c .before .before .before .before .before .before in
     let read = q .before .before in
-    let s = read .before .before .before .before .args in
-    let e = ap (replyTo (basisOf (s .run .now)) (s .number)) (sym (read .parse-line .ensures) ∙ q .q .given .1) in
+    let s = read .before .before .before .before .before .args in
+    let e = ap (replyTo (basisWith (s .run .now) (s .history .now)) (s .number)) (sym (read .parse-line .ensures) ∙ q .q .given .1) in
     rw (e, ← c .before .before .before .before .point-at .ensures) (c .before .before .put-reply .ensures)
 
 same-length-2 : tie.Need-same-length-2
@@ -40,8 +40,8 @@ same-length-2 c = search needs
 returns-2 : tie.Need-returns-2
 returns-2 c = let x = c .before .before .before .before in
     let read = x .before .before in
-    let s = read .before .before .before .before .args in
-    let e = ap (replyTo (basisOf (s .run .now)) (s .number)) (sym (read .parse-line .ensures) ∙ x .enum-told .given .1) in
+    let s = read .before .before .before .before .before .args in
+    let e = ap (replyTo (basisWith (s .run .now) (s .history .now)) (s .number)) (sym (read .parse-line .ensures) ∙ x .enum-told .given .1) in
     rw e (c .before .before .put-refusal .ensures)
 
 pub put-line-spec : {M : Type 1} → statement M

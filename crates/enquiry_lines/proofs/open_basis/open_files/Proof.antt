@@ -1,0 +1,65 @@
+-- The opening is by the two cases of the check.
+use mathlib.Core.Path.{_≡_, refl, ap, sym, _∙_}
+use mathlib.Core.List.{[]}
+use Rattle.reply_text.proofs.Puts.{being}
+use Rattle.enquiry_lines.specs.Output.{printed}
+use borrow.Author.Needs.{needs}
+use Rattle.enquiry_lines.proofs.open_basis.open_files.Statement.{statement}
+use Rattle.enquiry_lines.proofs.open_basis.open_files.Tie as tie
+
+read-files-requires : tie.Need-read-files-requires
+read-files-requires c κs = search needs
+
+enum-told : tie.Need-enum-told
+enum-told c = search needs
+
+put-header-requires : tie.Need-put-header-requires
+put-header-requires c κs = search needs
+
+enum-known-x : tie.Need-enum-known-x
+enum-known-x c = search needs
+
+put-refusal-requires : tie.Need-put-refusal-requires
+put-refusal-requires c κs = search needs
+
+same-length : tie.Need-same-length
+same-length c = search needs
+
+same-length-2 : tie.Need-same-length-2
+same-length-2 c = search needs
+
+returns : tie.Need-returns
+returns c = let told = c .before .before .before .before in
+    let read = told .before .before .before .before in
+    let f = read .read-files .ensures in
+    let is = sym (told .enum-told .given .1) ∙ f .0 in
+    (is, (f .1, being (ap (λ k. printed k []) is) refl (c .before .before .put-header .ensures)))
+
+same-length-3 : tie.Need-same-length-3
+same-length-3 c = search needs
+
+same-length-4 : tie.Need-same-length-4
+same-length-4 c = search needs
+
+returns-2 : tie.Need-returns-2
+returns-2 c = let told = c .before .before .before .before .before in
+    let read = told .before .before .before .before in
+    let f = read .read-files .ensures in
+    let is = sym (told .x .given .1) ∙ f .0 in
+    (is, (f .1, being (ap (λ k. printed k []) is) refl (c .before .before .put-refusal .ensures .0)))
+
+pub open-files-spec : {M : Type 1} → statement M
+open-files-spec =
+    tie.close
+    (tie.spec
+    read-files-requires
+    enum-told
+    put-header-requires
+    enum-known-x
+    put-refusal-requires
+    same-length
+    same-length-2
+    returns
+    same-length-3
+    same-length-4
+    returns-2)
