@@ -1,9 +1,10 @@
 // Runs the cases of an outside calculation on the enquiries: all nine kinds, with every refusal.
 //
-// Standard input, all numbers little-endian: the number of bases (2 bytes), as many data runs of 4,554 bytes, then cases
-// to the end. A case is its kind (1 byte: 0 improvement, 1 factor, 2 rate, then period and cohort: 3 and 4 survivorship,
-// 5 and 6 expectation, 7 and 8 annuity), the place of its basis (1), and age, deferment and year (4 each). A line a case:
-// `value` and the number, or `refused` and the refusal's number and places.
+// Standard input, all numbers little-endian: the number of bases (2 bytes), as many data runs of 4,554 bytes; the bytes of
+// all histories together (4 bytes), and as many bytes, the history files one after the other; then cases to the end. A case
+// is its kind (1 byte: 0 improvement, 1 factor, 2 rate, then period and cohort: 3 and 4 survivorship, 5 and 6 expectation,
+// 7 and 8 annuity), the place of its basis (1), age, deferment and year (4 each), and where its history starts in those
+// bytes (4) and its length (4). A line a case: `value` and the number, or `refused` and the refusal's number and places.
 ghost use mathlib.Core.Path.{_≡_};
 ghost use Prim.Native.Nat.{_≤_};
 ghost use lib.ListN.{length};
@@ -17,12 +18,19 @@ use reply_text::digits;
 use reply_text::reply;
 use survivorship::Kind;
 
-// ---- the bases
-// Room for 32 data runs.
-fn room() -> [u8; 145728]
-    ensures { λ r. ⌜ 145728 ≡ length r ⌝ }
+// ---- the bases and the histories
+// Room for 64 data runs.
+fn room() -> [u8; 291456]
+    ensures { λ r. ⌜ 291456 ≡ length r ⌝ }
 {
-    [0; 145728]
+    [0; 291456]
+}
+
+// Room for the histories.
+fn history_room() -> [u8; 262144]
+    ensures { λ r. ⌜ 262144 ≡ length r ⌝ }
+{
+    [0; 262144]
 }
 
 // Reads the number of bases and gives the bytes of as many, at most those there is room for.
@@ -30,7 +38,15 @@ fn read_length() -> u32 {
     let mut bytes = [0u8; 2];
     io::read_full(STDIN_FILENO, &mut bytes);
     let bases = little_endian::read_u16(&bytes, 0);
-    if bases < 32 { 4554 * bases } else { 145728 }
+    if bases < 64 { 4554 * bases } else { 291456 }
+}
+
+// Reads the number of bytes of the histories, at most those there is room for.
+fn read_history_length() -> u32 {
+    let mut bytes = [0u8; 4];
+    io::read_full(STDIN_FILENO, &mut bytes);
+    let length = little_endian::read_u32(&bytes, 0);
+    if length < 262144 { length } else { 262144 }
 }
 
 // The data run at a place; where there is none, no bytes, which every enquiry refuses.
@@ -41,6 +57,18 @@ fn run_at(runs: &[u8], place: u8) -> &[u8] {
         &runs[start..end]
     } else {
         &runs[..0]
+    }
+}
+
+// A stretch of the histories; where they have no such stretch, no bytes.
+fn history_at(histories: &[u8], start: usize, length: usize) -> &[u8]
+    requires { ⌜ (start ≤ 4294967295) × (length ≤ 4294967295) ⌝ }
+{
+    let end = start + length;
+    if end <= histories.len() {
+        &histories[start..end]
+    } else {
+        &histories[..0]
     }
 }
 
@@ -100,13 +128,13 @@ fn kind_of(kind: u8) -> Kind {
 }
 
 // A kind that is not there is answered by a refusal that no rule has.
-fn answer(run: &[u8], kind: u8, age: u32, deferment: u32, year: u32) -> Answer {
+fn answer(run: &[u8], history: &[u8], kind: u8, age: u32, deferment: u32, year: u32) -> Answer {
     match kind {
-        1 => enquiry::cells::factor(run, age, year),
-        2 => enquiry::cells::rate(run, age, year),
-        3 | 4 => enquiry::values::survivorship(run, kind_of(kind), age, deferment, year),
-        5 | 6 => enquiry::values::expectation(run, kind_of(kind), age, deferment, year),
-        7 | 8 => enquiry::values::annuity(run, kind_of(kind), age, deferment, year),
+        1 => enquiry::cells::factor(run, history, age, year),
+        2 => enquiry::cells::rate(run, history, age, year),
+        3 | 4 => enquiry::values::survivorship(run, history, kind_of(kind), age, deferment, year),
+        5 | 6 => enquiry::values::expectation(run, history, kind_of(kind), age, deferment, year),
+        7 | 8 => enquiry::values::annuity(run, history, kind_of(kind), age, deferment, year),
         _ => Answer::Refused(Refusal {
             number: 0,
             first: 0,
@@ -115,39 +143,50 @@ fn answer(run: &[u8], kind: u8, age: u32, deferment: u32, year: u32) -> Answer {
     }
 }
 
-fn run_case(run: &[u8], kind: u8, age: u32, deferment: u32, year: u32) {
+fn run_case(run: &[u8], history: &[u8], kind: u8, age: u32, deferment: u32, year: u32) {
     if kind == 0 {
-        print_signed_answer(enquiry::cells::improvement(run, age, year));
+        print_signed_answer(enquiry::cells::improvement(run, history, age, year));
     } else {
-        print_answer(answer(run, kind, age, deferment, year));
+        print_answer(answer(run, history, kind, age, deferment, year));
     }
 }
 
 // Reads a case and works it; false at the end of the input.
-fn next_case(runs: &[u8]) -> bool {
-    let mut asked = [0u8; 14];
-    if io::read_full(STDIN_FILENO, &mut asked) < 14 {
+fn next_case(runs: &[u8], histories: &[u8]) -> bool {
+    let mut asked = [0u8; 22];
+    if io::read_full(STDIN_FILENO, &mut asked) < 22 {
         return false;
     }
     let age = little_endian::read_u32(&asked, 2);
     let deferment = little_endian::read_u32(&asked, 6);
     let year = little_endian::read_u32(&asked, 10);
-    run_case(run_at(runs, asked[1]), asked[0], age, deferment, year);
+    let start = little_endian::read_u32(&asked, 14);
+    let length = little_endian::read_u32(&asked, 18);
+    let run = run_at(runs, asked[1]);
+    let history = history_at(histories, start as usize, length as usize);
+    run_case(run, history, asked[0], age, deferment, year);
     true
 }
 
 // Nothing says that the input ends, so the cases are counted up to a number that no run reaches.
-fn run_cases(runs: &[u8]) -> u64 {
+fn run_cases(runs: &[u8], histories: &[u8]) -> u64 {
     let mut cases: u64 = 0;
-    while cases < 1000000000000000 && next_case(runs) {
+    while cases < 1000000000000000 && next_case(runs, histories) {
         cases += 1;
     }
     cases
 }
 
+fn answer_cases(runs: &[u8], histories: &mut [u8]) {
+    io::read_full(STDIN_FILENO, histories);
+    print_number(b"cases ", run_cases(runs, histories));
+}
+
 fn work(runs: &mut [u8]) {
     io::read_full(STDIN_FILENO, runs);
-    print_number(b"cases ", run_cases(runs));
+    let mut space = history_room();
+    let length = io::count(read_history_length() as isize, &space);
+    answer_cases(runs, &mut space[..length]);
 }
 
 fn main() {
