@@ -3,8 +3,8 @@
 from dataclasses import dataclass
 from functools import lru_cache
 
-from outside.layout import (ADDITION_OFFSET, BASE_YEAR_OFFSET, BLOCK_DATA_LENGTH, BLOCK_LENGTH,
-                            BLOCKS, CHECK_MODULUS, CHECK_WORDS, DISCOUNT_OFFSET, FILE_LENGTH,
+from outside.blocks import check_blocks, encode_blocks, joined_data
+from outside.layout import (ADDITION_OFFSET, BASE_YEAR_OFFSET, DISCOUNT_OFFSET, FILE_LENGTH,
                             FOUNDATION_YEAR_OFFSET, LONG_TERM_OFFSET, MARK, RATE_LIMIT, RUN_LENGTH,
                             TABLES, ZERO_LENGTH, ZERO_OFFSET, limits, number_at)
 from outside.refusals import Refusal
@@ -88,40 +88,17 @@ def check_run(run):
 
 # ---- the file
 
-def block_check(block):
-    """The first 127 four-byte words, each times its place from 1, summed modulo 2^32."""
-    words = (int.from_bytes(block[4 * i:4 * i + 4], "little") for i in range(CHECK_WORDS))
-    return sum(place * word for place, word in enumerate(words, start=1)) % CHECK_MODULUS
-
-
 def encode_file(run):
     """The nine blocks of a data run of the right length, unchecked."""
-    file = bytearray()
-    for place in range(BLOCKS):
-        data = run[BLOCK_DATA_LENGTH * place:BLOCK_DATA_LENGTH * (place + 1)]
-        block = place.to_bytes(2, "little") + data
-        file += block + block_check(block).to_bytes(4, "little")
-    return bytes(file)
-
-
-def blocks_of(file):
-    return [file[BLOCK_LENGTH * place:BLOCK_LENGTH * (place + 1)] for place in range(BLOCKS)]
-
-
-def joined_data(file):
-    """The nine data parts joined."""
-    return b"".join(block[2:2 + BLOCK_DATA_LENGTH] for block in blocks_of(file))
+    assert len(run) == RUN_LENGTH
+    return encode_blocks(run)
 
 
 def check_file(file):
     """Gives 1; 2 and 3 by block; then 4 and 5 of the data run, with offsets in the data run."""
     if len(file) != FILE_LENGTH:
         raise Refusal(1)
-    for place, block in enumerate(blocks_of(file)):
-        if int.from_bytes(block[-4:], "little") != block_check(block):
-            raise Refusal(2, place)
-        if int.from_bytes(block[:2], "little") != place:
-            raise Refusal(3, place)
+    check_blocks(file)
     check_run(joined_data(file))
 
 

@@ -1,6 +1,7 @@
 """Damaged basis files, each with the refusal that the paper gives it, or None where accepted."""
 
-from outside.basis import block_check, encode_file
+from outside.basis import encode_file
+from outside.blocks import block_check
 from outside.damage import (Damage, damaged_runs, of_length, with_flipped, with_number,
                             with_numbers)
 from outside.refusals import Refusal
@@ -23,6 +24,22 @@ def with_word_added(file, block, place, amount):
     return with_number(file, offset, 4, word + amount)
 
 
+def bad_check(file, block):
+    return with_flipped(file, _BLOCK * block + _CHECK_AT, 1)
+
+
+def bad_number(file, block):
+    """Another number in a block, with its check made right."""
+    return mended(with_number(file, _BLOCK * block, 2, 77), block)
+
+
+def swapped(file, first, second):
+    """Two blocks exchanged, each with its own number and check."""
+    parts = [file[start:start + _BLOCK] for start in range(0, len(file), _BLOCK)]
+    parts[first], parts[second] = parts[second], parts[first]
+    return b"".join(parts)
+
+
 # ---- 1, 2 and 3 alone
 
 def wrong_lengths(file):
@@ -31,7 +48,7 @@ def wrong_lengths(file):
 
 
 def single_blocks(file):
-    for block in range(9):
+    for block in range(len(file) // _BLOCK):
         start = _BLOCK * block
         for byte in range(4):
             yield Damage("block %d, check byte %d" % (block, byte),
@@ -71,24 +88,13 @@ def unseen(file):
 # ---- several at once
 
 def several(file):
-    def bad_check(content, block):
-        return with_flipped(content, _BLOCK * block + _CHECK_AT, 1)
-
-    def bad_number(content, block):
-        return mended(with_number(content, _BLOCK * block, 2, 77), block)
-
-    def swapped(first, second):
-        parts = [file[_BLOCK * block:_BLOCK * (block + 1)] for block in range(9)]
-        parts[first], parts[second] = parts[second], parts[first]
-        return b"".join(parts)
-
     yield Damage("3 in block 0, 2 in block 1", bad_check(bad_number(file, 0), 1), Refusal(3, 0))
     yield Damage("2 in block 1, 3 in block 2", bad_check(bad_number(file, 2), 1), Refusal(2, 1))
     yield Damage("3 in block 7, 2 in block 8", bad_check(bad_number(file, 7), 8), Refusal(3, 7))
     yield Damage("2 and 3 in block 4", bad_check(bad_number(file, 4), 4), Refusal(2, 4))
     yield Damage("2 in blocks 3 and 6", bad_check(bad_check(file, 6), 3), Refusal(2, 3))
-    yield Damage("blocks 2 and 5 exchanged", swapped(2, 5), Refusal(3, 2))
-    yield Damage("blocks 0 and 8 exchanged", swapped(0, 8), Refusal(3, 0))
+    yield Damage("blocks 2 and 5 exchanged", swapped(file, 2, 5), Refusal(3, 2))
+    yield Damage("blocks 0 and 8 exchanged", swapped(file, 0, 8), Refusal(3, 0))
     wrong_mark = mended(with_flipped(file, 2), 0)  # data byte 0 of block 0
     wrong_year = mended(with_number(file, 2 + 4, 2, 0), 0)
     yield Damage("4 in block 0, 2 in block 8", bad_check(wrong_mark, 8), Refusal(2, 8))

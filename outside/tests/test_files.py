@@ -3,8 +3,9 @@
 import unittest
 
 from outside.bases import limits_basis, named_bases, random_basis, realistic
-from outside.basis import (SHARES, check_file, check_run, decode, encode, encode_file, joined_data,
-                           read_file, short_form, table, write_file)
+from outside.basis import (SHARES, check_file, check_run, decode, encode, encode_file, read_file,
+                           short_form, table, write_file)
+from outside.blocks import joined_data
 from outside.damage import damaged_runs, with_number
 from outside.damaged_files import damaged_files
 from outside.layout import FILE_LENGTH, RUN_LENGTH, TABLES
