@@ -72,12 +72,14 @@ def wrong_marks(run):
 # ---- 5, and each limit exactly met
 
 def years_at_limits(run):
-    """F at offset 4 (1992 to 2080) and B at offset 6 (F to 2130)."""
+    """F at offset 4 (1992 to 2080) and B at offset 6 (1992 to 2130), whichever comes first."""
     for foundation_year, base_year, expected in (
             (1991, 1991, Refusal(5, 4)), (1992, 1992, None), (1992, 2130, None),
             (2080, 2080, None), (2080, 2130, None), (2081, 2081, Refusal(5, 4)),
             (0, 2006, Refusal(5, 4)), (65_535, 65_535, Refusal(5, 4)),
-            (2006, 2005, Refusal(5, 6)), (2080, 2079, Refusal(5, 6)), (2006, 2131, Refusal(5, 6)),
+            (2006, 2005, None), (2006, 1992, None), (2080, 2079, None), (2080, 1992, None),
+            (2006, 1991, Refusal(5, 6)), (1992, 1991, Refusal(5, 6)), (2080, 1991, Refusal(5, 6)),
+            (2006, 2130, None), (2006, 2131, Refusal(5, 6)), (2080, 2131, Refusal(5, 6)),
             (2006, 0, Refusal(5, 6)), (2006, 65_535, Refusal(5, 6)), (1991, 1990, Refusal(5, 4)),
             (2006, 2006, None)):
         yield Damage("F %d, B %d" % (foundation_year, base_year),

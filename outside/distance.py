@@ -4,6 +4,7 @@ from collections import namedtuple
 from fractions import Fraction
 
 from outside.exact import SCALE, rates_used
+from outside.history import actual_years
 from outside.units import LAST_AGE, UNIT
 
 # Of one answered enquiry: does the premise hold, the distance's two bounds, the paper's bound.
@@ -36,8 +37,14 @@ def improvements_taken(model, kind, age, deferment, year):
             for improvement in model.improvements_into_factor(*each)]
 
 
+def takes_actual(model, kind, age, deferment, year):
+    """Whether an actual improvement is among those taken: that of B + 1 comes first, if any."""
+    return len(actual_years(model.basis)) > 0 and any(
+        model.years_from_base(each) > 0 for _, each in factors_used(kind, age, deferment, year))
+
+
 def premise_holds(model, kind, age, deferment, year):
-    """No exact improvement taken into the answer is below zero."""
+    """No exact improvement taken into the answer, actual or projected, is below zero."""
     return all(model.none_below_zero(*each) for each in factors_used(kind, age, deferment, year))
 
 

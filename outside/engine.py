@@ -3,6 +3,7 @@
 from functools import lru_cache
 
 from outside.basis import check_run, decode
+from outside.history import actual_years, check_history, decode_history
 from outside.refusals import Refusal
 from outside.units import (FACTOR_LIMIT, FIRST_AGE, FIRST_BIRTH_YEAR, IMPROVEMENT_LIMIT, LAST_AGE,
                            LAST_YEAR, UNIT, rounded)
@@ -21,13 +22,28 @@ def component(initial_rate, long_term_rate, convergence_period, proportion_remai
 
 
 class Projection:
-    """The projection on one accepted basis. It gives 9 and 10 and no other refusal."""
+    """The projection on one accepted basis and the rows of its history, none with B at F or later.
 
-    def __init__(self, basis):
+    It gives 9 and 10 and no other refusal.
+    """
+
+    def __init__(self, basis, actual_improvements=()):
         self.basis = basis
+        self.actual_improvements = actual_improvements
         self._factor_rows = {}
 
     def improvement(self, age, year):
+        """From B + 1 to F the actual one as it is; otherwise the projected one.
+
+        An actual improvement takes no addition, and the check of the history keeps it within the
+        limits of 9.
+        """
+        years = actual_years(self.basis)
+        if year in years:
+            return self.actual_improvements[years.index(year)][age - FIRST_AGE]
+        return self.projected_improvement(age, year)
+
+    def projected_improvement(self, age, year):
         """At the attained age, for the birth year that has this age in this year."""
         basis, years = self.basis, year - self.basis.foundation_year
         i, j = age - FIRST_AGE, year - age - FIRST_BIRTH_YEAR
@@ -97,15 +113,19 @@ class Projection:
         return value
 
 
-@lru_cache(maxsize=64)
-def _projection_of(run):
-    return Projection(decode(run))
+_kept_basis = lru_cache(maxsize=128)(decode)
 
 
-def accepted(run):
-    """The projection on a data run, after the run's own checks (1, 4, 5)."""
+@lru_cache(maxsize=128)
+def _projection_of(run, history):
+    return Projection(_kept_basis(run), decode_history(history))
+
+
+def accepted(run, history):
+    """The projection, after the data run's own checks (1, 4, 5) and then those of the history."""
     check_run(run)
-    return _projection_of(bytes(run))
+    check_history(_kept_basis(bytes(run)), history)
+    return _projection_of(bytes(run), bytes(history))
 
 
 # ---- the checks of an enquiry, in the order 6, 8, 7
@@ -131,40 +151,47 @@ def check_question(projection, age, deferment, year):
     check_year(year, projection.basis.base_year)
 
 
+def first_year_of_improvement(basis):
+    """F; with B before F the year after B, which is the history's first."""
+    if basis.base_year < basis.foundation_year:
+        return basis.base_year + 1
+    return basis.foundation_year
+
+
 # ---- the enquiries
 
-def improvement(run, age, year):
-    projection = accepted(run)
+def improvement(run, history, age, year):
+    projection = accepted(run, history)
     check_age(age)
-    check_year(year, projection.basis.foundation_year)
+    check_year(year, first_year_of_improvement(projection.basis))
     return projection.improvement(age, year)
 
 
-def factor(run, age, year):
-    projection = accepted(run)
+def factor(run, history, age, year):
+    projection = accepted(run, history)
     check_question(projection, age, 0, year)
     return projection.factor(age, year)
 
 
-def rate(run, age, year):
-    projection = accepted(run)
+def rate(run, history, age, year):
+    projection = accepted(run, history)
     check_question(projection, age, 0, year)
     return projection.rate(age, year)
 
 
-def survivorship(run, kind, age, deferment, year):
-    projection = accepted(run)
+def survivorship(run, history, kind, age, deferment, year):
+    projection = accepted(run, history)
     check_question(projection, age, deferment, year)
     return projection.survivors(kind, age, year, deferment)[-1]
 
 
-def expectation(run, kind, age, deferment, year):
-    projection = accepted(run)
+def expectation(run, history, kind, age, deferment, year):
+    projection = accepted(run, history)
     check_question(projection, age, deferment, year)
     return projection.expectation(kind, age, deferment, year)
 
 
-def annuity(run, kind, age, deferment, year):
-    projection = accepted(run)
+def annuity(run, history, kind, age, deferment, year):
+    projection = accepted(run, history)
     check_question(projection, age, deferment, year)
     return projection.annuity(kind, age, deferment, year)

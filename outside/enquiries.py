@@ -18,9 +18,9 @@ _ALONG_AGES = {SURVIVORSHIP: engine.survivorship, EXPECTATION: engine.expectatio
                ANNUITY: engine.annuity}
 
 
-def ask(run, kind, age, deferment, year):
+def ask(run, history, kind, age, deferment, year):
     """The answer, or its refusal raised. An improvement, factor or rate has no deferment."""
     name, course = kind
     if name in _SINGLE:
-        return _SINGLE[name](run, age, year)
-    return _ALONG_AGES[name](run, course, age, deferment, year)
+        return _SINGLE[name](run, history, age, year)
+    return _ALONG_AGES[name](run, history, course, age, deferment, year)

@@ -11,6 +11,7 @@ from collections import namedtuple
 from fractions import Fraction
 from itertools import accumulate
 
+from outside.history import actual_years
 from outside.units import FIRST_AGE, FIRST_BIRTH_YEAR, LAST_AGE, LAST_YEAR, UNIT
 
 SCALE = 2 ** 256
@@ -57,14 +58,22 @@ def component(initial_rate, long_term_rate, convergence_period, proportion_remai
 
 
 class ExactModel:
-    """The exact model on one accepted basis; ages and years as the projection takes them."""
+    """The exact model on one accepted basis and the rows of its history; ages and years as the
+    projection takes them.
+    """
 
-    def __init__(self, basis):
+    def __init__(self, basis, actual_improvements=()):
         self.basis = basis
+        self.actual_improvements = actual_improvements
         self._rows = {}
 
     def improvement(self, age, year):
-        """In units, a fraction."""
+        """In units, a fraction; an actual improvement is taken as it is."""
+        if year in actual_years(self.basis):
+            return self.actual_improvements[year - self.basis.base_year - 1][age - FIRST_AGE]
+        return self.projected_improvement(age, year)
+
+    def projected_improvement(self, age, year):
         basis, years = self.basis, year - self.basis.foundation_year
         i, j = age - FIRST_AGE, year - age - FIRST_BIRTH_YEAR
         by_age = component(

@@ -55,9 +55,9 @@ def number_at(content, offset, width):
 
 def limits(run):
     """Every field with limits, by offset: (offset, number, low, high)."""
-    foundation_year = number_at(run, FOUNDATION_YEAR_OFFSET, 2)
-    yield FOUNDATION_YEAR_OFFSET, foundation_year, FIRST_YEAR, LAST_FOUNDATION_YEAR
-    yield BASE_YEAR_OFFSET, number_at(run, BASE_YEAR_OFFSET, 2), foundation_year, LAST_YEAR
+    yield (FOUNDATION_YEAR_OFFSET, number_at(run, FOUNDATION_YEAR_OFFSET, 2),
+           FIRST_YEAR, LAST_FOUNDATION_YEAR)
+    yield BASE_YEAR_OFFSET, number_at(run, BASE_YEAR_OFFSET, 2), FIRST_YEAR, LAST_YEAR
     yield ADDITION_OFFSET, number_at(run, ADDITION_OFFSET, 4), -ADDITION_LIMIT, ADDITION_LIMIT
     yield (DISCOUNT_OFFSET, number_at(run, DISCOUNT_OFFSET, 4),
            LOWEST_DISCOUNT, GREATEST_DISCOUNT)

@@ -19,9 +19,9 @@ def _four_results(projection, age, deferment, year):
             projection.annuity(COHORT, age, deferment, year))
 
 
-def point(run, age, deferment, year):
+def point(run, history, age, deferment, year):
     """Period and cohort expectation, then annuity, or the first refusal of the four."""
-    return _four_results(accepted(run), age, deferment, year)
+    return _four_results(accepted(run, history), age, deferment, year)
 
 
 @dataclass
@@ -43,12 +43,12 @@ def _fill(projection, record):
         record.results, record.refusal = answer, (0, 0, 0)
 
 
-def small_set(run, questions):
+def small_set(run, history, questions):
     """Six answered points, and the refusal of the whole set or None."""
     assert len(questions) == SMALL_SET_POINTS
     records = [ModelPoint(*question) for question in questions]
     try:
-        projection = accepted(run)
+        projection = accepted(run, history)
     except Refusal as refusal:
         return records, refusal.again()
     for record in records:
@@ -56,10 +56,10 @@ def small_set(run, questions):
     return records, None
 
 
-def grid(run, records):
+def grid(run, history, records):
     """Fills the first 119 records in place; 11 comes before the basis is looked at."""
     check_output(GRID_RECORDS, len(records))
-    projection = accepted(run)
+    projection = accepted(run, history)
     for record in records[:GRID_RECORDS]:
         _fill(projection, record)
 
@@ -71,7 +71,7 @@ STEPPED, ENDED = "stepped", "ended"
 
 @dataclass
 class Lifeline:
-    """The lent data run with an age, a year and the survivors."""
+    """The lent data run with an age, a year and the survivors. The history is lent to each call."""
 
     run: bytes = field(repr=False)
     age: int = 0
@@ -79,18 +79,18 @@ class Lifeline:
     survivors: int = 0
 
 
-def start_lifeline(run, age, year):
+def start_lifeline(run, history, age, year):
     """The lifeline, and its refusal or None. A refused start holds 0, 0 and 0."""
     try:
-        check_question(accepted(run), age, 0, year)
+        check_question(accepted(run, history), age, 0, year)
     except Refusal as refusal:
         return Lifeline(run), refusal.again()
     return Lifeline(run, age, year, UNIT), None
 
 
-def step_lifeline(lifeline):
+def step_lifeline(lifeline, history):
     """One year of cohort survivorship in place; says stepped or ended, or gives its refusal."""
-    projection = accepted(lifeline.run)
+    projection = accepted(lifeline.run, history)
     check_age(lifeline.age)
     # A year after 2130 may stand, as long as the birth year is one of the table's.
     if (lifeline.year < projection.basis.base_year

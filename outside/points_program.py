@@ -1,13 +1,14 @@
-"""The points program's output, worked outside: a basis file and lines in, a table of results out.
+"""The points program's output, worked outside: a basis, its history and lines in, a table out.
 
-Run with `python3 -m outside.points_program` in a folder with `basis.bin`, the lines on standard
-input.
+Run with `python3 -m outside.points_program` in a folder with `basis.bin` and, where the basis needs
+one, `history.bin`, the lines on standard input. A missing file counts as length 0.
 """
 
 import re
 import sys
 
 from outside.basis import read_file
+from outside.engine import accepted
 from outside.points import point
 from outside.refusals import Refusal
 from outside.units import UNIT
@@ -27,37 +28,42 @@ def lines_of(text):
     return lines[:-1] if lines[-1] == b"" else lines
 
 
-def answered_line(run, number, line):
+def answered_line(run, history, number, line):
     """One line of the answer; lines are numbered from 1, the refused ones counted."""
     match = _LINE.fullmatch(line)
     try:
         if match is None:
             raise Refusal(12, number)
         question = [int(digits) for digits in match.groups()]
-        results = point(run, *question)
+        results = point(run, history, *question)
     except Refusal as refusal:
         return str(refusal)
     return " ".join([str(each) for each in question] + [_decimal(each) for each in results])
 
 
-def points_output(file, text):
-    """All of standard output, every line ended."""
+def points_output(file, history, text):
+    """All of standard output, every line ended; a refused history counts as a refused basis."""
     try:
         run = read_file(file)
+        accepted(run, history)
     except Refusal as refusal:
         return "%s\n" % refusal
-    answered = [answered_line(run, number, line)
+    answered = [answered_line(run, history, number, line)
                 for number, line in enumerate(lines_of(text), start=1)]
     return "\n".join([HEADER] + answered) + "\n"
 
 
-def main():
+def content_of(name):
     try:
-        with open("basis.bin", "rb") as lent:
-            file = lent.read()
+        with open(name, "rb") as lent:
+            return lent.read()
     except FileNotFoundError:
-        file = b""
-    sys.stdout.write(points_output(file, sys.stdin.buffer.read()))
+        return b""
+
+
+def main():
+    sys.stdout.write(points_output(content_of("basis.bin"), content_of("history.bin"),
+                                   sys.stdin.buffer.read()))
 
 
 if __name__ == "__main__":

@@ -7,9 +7,12 @@ from fractions import Fraction
 
 from outside.bases import discounted_bases, level, named_bases, random_basis
 from outside.basis import encode
-from outside.distance import bound, distance, exact_answer, improvements_taken, premise_holds
+from outside.distance import (bound, distance, exact_answer, improvements_taken, premise_holds,
+                              takes_actual)
 from outside.enquiries import KINDS, ask
 from outside.exact import SCALE, ExactModel, component, rates_used
+from outside.history import NO_HISTORY
+from outside.older_bases import gentle_older_bases, lent, older_bases, table_of_2000, with_history
 from outside.units import LAST_AGE, LAST_YEAR, UNIT
 
 FACTOR, RATE = KINDS[1], KINDS[2]
@@ -80,7 +83,7 @@ class Figures(unittest.TestCase):
         """Two components of one half each round up: 1 unit, two thirds of the bound for k = 1."""
         basis = level(age=(1, 0, 2, 50), cohort=(1, 0, 2, 50))
         found = distance(ExactModel(basis), FACTOR, 60, 0, 2007,
-                         ask(encode(basis), FACTOR, 60, 0, 2007))
+                         ask(encode(basis), NO_HISTORY, FACTOR, 60, 0, 2007))
         self.assertTrue(found.premise)
         self.assertEqual(found.bound, Fraction(3, 2))
         self.assertLessEqual(found.lower, 1)
@@ -111,8 +114,82 @@ class Figures(unittest.TestCase):
     def test_premise(self):
         basis = named_bases()["rising rates"]
         question = RATE, 100, 0, 2040
-        found = distance(ExactModel(basis), *question, ask(encode(basis), *question))
+        found = distance(ExactModel(basis), *question, ask(encode(basis), NO_HISTORY, *question))
         self.assertFalse(found.premise)
+
+
+class ActualYears(unittest.TestCase):
+    def test_an_actual_improvement_is_taken_as_it_is(self):
+        older = table_of_2000()
+        model = ExactModel(*older)
+        for year in range(2001, 2007):
+            for age in (20, 85, 86, 150):
+                self.assertEqual(model.improvement(age, year), older.rows[year - 2001][age - 20])
+        later = ExactModel(named_bases()["realistic"])
+        self.assertEqual(model.improvement(70, 2007), later.improvement(70, 2007))
+
+    def test_taken(self):
+        model = ExactModel(*table_of_2000())
+        actual = [row[70 - 20] for row in table_of_2000().rows]
+        self.assertEqual(improvements_taken(model, FACTOR, 70, 0, 2003), actual[:3])
+        self.assertEqual(improvements_taken(model, FACTOR, 70, 0, 2008)[:6], actual)
+        self.assertEqual(len(improvements_taken(model, FACTOR, 70, 0, 2130)), 130)
+        for question, expected in (((FACTOR, 70, 0, 2000), False), ((FACTOR, 70, 0, 2001), True),
+                                   ((FACTOR, 70, 0, 2130), True),
+                                   ((COHORT_ANNUITY, 150, 0, 2006), False),
+                                   ((PERIOD_ANNUITY, 149, 0, 2000), False),
+                                   ((COHORT_ANNUITY, 148, 0, 2000), True)):
+            self.assertEqual(takes_actual(model, *question), expected, question)
+        self.assertFalse(takes_actual(ExactModel(named_bases()["realistic"]), FACTOR, 70, 0, 2030))
+
+    def test_the_premise_covers_them(self):
+        """One actual improvement of -1 at age 60 in 2005, and nothing else below zero."""
+        older = with_history(level(2006, 2004), lambda age, year: -(age == 60 and year == 2005))
+        model = ExactModel(*older)
+        for question, expected in (((FACTOR, 60, 0, 2004), True), ((FACTOR, 60, 0, 2005), False),
+                                   ((RATE, 60, 0, 2030), False), ((RATE, 61, 0, 2030), True),
+                                   ((COHORT_ANNUITY, 61, 0, 2004), True),
+                                   ((COHORT_ANNUITY, 60, 0, 2004), True),
+                                   ((PERIOD_ANNUITY, 60, 0, 2005), False),
+                                   ((COHORT_ANNUITY, 50, 0, 2004), False)):
+            self.assertEqual(premise_holds(model, *question), expected, question)
+
+    def test_k_counts_from_the_base_year(self):
+        model = ExactModel(*table_of_2000())
+        self.assertEqual(bound(model, FACTOR, 60, 0, 2006), Fraction(3 * 6, 2))
+        self.assertEqual(bound(model, RATE, 60, 0, 2010), Fraction(3 * 10 + 1, 2))
+
+    def test_half_a_unit(self):
+        """25,000 and 20,000 leave the exact factor at U - 45,000 + 1/2, and the engine rounds up.
+        """
+        older = gentle_older_bases()["ties in actual years"]
+        question = FACTOR, 60, 0, 1994
+        found = distance(ExactModel(*older), *question, ask(*lent(older), *question))
+        self.assertEqual((found.premise, found.bound), (True, 3))
+        self.assertLessEqual(found.lower, Fraction(1, 2))
+        self.assertLessEqual(Fraction(1, 2), found.upper)
+        self.assertLess(found.upper - found.lower, Fraction(1, 2 ** 200))
+
+    def test_enclosures_hold_the_plain_fractions(self):
+        for name in ("2000 table", "random history", "history at both limits"):
+            older = older_bases()[name]
+            model = ExactModel(*older)
+            for kind in KINDS[2:]:
+                question = 147, 1, older.basis.foundation_year - 1
+                exact = exact_answer(model, kind, *question)
+                plain = SCALE * (plain_rate(model, 147, question[2]) if kind == RATE
+                                 else plain_answer(model, kind, *question))
+                self.assertLessEqual(exact.lower, plain)
+                self.assertLessEqual(plain, exact.upper)
+                self.assertLess(exact.upper - exact.lower, 2 ** 40)
+
+    def test_the_gentle_ones_are_gentle(self):
+        for name, older in gentle_older_bases().items():
+            with self.subTest(name):
+                question = COHORT_ANNUITY, 20, 0, older.basis.base_year
+                found = distance(ExactModel(*older), *question, ask(*lent(older), *question))
+                self.assertTrue(found.premise)
+                self.assertLessEqual(found.upper, found.bound)
 
 
 class Bounds(unittest.TestCase):
@@ -133,7 +210,7 @@ class Bounds(unittest.TestCase):
                 (KINDS[8], (150, 0, 2130), Fraction(2, 4)),
                 (KINDS[6], (140, 10, 2016), Fraction(0)),
                 (KINDS[3], (60, 0, 2016), Fraction(0))):
-            found = distance(model, kind, *question, ask(run, kind, *question))
+            found = distance(model, kind, *question, ask(run, NO_HISTORY, kind, *question))
             self.assertEqual(found.bound, expected, (kind, question))
             self.assertLessEqual(found.upper, expected)
 
@@ -154,7 +231,8 @@ class Bounds(unittest.TestCase):
                             ("rounded up, discount below zero", Fraction(97, 400))):
             basis = discounted_bases()[name]
             question = PERIOD_ANNUITY, 20, 0, 2006
-            found = distance(ExactModel(basis), *question, ask(encode(basis), *question))
+            found = distance(ExactModel(basis), *question,
+                             ask(encode(basis), NO_HISTORY, *question))
             self.assertTrue(found.premise)
             self.assertGreater(found.lower, least * found.bound)
             self.assertLessEqual(found.upper, found.bound)

@@ -5,6 +5,7 @@ import unittest
 from outside import engine
 from outside.bases import level, sample
 from outside.basis import decode, encode, encode_file, short_form
+from outside.history import NO_HISTORY
 from outside.points_program import points_output
 from outside.refusals import Refusal, outcome
 from outside.units import UNIT, rounded
@@ -43,33 +44,34 @@ class ShortForm(unittest.TestCase):
 class Factors(unittest.TestCase):
     def test_one_per_cent_thrice(self):
         run = encode(level(age=(10_000_000, 10_000_000, 20, 50)))
-        self.assertEqual([engine.factor(run, 60, year) for year in range(2006, 2010)],
+        self.assertEqual([engine.factor(run, NO_HISTORY, 60, year) for year in range(2006, 2010)],
                          [UNIT, 990_000_000, 980_100_000, 970_299_000])
 
     def test_rising_by_half_then_refused(self):
         flat = (-200_000_000, -200_000_000, 20, 50)
         run = encode(level(addition=-100_000_000, age=flat, cohort=flat))
         self.assertEqual(
-            [outcome(engine.factor, run, 60, year) for year in range(2006, 2012)],
+            [outcome(engine.factor, run, NO_HISTORY, 60, year) for year in range(2006, 2012)],
             [UNIT, 1_500_000_000, 2_250_000_000, 3_375_000_000,
              Refusal(10, 60, 2010), Refusal(10, 60, 2010)])
-        self.assertEqual(engine.improvement(run, 60, 2010), -500_000_000)
-        self.assertEqual(engine.improvement(run, 60, 2006), -400_000_000)
+        self.assertEqual(engine.improvement(run, NO_HISTORY, 60, 2010), -500_000_000)
+        self.assertEqual(engine.improvement(run, NO_HISTORY, 60, 2006), -400_000_000)
 
     def test_improvement_beyond_its_limit(self):
         curve = (200_000_000, -200_000_000, 4, 150)
         self.assertEqual(engine.component(*curve, 1), 587_500_000)
         run = encode(level(age=curve))
-        self.assertEqual(outcome(engine.improvement, run, 60, 2007), Refusal(9, 60, 2007))
-        self.assertEqual(outcome(engine.factor, run, 60, 2040), Refusal(9, 60, 2007))
-        self.assertEqual(engine.factor(run, 60, 2006), UNIT)
+        self.assertEqual(outcome(engine.improvement, run, NO_HISTORY, 60, 2007),
+                         Refusal(9, 60, 2007))
+        self.assertEqual(outcome(engine.factor, run, NO_HISTORY, 60, 2040), Refusal(9, 60, 2007))
+        self.assertEqual(engine.factor(run, NO_HISTORY, 60, 2006), UNIT)
 
 
 class Values(unittest.TestCase):
     def test_annuity_at_149(self):
         run = encode(level(discount=200_000_000))
         for kind in (engine.PERIOD, engine.COHORT):
-            self.assertEqual(engine.annuity(run, kind, 149, 0, 2006), 1_750_000_000)
+            self.assertEqual(engine.annuity(run, NO_HISTORY, kind, 149, 0, 2006), 1_750_000_000)
 
     def test_annuities_below_zero(self):
         """By hand, with 0.9 and then 0.81 of the lives left.
@@ -88,7 +90,7 @@ class Values(unittest.TestCase):
                     (-1, (149, 0, 2006), 1_900_000_001),
                     (-1, (149, 1, 2130), 900_000_001)):
                 run = encode(level(discount=discount))
-                self.assertEqual(engine.annuity(run, kind, *question), expected)
+                self.assertEqual(engine.annuity(run, NO_HISTORY, kind, *question), expected)
 
     def test_points(self):
         text = b"148 0 2010\n150 0 2010\n148 3 2010\n"
@@ -98,18 +100,18 @@ class Values(unittest.TestCase):
             "150 0 2010 0.500000000 0.500000000 1.000000000 1.000000000\n"
             "refused 8 148 3\n")
         file = encode_file(encode(sample()))
-        self.assertEqual(points_output(file, text), expected)
-        self.assertEqual(points_output(file, text[:-1]), expected)
+        self.assertEqual(points_output(file, NO_HISTORY, text), expected)
+        self.assertEqual(points_output(file, NO_HISTORY, text[:-1]), expected)
 
     def test_points_lines(self):
         file = encode_file(encode(sample()))
-        header = points_output(file, b"")
+        header = points_output(file, NO_HISTORY, b"")
         self.assertEqual(header.count("\n"), 1)
         for line in (b"", b"60 0", b"60  0 2010", b"060 0 2010", b"60 00 2010", b"60 0 20100",
                      b"60 0 2010 ", b" 60 0 2010", b"60 0 2010\r", b"+60 0 2010", b"60 0 2010 1"):
-            self.assertEqual(points_output(file, b"150 0 2010\n" + line + b"\n").splitlines()[2:],
-                             ["refused 12 2 0"], line)
-        self.assertEqual(points_output(b"", b"60 0 2010\n"), "refused 1 0 0\n")
+            output = points_output(file, NO_HISTORY, b"150 0 2010\n" + line + b"\n")
+            self.assertEqual(output.splitlines()[2:], ["refused 12 2 0"], line)
+        self.assertEqual(points_output(b"", NO_HISTORY, b"60 0 2010\n"), "refused 1 0 0\n")
 
 
 if __name__ == "__main__":

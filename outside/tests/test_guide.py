@@ -15,6 +15,7 @@ from outside.bases import realistic
 from outside.basis import decode, encode, short_form
 from outside.engine import COHORT
 from outside.exact import weight
+from outside.history import NO_HISTORY
 from outside.units import AGES, BIRTH_YEARS, UNIT
 
 ONE_PER_CENT = UNIT // 100
@@ -76,11 +77,11 @@ def added(basis, table, number):
 
 
 def annuity(basis, age, deferment=0, year=2010):
-    return engine.annuity(encode(basis), COHORT, age, deferment, year)
+    return engine.annuity(encode(basis), NO_HISTORY, COHORT, age, deferment, year)
 
 
 def expectation(basis, age, year=2010):
-    return engine.expectation(encode(basis), COHORT, age, 0, year)
+    return engine.expectation(encode(basis), NO_HISTORY, COHORT, age, 0, year)
 
 
 def growth(after, before):
