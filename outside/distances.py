@@ -4,8 +4,9 @@ Run with `python3 -m outside.distances` from the folder that holds `crates/`. It
 input and output, `crates/check_answers/stdin` and `stdout`; that the program writes this output is
 the gate's to say. For each of the five kinds it prints how many answers were checked and how near
 to its bound the worst one came; annuities at a rate of discount below zero, whose bound is four
-times as much, are a kind of their own here. It ends with status 1 if a bound is broken or cannot be
-decided, or if fewer answers of a kind than `LEAST_CHECKED` says could be checked.
+times as much, are a kind of their own here. Answers that take actual improvements are counted a
+second time, under a name of their own. It ends with status 1 if a bound is broken or cannot be
+decided, or if fewer answers under a name than `LEAST_CHECKED` says could be checked.
 """
 
 import struct
@@ -15,32 +16,43 @@ from functools import cache
 from pathlib import Path
 
 from outside.basis import decode
-from outside.distance import distance
+from outside.distance import distance, takes_actual
 from outside.enquiries import ANNUITY, EXPECTATION, FACTOR, KINDS, RATE, SURVIVORSHIP
 from outside.exact import ExactModel
+from outside.history import decode_history
 from outside.layout import RUN_LENGTH
 
 FOLDER = Path("crates/check_answers")
 BELOW_ZERO = "annuity below 0"  # an annuity whose rate of discount is below zero
+ACTUAL = "actual years"  # an answer of any kind that takes actual improvements
 
 # What is judged, and the least number of each; of an improvement nothing is claimed.
 LEAST_CHECKED = {FACTOR: 700, RATE: 700, SURVIVORSHIP: 700, EXPECTATION: 700, ANNUITY: 700,
-                 BELOW_ZERO: 300}
+                 BELOW_ZERO: 300, ACTUAL: 700}
 
-# Of one case: its kind, the place of its basis, age, deferment and year, and its line of output.
-Case = namedtuple("Case", "kind place question line")
+# Of one case: its kind, the place of its basis, age, deferment and year, its history, and its line
+# of output.
+Case = namedtuple("Case", "kind place question history line")
 
 
 def read_cases(asked, answered):
     """The data runs, and the cases, each with its line."""
     first = 2 + RUN_LENGTH * int.from_bytes(asked[:2], "little")
     runs = [asked[start:start + RUN_LENGTH] for start in range(2, first, RUN_LENGTH)]
-    cases = list(struct.iter_unpack("<BBIII", asked[first:]))
+    end = first + 4 + int.from_bytes(asked[first:first + 4], "little")
+    histories = asked[first + 4:end]
+    cases = list(struct.iter_unpack("<BBIIIII", asked[end:]))
     *lines, last = answered.decode("ascii").splitlines()
     if len(lines) != len(cases) or last != "cases %d" % len(cases):
         raise ValueError("the output is not that of %d cases" % len(cases))
-    return runs, [Case(KINDS[kind], place, tuple(question), line)
-                  for (kind, place, *question), line in zip(cases, lines)]
+    return runs, [Case(KINDS[kind], place, tuple(question),
+                       stretch(histories, start, length), line)
+                  for (kind, place, *question, start, length), line in zip(cases, lines)]
+
+
+def stretch(histories, start, length):
+    """The bytes of a history; none where they do not lie within those of all histories."""
+    return histories[start:start + length] if start + length <= len(histories) else b""
 
 
 class Tally:
@@ -76,9 +88,10 @@ def judged_as(case, below_zero):
 
 
 def judged(asked, answered):
-    """A tally for each kind that is judged."""
+    """A tally for each name that is judged."""
     runs, cases = read_cases(asked, answered)
-    model_of = cache(lambda place: ExactModel(decode(runs[place])))
+    model_of = cache(lambda place, history: ExactModel(decode(runs[place]),
+                                                       decode_history(history)))
     below_zero = {place for place, run in enumerate(runs) if decode(run).discount_rate < 0}
     tallies = {name: Tally() for name in LEAST_CHECKED}
     for case in cases:
@@ -86,11 +99,14 @@ def judged(asked, answered):
         if tally is None:
             continue
         word, *numbers = case.line.split()
-        if word == "value":
-            model, (answer,) = model_of(case.place), map(int, numbers)
-            tally.add(distance(model, case.kind, *case.question, answer), case)
-        else:
+        if word != "value":
             tally.counts["refused"] += 1
+            continue
+        model, (answer,) = model_of(case.place, case.history), map(int, numbers)
+        found = distance(model, case.kind, *case.question, answer)
+        tally.add(found, case)
+        if takes_actual(model, case.kind, *case.question):
+            tallies[ACTUAL].add(found, case)
     return tallies
 
 
@@ -101,9 +117,10 @@ def main():
         return "distances: %s" % error
     status = 0
     for name, tally in tallies.items():
-        print("%-15s checked %d (premise fails %d, refused %d), worst distance / bound %.6f" % (
-            name, tally.counts["checked"], tally.counts["premise fails"], tally.counts["refused"],
-            tally.worst))
+        # What a refused enquiry would have taken is not looked at.
+        refused = "" if name == ACTUAL else ", refused %d" % tally.counts["refused"]
+        print("%-15s checked %d (premise fails %d%s), worst distance / bound %.6f" % (
+            name, tally.counts["checked"], tally.counts["premise fails"], refused, tally.worst))
         if tally.worst_case:
             print("%-15s at %s" % ("", described(tally.worst_case)))
         for fault in tally.faults:

@@ -3,23 +3,29 @@
 Run with `python3 -m outside.make_answer_cases [folder]` from the folder that holds `crates/`.
 
 Standard input, all numbers little-endian: the number of bases (2 bytes), as many data runs of 4,554
-bytes, then cases to the end. A case is its kind (1 byte, its place in `enquiries.KINDS`), the place
-of its basis (1), and age, deferment and year (4 each, unsigned). A place beyond the bases stands
-for a data run of no bytes. Expected, a line a case: `value` and the number, or `refused` and the
-refusal's number and places.
+bytes; the number of bytes of all histories together (4), and as many bytes, the history files
+joined one after the other; then cases to the end. A case is its kind (1 byte, its place in
+`enquiries.KINDS`), the place of its basis (1), age, deferment and year (4 each, unsigned), and
+where its history starts in those bytes (4) and its length (4). A place beyond the bases stands for
+a data run of no bytes, and a stretch that does not lie within the bytes for a history of no bytes.
+Expected, a line a case: `value` and the number, or `refused` and the refusal's number and places.
 """
 
 import random
+import struct
 
 from outside.bases import discounted_bases, gentle_bases, named_bases, realistic
 from outside.basis import decode, encode
 from outside.damage import with_number
 from outside.enquiries import ANNUITY, IMPROVEMENT, KINDS, ask
+from outside.history import NO_HISTORY
+from outside.history_cases import Group, beyond_the_bytes, groups_with_history, without_history
 from outside.refusals import Refusal, outcome
 from outside.units import LAST_AGE, LAST_YEAR
 from outside.vectors import command, expected_output, write
 
 GREATEST = 4_294_967_295
+MOST_RUNS, MOST_HISTORY_BYTES = 64, 262_144  # the program's room
 
 CHOSEN = ("sample", "realistic", "improvements high", "all limits low", "P 150", "B 2130", "F 2080",
           "9 in mid-course", "9 and 10 in one year", "10 in mid-course", "exactly four",
@@ -114,31 +120,70 @@ def bases():
                (with_number(encode(realistic()), 554 + 4 * 40, 4, 200_000_001), refused)]
             + [(encode(basis), answerable) for basis in gentle_bases().values()]
             + [(encode(by_name[name]), whole_lives) for name in DISCOUNTED]
-            + [(encode(basis), whole_lives_and_more) for basis in discounted_bases().values()])
+            + [(encode(basis), whole_lives_and_more) for basis in discounted_bases().values()]
+            + [(b"", refused)])
 
 
-def cases(runs_and_questions):
-    draw = random.Random(20_060_101).randint
-    for number, kind in enumerate(KINDS):
-        for place, (run, questions) in enumerate(runs_and_questions + [(b"", refused)]):
-            basis = decode(run) if run else None
-            for age, deferment, year in questions(kind, basis, draw):
-                if kind[1] is None:
-                    deferment = 0
-                asked = bytes([number, place]) + b"".join(
-                    each.to_bytes(4, "little") for each in (age, deferment, year))
-                answer = outcome(ask, run, kind, age, deferment, year)
-                yield asked, (str(answer) if isinstance(answer, Refusal) else "value %d" % answer)
+def line_of(answer):
+    return str(answer) if isinstance(answer, Refusal) else "value %d" % answer
+
+
+class Cases:
+    """The data runs and histories that are asked about, and the cases, each with its line."""
+
+    def __init__(self):
+        self.runs, self.histories = [], b""
+        self.asked, self.lines = [], []
+
+    def place_of(self, run):
+        """The place of a data run; of an empty one a place at which there will be none."""
+        if not run:
+            return 255
+        if run not in self.runs:
+            self.runs.append(run)
+        return self.runs.index(run)
+
+    def start_of(self, history):
+        """Where these bytes stand, which may be within those of another history."""
+        if history not in self.histories:
+            self.histories += history
+        return self.histories.index(history)
+
+    def add(self, group, kind, question, stretch=None):
+        """Asks about a group's data run and history, or about a stretch that stands for none."""
+        age, deferment, year = question
+        if kind[1] is None:
+            deferment = 0
+        start, length = stretch or (self.start_of(group.history), len(group.history))
+        self.asked.append(struct.pack("<BBIIIII", KINDS.index(kind), self.place_of(group.run),
+                                      age, deferment, year, start, length))
+        self.lines.append(line_of(outcome(ask, group.run, group.history, kind, age, deferment,
+                                          year)))
+
+    def add_all(self, groups, seed):
+        draw = random.Random(seed).randint
+        for kind in KINDS:
+            for group in groups:
+                basis = decode(group.run) if group.run else None
+                for question in group.questions(kind, basis, draw):
+                    self.add(group, kind, question)
+
+    def input_and_output(self):
+        assert len(self.runs) <= MOST_RUNS and len(self.histories) <= MOST_HISTORY_BYTES
+        return (len(self.runs).to_bytes(2, "little") + b"".join(self.runs)
+                + len(self.histories).to_bytes(4, "little") + self.histories
+                + b"".join(self.asked), expected_output(self.lines))
 
 
 def input_and_output():
     """The bytes of standard input and of the expected standard output."""
-    runs_and_questions = bases()
-    asked_and_answered = list(cases(runs_and_questions))
-    return (len(runs_and_questions).to_bytes(2, "little")
-            + b"".join(run for run, _ in runs_and_questions)
-            + b"".join(asked for asked, _ in asked_and_answered),
-            expected_output([line for _, line in asked_and_answered]))
+    cases = Cases()
+    cases.add_all([Group(run, NO_HISTORY, questions) for run, questions in bases()], 20_060_101)
+    cases.add_all(list(groups_with_history(edges)), 20_000_101)
+    for place, stretch in enumerate(beyond_the_bytes(len(cases.histories))):
+        for group, kind, question in without_history(place):
+            cases.add(group, kind, question, stretch)
+    return cases.input_and_output()
 
 
 def main():

@@ -18,6 +18,7 @@ from outside.basis import encode, encode_file, read_file, short_form, write_file
 from outside.damage import damaged_runs, of_length, with_flipped, with_number
 from outside.damaged_files import damaged_files
 from outside.layout import FILE_LENGTH, RUN_LENGTH
+from outside.older_bases import table_of_2000
 from outside.refusals import Refusal, outcome
 from outside.vectors import command, expected_output, write
 
@@ -58,7 +59,8 @@ def case(kind, content, output_length=None, long_term_rate=0):
 
 def other_bases():
     return [encode(basis) for basis in (sample(), random_basis(11, -200_000_000, 200_000_000),
-                                        random_basis(12, 0, 9_000_000), limits_basis(13))]
+                                        random_basis(12, 0, 9_000_000), limits_basis(13),
+                                        table_of_2000().basis)]
 
 
 def sound_cases():

@@ -3,11 +3,16 @@
 import struct
 import unittest
 from collections import Counter
+from functools import cache
 
 from outside import make_answer_cases, make_file_cases
-from outside.basis import joined_data, read_file, short_form, write_file
+from outside.basis import read_file, short_form, write_file
+from outside.blocks import joined_data
 from outside.enquiries import KINDS, ask
 from outside.refusals import Refusal
+
+
+answer_cases = cache(make_answer_cases.input_and_output)
 
 
 def answered(function, *arguments):
@@ -43,15 +48,22 @@ def file_case_lines(text):
 
 
 def answer_case_lines(text):
-    (count,), place = struct.unpack_from("<H", text), 2
+    (count,) = struct.unpack_from("<H", text)
     runs = [text[2 + 4_554 * i:2 + 4_554 * (i + 1)] for i in range(count)]
-    lines, place = [], 2 + 4_554 * count
+    place = 2 + 4_554 * count
+    (total,) = struct.unpack_from("<I", text, place)
+    histories, lines, place = text[place + 4:place + 4 + total], [], place + 4 + total
+    assert count <= 64 and len(histories) == total <= 262_144
     while place < len(text):
-        kind, basis, age, deferment, year = struct.unpack_from("<BBIII", text, place)
-        place += 14
+        kind, basis, age, deferment, year, start, length = struct.unpack_from("<BBIIIII", text,
+                                                                              place)
+        place += 22
+        history = histories[start:start + length]
+        if len(history) != length:
+            history = b""
         try:
             run = runs[basis] if basis < count else b""
-            lines.append("value %d" % ask(run, KINDS[kind], age, deferment, year))
+            lines.append("value %d" % ask(run, history, KINDS[kind], age, deferment, year))
         except Refusal as refusal:
             lines.append("refused %d %d %d" % refusal.numbers())
     return lines
@@ -71,11 +83,27 @@ class WrittenCases(unittest.TestCase):
         self.assertGreater(min(found.values()), 20)
 
     def test_answer_cases(self):
-        asked, expected = make_answer_cases.input_and_output()
+        asked, expected = answer_cases()
         lines = answer_case_lines(asked)
         self.assertEqual(with_last_line(lines), expected)
         found = Counter(" ".join(line.split()[:2]) for line in lines if line[0] == "r")
-        self.assertEqual(set(found), {"refused %d" % n for n in (1, 4, 5, 6, 7, 8, 9, 10)})
+        self.assertEqual(set(found),
+                         {"refused %d" % n for n in (1, 2, 3, 4, 5, 6, 7, 8, 9, 10, 13)})
+
+    def test_every_refusal_of_a_history_through_all_nine_kinds(self):
+        """And 13 both where a history is needed and where none is, and bases that are answered."""
+        asked, expected = answer_cases()
+        lines = expected.decode("ascii").splitlines()[:-1]
+        found = {kind: set() for kind in range(9)}
+        cases = struct.iter_unpack("<BBIIIII", asked[-22 * len(lines):])
+        for (kind, *_, length), line in zip(cases, lines):
+            word, *numbers = line.split()
+            if length:
+                found[kind].add((numbers[0], numbers[1] == "0") if word == "refused" else word)
+        for each in found.values():
+            for number in ("2", "3", "4", "5"):
+                self.assertIn((number, False), each)
+            self.assertLessEqual({("13", False), ("13", True), "value"}, each)
 
 
 if __name__ == "__main__":
