@@ -1,15 +1,26 @@
-/* The engine's surface for C, base level. Every call is total: any pointer with its true length, any number.
+/* The engine's surface for C. Every call is total: any pointer with its true length, any number.
    No call keeps a pointer, allocates, or writes anything but the lent output it names, and that only where it is
    not refused. A length of 0 may come with any pointer. An input and an output of one call must not overlap.
-   There is no shared state: any number of threads may call at once, also on the same data run.
+   There is no shared state: any number of threads may call at once, also on the same data run and history.
    Units: 1,000,000,000 to one.
 
    A basis comes as a file; parvusek_read_basis makes of it, once, the data run that every other call is lent. Every
    call checks its data run afresh (1, 4, 5), so nothing hangs on where the host keeps it.
 
-   A refusal is a number and two places; the first in the order below decides. docs/REFUSALS.md has each number's
-   sentence, its cause and what to do; parvusek_refusals.h has the sentences for a program to print. U is 1,000,000,000,
-   F the foundation year and B the base year of the data run. */
+   A basis whose base year B is before its foundation year F needs a history: a second file, lent as it is, with the
+   actual improvements of each year from B + 1 to F. It has 1,024 bytes for each of these years, two blocks of the basis
+   file's kind, numbered from 0: ages 20 to 85, then 86 to 150, signed 4 bytes each, -500,000,000 to 500,000,000 units,
+   the remaining data bytes zero. With B at F or later none is needed: its length is then 0, with any pointer.
+   Every call but the first four is lent the history directly after its data run, and checks it afresh after the run's
+   own 1, 4, 5: 13 (any other length: the length needed), blocks ascending 2 (check) before 3 (number), then 4 (a byte
+   that must be zero), then 5 (an improvement beyond its limits). Offsets are counted in its joined data, of which block
+   i has the 506 bytes from 506 x i on. A refused history counts as a refused basis: what is refused "by the basis"
+   below is so by 1, 4, 5 of the data run, then by 13, 2, 3, 4, 5 of the history.
+
+   A refusal is a number and two places; the first in the order below decides. Nothing in it says whether a 4 or 5 is
+   the data run's or the history's: it is the history's if parvusek_check_basis accepts the run. docs/REFUSALS.md has
+   each number's sentence, its cause and what to do; parvusek_refusals.h has the sentences for a program to print. U is
+   1,000,000,000, F the foundation year and B the base year of the data run. */
 #ifndef PARVUSEK_H
 #define PARVUSEK_H
 #include <stddef.h>
@@ -22,6 +33,7 @@ extern "C" {
 #define PARVUSEK_UNIT 1000000000u    /* U, units to one */
 #define PARVUSEK_FILE_LENGTH 4608u   /* bytes of a basis file */
 #define PARVUSEK_RUN_LENGTH 4554u    /* bytes of a data run */
+#define PARVUSEK_HISTORY_YEAR 1024u  /* bytes of a history file for each year from B + 1 to F */
 #define PARVUSEK_SMALL_SET 6u        /* points of the small set */
 #define PARVUSEK_GRID 119u           /* records of the grid */
 
@@ -39,10 +51,10 @@ typedef struct { uint32_t age, deferment, year, refusal; uint64_t results[4]; ui
 /* where a lifeline stands after a start or a step, and whether it has ended (1) */
 typedef struct { parvusek_refusal_t refusal; uint64_t survivors; uint32_t age, year, ended; } parvusek_lifeline_t;
 
-/* ---- basis: a file of 4,608 bytes, a data run of 4,554 */
+/* ---- the data run: a file of 4,608 bytes, a run of 4,554. No history is lent here, and none is missed */
 
 /* Whether a data run may be used. Refused: 1 (length), 4 (mark or zero bytes), 5 (a field outside its limits).
-   The rate of discount may be below zero: it is -10,000,000 to 200,000,000 units. */
+   B is 1992 to 2130, before F too. The rate of discount may be below zero: it is -10,000,000 to 200,000,000 units. */
 parvusek_refusal_t parvusek_check_basis(const uint8_t *run, size_t run_len);
 
 /* Writes the data run of a file into the first 4,554 bytes of run; further bytes are kept.
@@ -58,49 +70,63 @@ parvusek_refusal_t parvusek_write_basis(const uint8_t *run, size_t run_len, uint
    Refused: 11 (out too short: 4554), 1, 4, 5, then 5 at offset 1078 for a rate beyond 200,000,000 either way. */
 parvusek_refusal_t parvusek_short_form(const uint8_t *run, size_t run_len, int32_t long_term_rate, uint8_t *out, size_t out_len);
 
-/* ---- single cells. Refused: 1, 4, 5 by the data run, 6 (age outside 20 to 150), 7 (year after 2130, or before F for
-   an improvement and before B for the others), 9 (an improvement needed is beyond 500,000,000 either way), and for a
-   factor and a rate 10 (a factor needed is above 4 U). */
+/* ---- single cells. Refused: by the basis, 6 (age outside 20 to 150), 7 (year after 2130, or before the first that may
+   be asked: B, and for an improvement the earlier of F and B + 1), 9 (an improvement needed is beyond 500,000,000
+   either way), and for a factor and a rate 10 (a factor needed is above 4 U). */
 
-/* The rate of improvement; below zero where mortality worsens. */
-parvusek_signed_answer_t parvusek_improvement(const uint8_t *run, size_t run_len, uint32_t age, uint32_t year);
+/* The rate of improvement; below zero where mortality worsens. From B + 1 to F it is the history's, without the
+   constant addition. */
+parvusek_signed_answer_t parvusek_improvement(const uint8_t *run, size_t run_len, const uint8_t *history,
+                                              size_t history_len, uint32_t age, uint32_t year);
 /* The reduction factor, U in year B. */
-parvusek_answer_t parvusek_factor(const uint8_t *run, size_t run_len, uint32_t age, uint32_t year);
+parvusek_answer_t parvusek_factor(const uint8_t *run, size_t run_len, const uint8_t *history, size_t history_len,
+                                  uint32_t age, uint32_t year);
 /* The mortality rate: the base rate times the factor, at most U. */
-parvusek_answer_t parvusek_rate(const uint8_t *run, size_t run_len, uint32_t age, uint32_t year);
+parvusek_answer_t parvusek_rate(const uint8_t *run, size_t run_len, const uint8_t *history, size_t history_len,
+                                uint32_t age, uint32_t year);
 
-/* ---- values of a life, each period and cohort. Refused: 1, 4, 5, 6, 8 (age + deferment above 150), 7 (year after
+/* ---- values of a life, each period and cohort. Refused: by the basis, 6, 8 (age + deferment above 150), 7 (year after
    2130 or before B; year + deferment may be after 2130), then 9 and 10 in the order of the work. */
 
 /* Of U lives at this age in this year, those left after so many years; survivorship names its number of years as the
    deferment. */
-parvusek_answer_t parvusek_period_survivorship(const uint8_t *run, size_t run_len, uint32_t age, uint32_t deferment, uint32_t year);
-parvusek_answer_t parvusek_cohort_survivorship(const uint8_t *run, size_t run_len, uint32_t age, uint32_t deferment, uint32_t year);
+parvusek_answer_t parvusek_period_survivorship(const uint8_t *run, size_t run_len, const uint8_t *history,
+                                               size_t history_len, uint32_t age, uint32_t deferment, uint32_t year);
+parvusek_answer_t parvusek_cohort_survivorship(const uint8_t *run, size_t run_len, const uint8_t *history,
+                                               size_t history_len, uint32_t age, uint32_t deferment, uint32_t year);
 /* The expectation of life at age + deferment in year + deferment, in years. */
-parvusek_answer_t parvusek_period_expectation(const uint8_t *run, size_t run_len, uint32_t age, uint32_t deferment, uint32_t year);
-parvusek_answer_t parvusek_cohort_expectation(const uint8_t *run, size_t run_len, uint32_t age, uint32_t deferment, uint32_t year);
+parvusek_answer_t parvusek_period_expectation(const uint8_t *run, size_t run_len, const uint8_t *history,
+                                              size_t history_len, uint32_t age, uint32_t deferment, uint32_t year);
+parvusek_answer_t parvusek_cohort_expectation(const uint8_t *run, size_t run_len, const uint8_t *history,
+                                              size_t history_len, uint32_t age, uint32_t deferment, uint32_t year);
 /* The value at this age in this year of 1 a year in advance for life, from the deferment's end on. */
-parvusek_answer_t parvusek_period_annuity(const uint8_t *run, size_t run_len, uint32_t age, uint32_t deferment, uint32_t year);
-parvusek_answer_t parvusek_cohort_annuity(const uint8_t *run, size_t run_len, uint32_t age, uint32_t deferment, uint32_t year);
+parvusek_answer_t parvusek_period_annuity(const uint8_t *run, size_t run_len, const uint8_t *history,
+                                          size_t history_len, uint32_t age, uint32_t deferment, uint32_t year);
+parvusek_answer_t parvusek_cohort_annuity(const uint8_t *run, size_t run_len, const uint8_t *history,
+                                          size_t history_len, uint32_t age, uint32_t deferment, uint32_t year);
 
 /* ---- sets of model points */
 
-/* Six points by value. The set is refused by the data run alone (1, 4, 5), its points then being 0 throughout; a point
-   is refused by itself (6, 8, 7, then 9 and 10 in the order of its four results). */
-parvusek_small_set_t parvusek_small_set(const uint8_t *run, size_t run_len, parvusek_questions_t questions);
+/* Six points by value. The set is refused by the basis alone, its points then being 0 throughout; a point is refused by
+   itself (6, 8, 7, then 9 and 10 in the order of its four results). */
+parvusek_small_set_t parvusek_small_set(const uint8_t *run, size_t run_len, const uint8_t *history, size_t history_len,
+                                        parvusek_questions_t questions);
 /* The first 119 records, in place: each gets its four results, or its refusal with all four 0, whatever stood there;
-   questions and further records are kept. Refused: 11 (a list of fewer than 119: 119), 1, 4, 5; then no record
-   changes. To value fewer, fill the list up with records of age 0, which are refused at once (6). */
-parvusek_refusal_t parvusek_grid(const uint8_t *run, size_t run_len, parvusek_point_t *points, size_t count);
+   questions and further records are kept. Refused: 11 (a list of fewer than 119: 119), then by the basis; then no
+   record changes. To value fewer, fill the list up with records of age 0, which are refused at once (6). */
+parvusek_refusal_t parvusek_grid(const uint8_t *run, size_t run_len, const uint8_t *history, size_t history_len,
+                                 parvusek_point_t *points, size_t count);
 
-/* ---- one life, year by year; the host keeps age, year and survivors between calls */
+/* ---- one life, year by year; the host keeps age, year and survivors between calls, and lends the basis to each */
 
 /* U lives at this age in this year. Refused as a value with deferment 0; then age, year and survivors are 0. */
-parvusek_lifeline_t parvusek_lifeline_start(const uint8_t *run, size_t run_len, uint32_t age, uint32_t year);
-/* One year of cohort survivorship, or ended at age 150. Refused: 1, 4, 5 by the data run, 6, 7 (year before B, or
-   year - age after 2110; a year after 2130 may stand), 5 at 4554 for survivors above U, then 9 and 10. A step that
-   ends or is refused hands back the age, year and survivors that it was given. */
-parvusek_lifeline_t parvusek_lifeline_step(const uint8_t *run, size_t run_len, uint32_t age, uint32_t year, uint64_t survivors);
+parvusek_lifeline_t parvusek_lifeline_start(const uint8_t *run, size_t run_len, const uint8_t *history,
+                                            size_t history_len, uint32_t age, uint32_t year);
+/* One year of cohort survivorship, or ended at age 150. Refused: by the basis, 6, 7 (year before B, or year - age after
+   2110; a year after 2130 may stand), 5 at 4554 for survivors above U, then 9 and 10. A step that ends or is refused
+   hands back the age, year and survivors that it was given. */
+parvusek_lifeline_t parvusek_lifeline_step(const uint8_t *run, size_t run_len, const uint8_t *history,
+                                           size_t history_len, uint32_t age, uint32_t year, uint64_t survivors);
 
 #ifdef __cplusplus
 }

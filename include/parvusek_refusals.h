@@ -8,7 +8,7 @@
 
 #include "parvusek.h"
 
-/* What a refusal says. A number that no refusal has (0, or above 12) gives "not refused" or "no such refusal". */
+/* What a refusal says. A number that no refusal has (0, or above 13) gives "not refused" or "no such refusal". */
 static inline const char *parvusek_refusal_sentence(uint32_t number) {
     switch (number) {
     case 0: return "not refused";
@@ -24,6 +24,7 @@ static inline const char *parvusek_refusal_sentence(uint32_t number) {
     case 10: return "a factor needed is above 4 \303\227 U";
     case 11: return "lent output too short";
     case 12: return "a line is not of the form asked";
+    case 13: return "history not 1,024 bytes for each year from B + 1 to F";
     default: return "no such refusal";
     }
 }
@@ -35,7 +36,7 @@ static inline const char *parvusek_refusal_first(uint32_t number) {
     case 4: case 5: return "offset";
     case 6: case 8: case 9: case 10: return "age";
     case 7: return "year";
-    case 11: return "needed";
+    case 11: case 13: return "needed";
     case 12: return "line";
     default: return NULL;
     }
