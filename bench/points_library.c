@@ -1,5 +1,6 @@
 /* The library's side of bench/points_throughput: reads a data run and questions, answers them by the grid, 119 a call.
-   Usage: points_library RUN QUESTIONS, the questions as lines of age, deferment and year. Prints how many it answered. */
+   Usage: points_library RUN QUESTIONS, the questions as lines of age, deferment and year. Prints how many it answered.
+   The run must need no history. */
 #include <stdio.h>
 #include <stdlib.h>
 #include "parvusek.h"
@@ -21,7 +22,7 @@ int main(int argc, char **argv)
     while (fscanf(lines, "%u %u %u", &points[filled].age, &points[filled].deferment, &points[filled].year) == 3) {
         if (++filled < GRID)
             continue;
-        if (parvusek_grid(run, RUN, points, GRID).number != 0)
+        if (parvusek_grid(run, RUN, NULL, 0, points, GRID).number != 0)
             return EXIT_FAILURE;
         for (size_t i = 0; i < GRID; i++)
             answered += points[i].refusal == 0;

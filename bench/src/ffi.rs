@@ -67,7 +67,7 @@ pub struct Lifeline {
 pub mod raw {
     use super::*;
 
-    type Enquiry = unsafe extern "C" fn(*const u8, usize, u32, u32, u32) -> Answer;
+    type Enquiry = unsafe extern "C" fn(*const u8, usize, *const u8, usize, u32, u32, u32) -> Answer;
 
     unsafe extern "C" {
         pub fn parvusek_check_basis(run: *const u8, run_len: usize) -> Refusal;
@@ -80,19 +80,116 @@ pub mod raw {
             out: *mut u8,
             out_len: usize,
         ) -> Refusal;
-        pub fn parvusek_improvement(run: *const u8, run_len: usize, age: u32, year: u32) -> SignedAnswer;
-        pub fn parvusek_factor(run: *const u8, run_len: usize, age: u32, year: u32) -> Answer;
-        pub fn parvusek_rate(run: *const u8, run_len: usize, age: u32, year: u32) -> Answer;
-        pub fn parvusek_period_survivorship(r: *const u8, n: usize, age: u32, deferment: u32, year: u32) -> Answer;
-        pub fn parvusek_cohort_survivorship(r: *const u8, n: usize, age: u32, deferment: u32, year: u32) -> Answer;
-        pub fn parvusek_period_expectation(r: *const u8, n: usize, age: u32, deferment: u32, year: u32) -> Answer;
-        pub fn parvusek_cohort_expectation(r: *const u8, n: usize, age: u32, deferment: u32, year: u32) -> Answer;
-        pub fn parvusek_period_annuity(r: *const u8, n: usize, age: u32, deferment: u32, year: u32) -> Answer;
-        pub fn parvusek_cohort_annuity(r: *const u8, n: usize, age: u32, deferment: u32, year: u32) -> Answer;
-        pub fn parvusek_small_set(run: *const u8, run_len: usize, questions: Questions) -> SmallSet;
-        pub fn parvusek_grid(run: *const u8, run_len: usize, points: *mut Record, count: usize) -> Refusal;
-        pub fn parvusek_lifeline_start(run: *const u8, run_len: usize, age: u32, year: u32) -> Lifeline;
-        pub fn parvusek_lifeline_step(r: *const u8, n: usize, age: u32, year: u32, survivors: u64) -> Lifeline;
+        pub fn parvusek_improvement(
+            run: *const u8,
+            run_len: usize,
+            history: *const u8,
+            history_len: usize,
+            age: u32,
+            year: u32,
+        ) -> SignedAnswer;
+        pub fn parvusek_factor(
+            run: *const u8,
+            run_len: usize,
+            history: *const u8,
+            history_len: usize,
+            age: u32,
+            year: u32,
+        ) -> Answer;
+        pub fn parvusek_rate(
+            run: *const u8,
+            run_len: usize,
+            history: *const u8,
+            history_len: usize,
+            age: u32,
+            year: u32,
+        ) -> Answer;
+        pub fn parvusek_period_survivorship(
+            run: *const u8,
+            run_len: usize,
+            history: *const u8,
+            history_len: usize,
+            age: u32,
+            deferment: u32,
+            year: u32,
+        ) -> Answer;
+        pub fn parvusek_cohort_survivorship(
+            run: *const u8,
+            run_len: usize,
+            history: *const u8,
+            history_len: usize,
+            age: u32,
+            deferment: u32,
+            year: u32,
+        ) -> Answer;
+        pub fn parvusek_period_expectation(
+            run: *const u8,
+            run_len: usize,
+            history: *const u8,
+            history_len: usize,
+            age: u32,
+            deferment: u32,
+            year: u32,
+        ) -> Answer;
+        pub fn parvusek_cohort_expectation(
+            run: *const u8,
+            run_len: usize,
+            history: *const u8,
+            history_len: usize,
+            age: u32,
+            deferment: u32,
+            year: u32,
+        ) -> Answer;
+        pub fn parvusek_period_annuity(
+            run: *const u8,
+            run_len: usize,
+            history: *const u8,
+            history_len: usize,
+            age: u32,
+            deferment: u32,
+            year: u32,
+        ) -> Answer;
+        pub fn parvusek_cohort_annuity(
+            run: *const u8,
+            run_len: usize,
+            history: *const u8,
+            history_len: usize,
+            age: u32,
+            deferment: u32,
+            year: u32,
+        ) -> Answer;
+        pub fn parvusek_small_set(
+            run: *const u8,
+            run_len: usize,
+            history: *const u8,
+            history_len: usize,
+            questions: Questions,
+        ) -> SmallSet;
+        pub fn parvusek_grid(
+            run: *const u8,
+            run_len: usize,
+            history: *const u8,
+            history_len: usize,
+            points: *mut Record,
+            count: usize,
+        ) -> Refusal;
+        pub fn parvusek_lifeline_start(
+            run: *const u8,
+            run_len: usize,
+            history: *const u8,
+            history_len: usize,
+            age: u32,
+            year: u32,
+        ) -> Lifeline;
+        pub fn parvusek_lifeline_step(
+            run: *const u8,
+            run_len: usize,
+            history: *const u8,
+            history_len: usize,
+            age: u32,
+            year: u32,
+            survivors: u64,
+        ) -> Lifeline;
     }
 
     /// The six enquiries of one shape, by the header's order.
@@ -122,38 +219,41 @@ pub fn short_form(run: &[u8], long_term_rate: i32, out: &mut [u8]) -> Refusal {
     unsafe { raw::parvusek_short_form(run.as_ptr(), run.len(), long_term_rate, out.as_mut_ptr(), out.len()) }
 }
 
-pub fn improvement(run: &[u8], age: u32, year: u32) -> SignedAnswer {
-    unsafe { raw::parvusek_improvement(run.as_ptr(), run.len(), age, year) }
+pub fn improvement(run: &[u8], history: &[u8], age: u32, year: u32) -> SignedAnswer {
+    unsafe { raw::parvusek_improvement(run.as_ptr(), run.len(), history.as_ptr(), history.len(), age, year) }
 }
 
-pub fn factor(run: &[u8], age: u32, year: u32) -> Answer {
-    unsafe { raw::parvusek_factor(run.as_ptr(), run.len(), age, year) }
+pub fn factor(run: &[u8], history: &[u8], age: u32, year: u32) -> Answer {
+    unsafe { raw::parvusek_factor(run.as_ptr(), run.len(), history.as_ptr(), history.len(), age, year) }
 }
 
-pub fn rate(run: &[u8], age: u32, year: u32) -> Answer {
-    unsafe { raw::parvusek_rate(run.as_ptr(), run.len(), age, year) }
+pub fn rate(run: &[u8], history: &[u8], age: u32, year: u32) -> Answer {
+    unsafe { raw::parvusek_rate(run.as_ptr(), run.len(), history.as_ptr(), history.len(), age, year) }
 }
 
 /// One of the six enquiries of `raw::ENQUIRIES`.
-pub fn enquiry(which: usize, run: &[u8], question: Question) -> Answer {
+pub fn enquiry(which: usize, run: &[u8], history: &[u8], question: Question) -> Answer {
     let Question { age, deferment, year } = question;
-    unsafe { raw::ENQUIRIES[which](run.as_ptr(), run.len(), age, deferment, year) }
+    let ask = raw::ENQUIRIES[which];
+    unsafe { ask(run.as_ptr(), run.len(), history.as_ptr(), history.len(), age, deferment, year) }
 }
 
-pub fn small_set(run: &[u8], questions: Questions) -> SmallSet {
-    unsafe { raw::parvusek_small_set(run.as_ptr(), run.len(), questions) }
+pub fn small_set(run: &[u8], history: &[u8], questions: Questions) -> SmallSet {
+    unsafe { raw::parvusek_small_set(run.as_ptr(), run.len(), history.as_ptr(), history.len(), questions) }
 }
 
-pub fn grid(run: &[u8], records: &mut [Record]) -> Refusal {
-    unsafe { raw::parvusek_grid(run.as_ptr(), run.len(), records.as_mut_ptr(), records.len()) }
+pub fn grid(run: &[u8], history: &[u8], records: &mut [Record]) -> Refusal {
+    let (points, count) = (records.as_mut_ptr(), records.len());
+    unsafe { raw::parvusek_grid(run.as_ptr(), run.len(), history.as_ptr(), history.len(), points, count) }
 }
 
-pub fn lifeline_start(run: &[u8], age: u32, year: u32) -> Lifeline {
-    unsafe { raw::parvusek_lifeline_start(run.as_ptr(), run.len(), age, year) }
+pub fn lifeline_start(run: &[u8], history: &[u8], age: u32, year: u32) -> Lifeline {
+    unsafe { raw::parvusek_lifeline_start(run.as_ptr(), run.len(), history.as_ptr(), history.len(), age, year) }
 }
 
-pub fn lifeline_step(run: &[u8], age: u32, year: u32, survivors: u64) -> Lifeline {
-    unsafe { raw::parvusek_lifeline_step(run.as_ptr(), run.len(), age, year, survivors) }
+pub fn lifeline_step(run: &[u8], history: &[u8], age: u32, year: u32, survivors: u64) -> Lifeline {
+    let (lent, length) = (history.as_ptr(), history.len());
+    unsafe { raw::parvusek_lifeline_step(run.as_ptr(), run.len(), lent, length, age, year, survivors) }
 }
 
 // ---- what the header promises where the Rust engine answers so

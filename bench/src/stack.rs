@@ -4,12 +4,25 @@ use std::ptr;
 
 const ROOM: usize = 64 << 10;
 
-/// What is passed: six numbers or addresses in registers, and nine words on the stack for what goes by value.
+/// What is passed: six numbers or addresses in registers, and nine words on the stack for further ones, or for what goes
+/// by value.
 #[derive(Clone, Copy, Default)]
 #[repr(C)]
 pub struct Arguments {
-    pub registers: [u64; 6],
-    pub by_value: [u64; 9],
+    registers: [u64; 6],
+    on_stack: [u64; 9],
+}
+
+impl Arguments {
+    /// Numbers and addresses, each in a register as long as there are any, then what goes by value.
+    pub fn new(words: &[u64], by_value: &[u64]) -> Self {
+        let mut arguments = Arguments::default();
+        let (first, further) = words.split_at(words.len().min(arguments.registers.len()));
+        arguments.registers[..first.len()].copy_from_slice(first);
+        arguments.on_stack[..further.len()].copy_from_slice(further);
+        arguments.on_stack[further.len()..][..by_value.len()].copy_from_slice(by_value);
+        arguments
+    }
 }
 
 /// Bytes below the caller's stack pointer that a call touches, its return address included.
@@ -28,7 +41,7 @@ unsafe fn touched_with(function: *const (), arguments: &Arguments, paint: u8) ->
     unsafe {
         asm!(
             "mov r12, rsp",
-            // room for what goes by value, the stack in line as the convention wants it
+            // room for what goes there, the stack in line as the convention wants it
             "lea rsp, [rsp - 80]",
             "and rsp, -16",
             "lea rsi, [r14 + 48]",

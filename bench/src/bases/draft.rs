@@ -48,6 +48,12 @@ impl Draft {
         self.run[BASE_YEAR..][..2].copy_from_slice(&base_year.to_le_bytes());
     }
 
+    /// The years that its history must have: those after the base year up to the foundation year.
+    pub fn history_years(&self) -> usize {
+        let year = |offset| usize::from(u16::from_le_bytes([self.run[offset], self.run[offset + 1]]));
+        year(FOUNDATION_YEAR).saturating_sub(year(BASE_YEAR))
+    }
+
     pub fn set_number(&mut self, offset: usize, value: i32) {
         self.run[offset..][..4].copy_from_slice(&value.to_le_bytes());
     }
@@ -71,6 +77,13 @@ impl Draft {
         self.set_number(long_term + 4 * index, rates[1]);
         self.run[periods + index] = period;
         self.run[proportions + index] = proportion;
+    }
+
+    /// The benchmark's basis with other years.
+    pub fn benchmark_from(foundation_year: u16, base_year: u16) -> Self {
+        let mut draft = Draft::benchmark();
+        draft.set_years(foundation_year, base_year);
+        draft
     }
 
     /// As the basis that the benchmark values: 2006, rates that double every ten years of age, improvements of 2.5 per

@@ -1,11 +1,11 @@
-//! Basis files: the blocks of a run, written here once more, and damage to them.
+//! Basis files: the blocks of a run or of a history, written here once more, and damage to them.
 use crate::engine::layout::*;
 use crate::random::Random;
 
-/// The file of any 4,554 bytes, accepted or not.
-pub fn file_of(run: &[u8]) -> Vec<u8> {
+/// The file of any joined data, accepted or not.
+pub fn file_of(joined: &[u8]) -> Vec<u8> {
     let mut file = Vec::with_capacity(FILE_LENGTH);
-    for (number, data) in run.chunks(BLOCK_DATA).enumerate() {
+    for (number, data) in joined.chunks(BLOCK_DATA).enumerate() {
         let mut block = (number as u16).to_le_bytes().to_vec();
         block.extend_from_slice(data);
         block.resize(BLOCK_LENGTH - 4, 0);
@@ -57,8 +57,14 @@ pub fn damage(random: &mut Random, file: &mut Vec<u8>) {
     }
 }
 
-fn resealed(random: &mut Random, file: &mut [u8], change: impl FnOnce(&mut Random, &mut [u8])) {
-    let start = BLOCK_LENGTH * random.below(BLOCKS as u64) as usize;
+/// Where a block of the file begins.
+fn any_block(random: &mut Random, file: &[u8]) -> usize {
+    BLOCK_LENGTH * random.below((file.len() / BLOCK_LENGTH) as u64) as usize
+}
+
+/// Changes a block, and puts the right check behind it again.
+pub fn resealed(random: &mut Random, file: &mut [u8], change: impl FnOnce(&mut Random, &mut [u8])) {
+    let start = any_block(random, file);
     if let Some(place) = file.get_mut(start..start + BLOCK_LENGTH) {
         let mut block = place.to_vec();
         change(random, &mut block);
@@ -67,18 +73,17 @@ fn resealed(random: &mut Random, file: &mut [u8], change: impl FnOnce(&mut Rando
     }
 }
 
-fn swap_blocks(random: &mut Random, file: &mut [u8]) {
-    if file.len() == FILE_LENGTH {
-        let (one, other) = (random.below(BLOCKS as u64) as usize, random.below(BLOCKS as u64) as usize);
-        for byte in 0..BLOCK_LENGTH {
-            file.swap(one * BLOCK_LENGTH + byte, other * BLOCK_LENGTH + byte);
-        }
+/// Puts two blocks into each other's places.
+pub fn swap_blocks(random: &mut Random, file: &mut [u8]) {
+    let (one, other) = (any_block(random, file), any_block(random, file));
+    for byte in 0..BLOCK_LENGTH {
+        file.swap(one + byte, other + byte);
     }
 }
 
 /// A word's top bit: in an even place the check cannot see it.
-fn top_bit(random: &mut Random, file: &mut [u8]) {
-    let block = BLOCK_LENGTH * random.below(BLOCKS as u64) as usize;
+pub fn top_bit(random: &mut Random, file: &mut [u8]) {
+    let block = any_block(random, file);
     let word = 4 * random.below(127) as usize;
     if let Some(byte) = file.get_mut(block + word + 3) {
         *byte ^= 0x80;

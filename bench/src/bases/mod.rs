@@ -1,7 +1,8 @@
-//! Data runs and files to ask about: plausible, anywhere in the limits, at the limits, and damaged.
+//! Data runs, files and histories to ask about: plausible, anywhere in the limits, at the limits, and damaged.
 pub mod damaged;
 pub mod draft;
 pub mod files;
+pub mod histories;
 pub mod valid;
 
 pub use draft::Draft;

@@ -3,23 +3,35 @@ use super::draft::{Component, Draft};
 use crate::engine::layout::*;
 use crate::random::Random;
 
-/// A year pair in the limits, the base year often the foundation year or near it.
+/// A year pair in the limits, the base year often the foundation year or near it, on either side.
 fn years(random: &mut Random) -> (u16, u16) {
     let foundation = match random.below(4) {
         0 => random.pick(&[1992, 1993, 2079, 2080]),
         _ => random.between(1992, 2080),
     };
-    let base = match random.below(4) {
+    let base = match random.below(6) {
         0 => foundation,
         1 => random.between(foundation, (foundation + 10).min(2130)),
         2 => random.pick(&[2129, 2130, foundation + 1]).max(foundation),
-        _ => random.between(foundation, 2130),
+        3 => random.between(foundation, 2130),
+        _ => before(random, foundation),
     };
     (foundation as u16, base as u16)
 }
 
+/// A base year before the foundation year, mostly by a few years.
+fn before(random: &mut Random, foundation: i64) -> i64 {
+    match random.below(16) {
+        0 => 1992,
+        1 => random.between(1992, foundation),
+        2 => foundation - 1,
+        _ => foundation - random.between(1, 10),
+    }
+    .max(1992)
+}
+
 /// A number of either sign and of any order of magnitude up to `limit`.
-fn of_any_size(random: &mut Random, limit: i64) -> i32 {
+pub fn of_any_size(random: &mut Random, limit: i64) -> i32 {
     let size = (limit >> random.below(29)).max(1);
     random.between(-size, size) as i32
 }
@@ -133,17 +145,28 @@ fn components(random: &mut Random, draft: &mut Draft, mut terms: impl FnMut(&mut
 #[cfg(test)]
 mod tests {
     use super::*;
-    use crate::engine::basis::Basis;
+    use crate::bases::histories::MOST_YEARS;
+    use crate::engine::basis::accept_run;
+    use std::ops::RangeInclusive;
 
     #[test]
     fn all_are_accepted_and_every_kind_has_discounts_below_zero() {
         let mut random = Random::new(1);
         for kind in [modest, anywhere, extreme, brink] {
             let runs: Vec<Vec<u8>> = (0..200).map(|_| kind(&mut random).run).collect();
-            let rates = runs.iter().map(|run| Basis::accept(run).expect("within its limits").discount_rate);
+            let rates = runs.iter().map(|run| signed(accept_run(run).expect("within its limits"), DISCOUNT_RATE));
             let below = rates.filter(|&rate| rate < 0).count();
             assert!((1..200).contains(&below), "{below} of 200");
         }
-        assert!(Basis::accept(&fourfold(&mut random).run).is_ok());
+        assert!(accept_run(&fourfold(&mut random).run).is_ok());
+    }
+
+    #[test]
+    fn some_need_a_history_of_a_few_years_and_some_of_many() {
+        let mut random = Random::new(1);
+        let needed: Vec<usize> = (0..2000).map(|_| modest(&mut random).history_years()).collect();
+        assert_eq!(needed.iter().max(), Some(&MOST_YEARS));
+        let among = |years: RangeInclusive<usize>| needed.iter().filter(|needed| years.contains(needed)).count();
+        assert!(among(0..=0) > 1000 && among(1..=10) > 400 && among(11..=MOST_YEARS) > 20);
     }
 }

@@ -101,13 +101,18 @@ fn by_all_workers(settings: &Settings) -> Result<Tally, Box<Found>> {
 }
 
 fn describe(settings: &Settings, found: Found) -> String {
-    let path = env::temp_dir().join(format!("parvusek-difference-{}.run", std::process::id()));
-    let kept = match fs::write(&path, &found.run) {
-        Ok(()) => format!("its data run is in {}", path.display()),
-        Err(why) => format!("its data run could not be kept: {why}"),
-    };
     let (seed, base, kind) = (settings.seed, found.base, found.kind);
-    format!("a difference on base {base} ({kind}) of seed {seed}; {kept}\n{}", found.difference)
+    let (run, history) = (kept("run", &found.run), kept("history", &found.history));
+    format!("a difference on base {base} ({kind}) of seed {seed}; {run}, {history}\n{}", found.difference)
+}
+
+/// Keeps what was lent in a file, and says where.
+fn kept(what: &str, bytes: &[u8]) -> String {
+    let path = env::temp_dir().join(format!("parvusek-difference-{}.{what}", std::process::id()));
+    match fs::write(&path, bytes) {
+        Ok(()) => format!("its {what} is in {}", path.display()),
+        Err(why) => format!("its {what} could not be kept: {why}"),
+    }
 }
 
 /// A read beyond a lent buffer must end a program, or the guards show nothing.

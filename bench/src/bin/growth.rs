@@ -15,6 +15,8 @@ const MEASURE: Duration = Duration::from_micros(200);
 const ROUNDS: usize = 9;
 const BASE_YEAR: u32 = 2006;
 const COHORT_ANNUITY: usize = 5;
+/// The base year is the foundation year, so that no history is needed.
+const NO_HISTORY: &[u8] = &[];
 
 /// An amount of what grows, the work that it makes for both engines, and the least medians of the sweeps so far.
 struct Point<'a> {
@@ -45,8 +47,8 @@ fn factor(run: &[u8], years: u32) -> Point<'_> {
     Point::new(
         "years since the base (factor)",
         years,
-        move || done(ffi::factor(black_box(run), 65, year)),
-        move || done(enquiries::factor(black_box(run), 65, year)),
+        move || done(ffi::factor(black_box(run), NO_HISTORY, 65, year)),
+        move || done(enquiries::factor(black_box(run), NO_HISTORY, 65, year)),
     )
 }
 
@@ -56,8 +58,8 @@ fn annuity(run: &[u8], ages: u32) -> Point<'_> {
     Point::new(
         "ages to 150 (cohort annuity)",
         ages,
-        move || done(ffi::enquiry(COHORT_ANNUITY, black_box(run), question)),
-        move || done(enquiries::annuity(black_box(run), Kind::Cohort, age, 0, BASE_YEAR)),
+        move || done(ffi::enquiry(COHORT_ANNUITY, black_box(run), NO_HISTORY, question)),
+        move || done(enquiries::annuity(black_box(run), NO_HISTORY, Kind::Cohort, age, 0, BASE_YEAR)),
     )
 }
 
@@ -72,8 +74,8 @@ fn grid(run: &[u8], answered: usize) -> Point<'_> {
     Point::new(
         "records answered at age 65 (grid)",
         answered as u32,
-        move || done(ffi::grid(black_box(run), black_box(&mut lent))),
-        move || done(sets::grid(black_box(run), black_box(&mut own))),
+        move || done(ffi::grid(black_box(run), NO_HISTORY, black_box(&mut lent))),
+        move || done(sets::grid(black_box(run), NO_HISTORY, black_box(&mut own))),
     )
 }
 

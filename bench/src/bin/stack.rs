@@ -7,77 +7,74 @@ use parvusek_bench::ffi::{Question, Questions, SmallSet, raw::*};
 use parvusek_bench::random::Random;
 use parvusek_bench::stack::{Arguments, touched};
 
-/// Everything that calls can be lent, and the place of an answer, larger than any.
+/// Everything that calls can be lent.
 struct Lent {
     run: Vec<u8>,
+    history: Vec<u8>,
     file: Vec<u8>,
     output: Vec<u8>,
     records: Vec<Record>,
-    answer: SmallSet,
 }
 
-fn lent(run: Vec<u8>) -> Lent {
+fn lent(run: Vec<u8>, history: Vec<u8>) -> Lent {
     let record = Record { age: 20, deferment: 0, year: 2010, refusal: 0, results: [0; 4], first: 0, second: 0 };
     let mut whole = run.clone();
     whole.resize(RUN_LENGTH, 0);
-    Lent {
-        run,
-        file: files::file_of(&whole),
-        output: vec![0; FILE_LENGTH],
-        records: vec![record; GRID],
-        answer: SmallSet::default(),
-    }
+    Lent { run, history, file: files::file_of(&whole), output: vec![0; FILE_LENGTH], records: vec![record; GRID] }
 }
 
 impl Lent {
-    fn with(&mut self, function: *const (), rest: [u64; 3]) -> usize {
-        let [first, second, third] = rest;
-        let answer = &raw mut self.answer as u64;
-        let registers = [answer, self.run.as_ptr() as u64, self.run.len() as u64, first, second, third];
-        unsafe { touched(function, &Arguments { registers, by_value: [0; 9] }) }
+    /// A call that is lent these bytes, and after them given the rest.
+    fn touched(&self, function: *const (), lent: &[&[u8]], rest: &[u64], by_value: &[u64]) -> usize {
+        // the place of an answer, larger than any other
+        let mut answer = SmallSet::default();
+        let mut words = vec![&raw mut answer as u64];
+        words.extend(lent.iter().flat_map(|bytes| [bytes.as_ptr() as u64, bytes.len() as u64]));
+        words.extend(rest);
+        unsafe { touched(function, &Arguments::new(&words, by_value)) }
+    }
+
+    /// A call that is lent the run and the history.
+    fn with(&self, function: *const (), rest: &[u64]) -> usize {
+        self.touched(function, &[&self.run, &self.history], rest, &[])
     }
 
     fn file_calls(&mut self) -> [(&'static str, usize); 5] {
         let (out, length) = (self.output.as_mut_ptr() as u64, self.output.len() as u64);
-        let answer = &raw mut self.answer as u64;
-        let read = [answer, self.file.as_ptr() as u64, self.file.len() as u64, out, length, 0];
         let records = self.records.as_mut_ptr() as u64;
+        let (run, file): (&[u8], &[u8]) = (&self.run, &self.file);
         [
-            ("check_basis", self.with(parvusek_check_basis as *const (), [0; 3])),
-            ("read_basis", unsafe {
-                touched(parvusek_read_basis as *const (), &Arguments { registers: read, by_value: [0; 9] })
-            }),
-            ("write_basis", self.with(parvusek_write_basis as *const (), [out, length, 0])),
-            ("short_form", self.with(parvusek_short_form as *const (), [10_000_000, out, length])),
-            ("grid", self.with(parvusek_grid as *const (), [records, GRID as u64, 0])),
+            ("check_basis", self.touched(parvusek_check_basis as *const (), &[run], &[], &[])),
+            ("read_basis", self.touched(parvusek_read_basis as *const (), &[file], &[out, length], &[])),
+            ("write_basis", self.touched(parvusek_write_basis as *const (), &[run], &[out, length], &[])),
+            ("short_form", self.touched(parvusek_short_form as *const (), &[run], &[10_000_000, out, length], &[])),
+            ("grid", self.with(parvusek_grid as *const (), &[records, GRID as u64])),
         ]
     }
 
-    fn cells(&mut self, question: Question) -> [(&'static str, usize); 5] {
+    fn cells(&self, question: Question) -> [(&'static str, usize); 5] {
         let Question { age, year, .. } = question;
         let (age, year) = (u64::from(age), u64::from(year));
         [
-            ("improvement", self.with(parvusek_improvement as *const (), [age, year, 0])),
-            ("factor", self.with(parvusek_factor as *const (), [age, year, 0])),
-            ("rate", self.with(parvusek_rate as *const (), [age, year, 0])),
-            ("lifeline_start", self.with(parvusek_lifeline_start as *const (), [age, year, 0])),
-            ("lifeline_step", self.with(parvusek_lifeline_step as *const (), [age, year, 999_999_999])),
+            ("improvement", self.with(parvusek_improvement as *const (), &[age, year])),
+            ("factor", self.with(parvusek_factor as *const (), &[age, year])),
+            ("rate", self.with(parvusek_rate as *const (), &[age, year])),
+            ("lifeline_start", self.with(parvusek_lifeline_start as *const (), &[age, year])),
+            ("lifeline_step", self.with(parvusek_lifeline_step as *const (), &[age, year, 999_999_999])),
         ]
     }
 
-    fn values(&mut self, question: Question) -> [(&'static str, usize); 6] {
+    fn values(&self, question: Question) -> [(&'static str, usize); 6] {
         let Question { age, deferment, year } = question;
         let rest = [u64::from(age), u64::from(deferment), u64::from(year)];
-        std::array::from_fn(|which| (VALUES[which], self.with(ENQUIRIES[which] as *const (), rest)))
+        std::array::from_fn(|which| (VALUES[which], self.with(ENQUIRIES[which] as *const (), &rest)))
     }
 
-    fn small_set(&mut self, questions: Questions) -> (&'static str, usize) {
+    fn small_set(&self, questions: Questions) -> (&'static str, usize) {
         let numbers = questions.points.map(|point| [point.age, point.deferment, point.year]).concat();
-        let by_value =
+        let by_value: [u64; 9] =
             std::array::from_fn(|word| u64::from(numbers[2 * word]) | u64::from(numbers[2 * word + 1]) << 32);
-        let answer = &raw mut self.answer as u64;
-        let registers = [answer, self.run.as_ptr() as u64, self.run.len() as u64, 0, 0, 0];
-        ("small_set", unsafe { touched(parvusek_small_set as *const (), &Arguments { registers, by_value }) })
+        ("small_set", self.touched(parvusek_small_set as *const (), &[&self.run, &self.history], &[], &by_value))
     }
 }
 
@@ -98,8 +95,12 @@ fn main() {
     };
     let mut random = Random::new(1);
     for base in 0..60 {
-        let run = if base == 0 { Draft::benchmark().run } else { inputs::run(&mut random).1 };
-        let mut lent = lent(run);
+        let mut lent = if base == 0 {
+            lent(Draft::benchmark().run, Vec::new())
+        } else {
+            let inputs::Basis { run, history, .. } = inputs::basis(&mut random);
+            lent(run, history)
+        };
         lent.file_calls().into_iter().for_each(&mut note);
         for _ in 0..20 {
             let question = inputs::question(&mut random, &lent.run);

@@ -1,6 +1,6 @@
-//! Two threads ask the archive on the same lent run, in different orders at the same time, and get the answers that one
-//! thread got before: there is no state to share.
-use parvusek_bench::bases::Draft;
+//! Two threads ask the archive on the same lent run and history, in different orders at the same time, and get the
+//! answers that one thread got before: there is no state to share.
+use parvusek_bench::bases::{Draft, histories};
 use parvusek_bench::compare::inputs;
 use parvusek_bench::ffi::{self, Answer, Lifeline, Question, Refusal, SignedAnswer, SmallSet};
 use parvusek_bench::random::Random;
@@ -19,30 +19,34 @@ struct Answers {
 }
 
 /// Everything about one question; the small set for one in eight, as it costs the most.
-fn ask(run: &[u8], index: usize, question: Question) -> Answers {
+fn ask(run: &[u8], history: &[u8], index: usize, question: Question) -> Answers {
     let Question { age, year, .. } = question;
-    let set = index.is_multiple_of(8).then(|| ffi::small_set(run, ffi::Questions { points: [question; 6] }));
+    let set = index.is_multiple_of(8).then(|| ffi::small_set(run, history, ffi::Questions { points: [question; 6] }));
     Answers {
         check: ffi::check_basis(run),
-        improvement: ffi::improvement(run, age, year),
-        cells: [ffi::factor(run, age, year), ffi::rate(run, age, year)],
-        enquiries: std::array::from_fn(|which| ffi::enquiry(which, run, question)),
-        lifeline: [ffi::lifeline_start(run, age, year), ffi::lifeline_step(run, age, year, 987_654_321)],
+        improvement: ffi::improvement(run, history, age, year),
+        cells: [ffi::factor(run, history, age, year), ffi::rate(run, history, age, year)],
+        enquiries: std::array::from_fn(|which| ffi::enquiry(which, run, history, question)),
+        lifeline: [
+            ffi::lifeline_start(run, history, age, year),
+            ffi::lifeline_step(run, history, age, year, 987_654_321),
+        ],
         set,
     }
 }
 
 fn main() -> ExitCode {
-    let run = Draft::benchmark().run;
+    let (Draft { run }, history) = (Draft::benchmark_from(2006, 2000), histories::benchmark(6));
     let mut random = Random::new(1);
     let questions: Vec<Question> = (0..400).map(|_| inputs::question(&mut random, &run)).collect();
-    let alone: Vec<Answers> = questions.iter().enumerate().map(|(index, asked)| ask(&run, index, *asked)).collect();
+    let alone: Vec<Answers> =
+        questions.iter().enumerate().map(|(index, asked)| ask(&run, &history, index, *asked)).collect();
     let together = Barrier::new(2);
     let compare = |backwards: bool| {
         together.wait();
         (0..questions.len()).find(|&index| {
             let index = if backwards { questions.len() - 1 - index } else { index };
-            ask(&run, index, questions[index]) != alone[index]
+            ask(&run, &history, index, questions[index]) != alone[index]
         })
     };
     let found: Vec<Option<usize>> = thread::scope(|scope| {
@@ -50,9 +54,9 @@ fn main() -> ExitCode {
         threads.into_iter().map(|thread| thread.join().expect("a thread panicked")).collect()
     });
     if found.iter().any(Option::is_some) {
-        println!("threads: FAILED: two threads on one run got other answers than one thread, at {found:?}");
+        println!("threads: FAILED: two threads on one run and history got other answers than one thread, at {found:?}");
         return ExitCode::FAILURE;
     }
-    println!("threads: 2 threads on one run got the answers of one, {} questions each", questions.len());
+    println!("threads: 2 threads on one run and history got the answers of one, {} questions each", questions.len());
     ExitCode::SUCCESS
 }

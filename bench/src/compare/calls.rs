@@ -2,6 +2,7 @@
 use super::inputs;
 use super::report::{Difference, FUNCTIONS, Function, Tally};
 use crate::bases::{damaged, files};
+use crate::engine::basis::Basis;
 use crate::engine::layout::{FILE_LENGTH, RUN_LENGTH};
 use crate::engine::lifeline::{self, Stand};
 use crate::engine::sets::{self, GRID, Record};
@@ -14,11 +15,22 @@ use std::fmt::Debug;
 
 /// The buffers that are lent, and the count of what was seen.
 pub struct Calls {
-    pub run: Guarded,
+    run: Guarded,
+    history: Guarded,
+    part: HistoryPart,
     file: Guarded,
     output: Guarded,
     records: Guarded,
     pub tally: Tally,
+}
+
+/// What the history that is lent has to do with the answers.
+#[derive(Clone, Copy, PartialEq, Eq)]
+enum HistoryPart {
+    /// The run is refused, or needs no history and gets none.
+    None,
+    Used,
+    Refused,
 }
 
 type Compared = Result<(), Difference>;
@@ -26,11 +38,46 @@ type Compared = Result<(), Difference>;
 impl Default for Calls {
     fn default() -> Self {
         let room = Guarded::new;
-        Calls { run: room(2), file: room(2), output: room(3), records: room(2), tally: Tally::default() }
+        Calls {
+            run: room(2),
+            // a year more than the longest has
+            history: room(23),
+            part: HistoryPart::None,
+            file: room(2),
+            output: room(3),
+            records: room(2),
+            tally: Tally::default(),
+        }
     }
 }
 
 impl Calls {
+    /// Lends this run and this history to the calls that follow.
+    pub fn lend(&mut self, random: &mut Random, run: &[u8], history: &[u8]) {
+        self.run.lend(run, edge(random));
+        self.history.lend(history, edge(random));
+        self.part = match (enquiries::check_basis(run), Basis::accept(run, history)) {
+            (Ok(()), Err(_)) => HistoryPart::Refused,
+            (Ok(()), Ok(_)) if !history.is_empty() => HistoryPart::Used,
+            _ => HistoryPart::None,
+        };
+    }
+
+    /// The data run and the history.
+    pub fn lent(&self) -> (&[u8], &[u8]) {
+        (self.run.bytes(), self.history.bytes())
+    }
+
+    /// Whether this outcome of a call is an answer by means of the history, or the history's own refusal.
+    fn by_history(&self, function: Function, refusal: u32) -> bool {
+        function.lends_history()
+            && match self.part {
+                HistoryPart::None => false,
+                HistoryPart::Used => refusal == 0,
+                HistoryPart::Refused => refusal != 11,
+            }
+    }
+
     fn same<T: PartialEq + Debug>(
         &mut self,
         function: Function,
@@ -41,6 +88,9 @@ impl Calls {
     ) -> Compared {
         self.tally.call();
         self.tally.outcome(function, refusal);
+        if self.by_history(function, refusal) {
+            self.tally.by_history(function, refusal);
+        }
         if rust == proved {
             return Ok(());
         }
@@ -111,20 +161,21 @@ impl Calls {
     }
 
     pub fn improvement(&mut self, random: &mut Random) -> Compared {
-        let (age, year) = (inputs::age(random), inputs::year(random, self.run.bytes()));
-        let proved = ffi::improvement(self.run.bytes(), age, year);
-        let rust = SignedAnswer::from(enquiries::improvement(self.run.bytes(), age, year));
+        let (run, history) = self.lent();
+        let (age, year) = (inputs::age(random), inputs::year(random, run));
+        let proved = ffi::improvement(run, history, age, year);
+        let rust = SignedAnswer::from(enquiries::improvement(run, history, age, year));
         let asked = || format!("age {age} year {year}");
         self.same(Function::Improvement, rust.refusal.number, &asked, &rust, &proved)
     }
 
     pub fn factor_or_rate(&mut self, random: &mut Random) -> Compared {
-        let (age, year) = (inputs::age(random), inputs::year(random, self.run.bytes()));
-        let run = self.run.bytes();
+        let (run, history) = self.lent();
+        let (age, year) = (inputs::age(random), inputs::year(random, run));
         let (function, proved, rust) = if random.one_in(2) {
-            (Function::Factor, ffi::factor(run, age, year), enquiries::factor(run, age, year))
+            (Function::Factor, ffi::factor(run, history, age, year), enquiries::factor(run, history, age, year))
         } else {
-            (Function::Rate, ffi::rate(run, age, year), enquiries::rate(run, age, year))
+            (Function::Rate, ffi::rate(run, history, age, year), enquiries::rate(run, history, age, year))
         };
         let rust = Answer::from(rust);
         self.same(function, rust.refusal.number, &|| format!("age {age} year {year}"), &rust, &proved)
@@ -133,22 +184,22 @@ impl Calls {
     /// Survivorship, expectation or annuity, period or cohort.
     pub fn enquiry(&mut self, random: &mut Random) -> Compared {
         let which = random.below(6) as usize;
-        let run = self.run.bytes();
+        let (run, history) = self.lent();
         let question = inputs::question(random, run);
         let ffi::Question { age, deferment, year } = question;
         let kind = if which.is_multiple_of(2) { Kind::Period } else { Kind::Cohort };
         let ask = [enquiries::survivorship, enquiries::expectation, enquiries::annuity][which / 2];
-        let proved = ffi::enquiry(which, run, question);
-        let rust = Answer::from(ask(run, kind, age, deferment, year));
+        let proved = ffi::enquiry(which, run, history, question);
+        let rust = Answer::from(ask(run, history, kind, age, deferment, year));
         let function = FUNCTIONS[Function::PeriodSurvivorship as usize + which];
         self.same(function, rust.refusal.number, &|| format!("{question:?}"), &rust, &proved)
     }
 
     pub fn small_set(&mut self, random: &mut Random) -> Compared {
-        let run = self.run.bytes();
+        let (run, history) = self.lent();
         let questions = inputs::questions(random, run);
-        let proved = ffi::small_set(run, questions);
-        let rust = SmallSet::from(sets::small_set(run, &questions.points.map(sets::Question::from)));
+        let proved = ffi::small_set(run, history, questions);
+        let rust = SmallSet::from(sets::small_set(run, history, &questions.points.map(sets::Question::from)));
         if rust.refusal.number == 0 {
             for point in &rust.points {
                 self.tally.outcome(Function::SmallSet, point.refusal.number);
@@ -159,7 +210,7 @@ impl Calls {
 
     /// The grid, with the same promise about its records as an output has about its bytes.
     pub fn grid(&mut self, random: &mut Random) -> Compared {
-        let run = self.run.bytes();
+        let (run, history) = (self.run.bytes(), self.history.bytes());
         let count = inputs::records_count(random);
         let mut rust_records: Vec<Record> = (0..count).map(|_| inputs::record(random, run)).collect();
         self.records.place(count * size_of::<Record>(), edge(random));
@@ -167,8 +218,8 @@ impl Calls {
         let lent = unsafe { self.records.values_mut::<Record>() };
         lent.copy_from_slice(&rust_records);
         let before = rust_records.clone();
-        let proved = ffi::grid(run, lent);
-        let rust = Refusal::from(sets::grid(run, &mut rust_records));
+        let proved = ffi::grid(run, history, lent);
+        let rust = Refusal::from(sets::grid(run, history, &mut rust_records));
         let kept = proved.number == 0 || lent == before;
         let differing = lent.iter().zip(&rust_records).position(|(found, wanted)| found != wanted);
         let found = differing.map(|place| (place, before[place], rust_records[place], lent[place]));
@@ -182,22 +233,23 @@ impl Calls {
     }
 
     pub fn lifeline_start(&mut self, random: &mut Random) -> Compared {
-        let (age, year) = (inputs::age(random), inputs::year(random, self.run.bytes()));
-        let proved = ffi::lifeline_start(self.run.bytes(), age, year);
-        let rust = Lifeline::of_start(lifeline::start(self.run.bytes(), age, year));
+        let (run, history) = self.lent();
+        let (age, year) = (inputs::age(random), inputs::year(random, run));
+        let proved = ffi::lifeline_start(run, history, age, year);
+        let rust = Lifeline::of_start(lifeline::start(run, history, age, year));
         self.same(Function::LifelineStart, rust.refusal.number, &|| format!("age {age} year {year}"), &rust, &proved)
     }
 
     pub fn lifeline_step(&mut self, random: &mut Random) -> Compared {
-        let run = self.run.bytes();
+        let (run, history) = self.lent();
         let age = inputs::age(random);
         let year = match random.below(4) {
             0 => 2110u32.wrapping_add(age).wrapping_add(random.below(3) as u32).wrapping_sub(1),
             _ => inputs::year(random, run),
         };
         let stand = Stand { age, year, survivors: inputs::survivors(random) };
-        let proved = ffi::lifeline_step(run, age, year, stand.survivors);
-        let rust = Lifeline::of_step(stand, lifeline::step(run, stand));
+        let proved = ffi::lifeline_step(run, history, age, year, stand.survivors);
+        let rust = Lifeline::of_step(stand, lifeline::step(run, history, stand));
         self.same(Function::LifelineStep, rust.refusal.number, &|| format!("{stand:?}"), &rust, &proved)
     }
 }

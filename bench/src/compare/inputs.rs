@@ -1,38 +1,73 @@
 //! What is asked: numbers that are mostly in their limits, often at them, and sometimes any 32 bits.
-use crate::bases::{Draft, damaged, valid};
+use crate::bases::{Draft, damaged, histories, valid};
 use crate::engine::layout::*;
 use crate::engine::sets::{Record, Results};
 use crate::engine::units::UNIT;
 use crate::ffi::{Question, Questions};
 use crate::random::Random;
 
-/// The kinds of basis, by the name that the report gives them.
-pub const BASES: [&str; 6] = ["modest", "anywhere", "extreme", "brink", "damaged", "benchmark"];
+/// A data run and a history to ask about, and the name that the report gives to their kind.
+pub struct Basis {
+    pub kind: &'static str,
+    pub run: Vec<u8>,
+    pub history: Vec<u8>,
+}
 
-/// A data run to ask about, and its kind.
-pub fn run(random: &mut Random) -> (usize, Vec<u8>) {
-    let kind = random.pick(&[0, 0, 0, 0, 1, 1, 2, 2, 3, 3, 4, 4]);
-    match kind {
-        0 if random.one_in(16) => (5, Draft::benchmark().run),
-        4 => {
-            let mut run = accepted(random).run;
-            damaged::damage(random, &mut run);
-            (4, run)
+/// A basis of any kind, as it is or damaged in its run, in its history or in both.
+pub fn basis(random: &mut Random) -> Basis {
+    match random.below(14) {
+        0..=3 => accepted(random, "modest"),
+        4 | 5 => accepted(random, "anywhere"),
+        6 | 7 => accepted(random, "extreme"),
+        8 | 9 => accepted(random, "brink"),
+        10 | 11 => {
+            let mut basis = any_accepted(random);
+            damaged::damage(random, &mut basis.run);
+            if random.one_in(4) {
+                histories::damage(random, &mut basis.history);
+            }
+            Basis { kind: "damaged", ..basis }
         }
-        1 => (1, valid::anywhere(random).run),
-        2 => (2, valid::extreme(random).run),
-        3 if random.one_in(4) => (3, valid::fourfold(random).run),
-        3 => (3, valid::brink(random).run),
-        _ => (0, valid::modest(random).run),
+        _ => {
+            let mut basis = any_accepted(random);
+            // of a history that is not needed only the length can be wrong
+            while basis.history.is_empty() && !random.one_in(4) {
+                basis = any_accepted(random);
+            }
+            for _ in 0..=random.below(2) {
+                histories::damage(random, &mut basis.history);
+            }
+            Basis { kind: "history damaged", ..basis }
+        }
     }
 }
 
-fn accepted(random: &mut Random) -> Draft {
-    match random.below(3) {
-        0 => valid::modest(random),
-        1 => valid::anywhere(random),
-        _ => valid::extreme(random),
+fn any_accepted(random: &mut Random) -> Basis {
+    let kind = random.pick(&["modest", "anywhere", "extreme"]);
+    accepted(random, kind)
+}
+
+/// The draft of a kind, with a history of the years that it needs and mostly of its own kind.
+fn accepted(random: &mut Random, kind: &'static str) -> Basis {
+    let draft = match kind {
+        "modest" if random.one_in(16) => Draft::benchmark(),
+        "modest" => valid::modest(random),
+        "anywhere" => valid::anywhere(random),
+        "extreme" => valid::extreme(random),
+        _ if random.one_in(4) => valid::fourfold(random),
+        _ => valid::brink(random),
+    };
+    let mut improvements = match kind {
+        "modest" => histories::modest,
+        "anywhere" => histories::anywhere,
+        "extreme" => histories::extreme,
+        _ => histories::brink,
+    };
+    if random.one_in(8) {
+        improvements = random.pick(&[histories::modest, histories::anywhere, histories::extreme, histories::brink]);
     }
+    let history = improvements(random, draft.history_years());
+    Basis { kind, run: draft.run, history }
 }
 
 pub fn any_number(random: &mut Random) -> u32 {
@@ -59,6 +94,7 @@ pub fn year(random: &mut Random, run: &[u8]) -> u32 {
         1 => random.pick(&[foundation, foundation + 1, base, base + 1, LAST_YEAR]),
         2 => random.pick(&[foundation.wrapping_sub(1), base.wrapping_sub(1), 2129, 2131]),
         3 => random.between(1980, 2140) as u32,
+        4..=6 if base < foundation => random.between(i64::from(base), i64::from(foundation) + 2) as u32,
         _ => random.between(i64::from(base.min(2130)), 2130) as u32,
     }
 }

@@ -1,5 +1,7 @@
 //! What is lent at its oddest: nothing, at a pointer that cannot be read, and the proof that guards are noticed.
+use crate::bases::Draft;
 use crate::engine::layout::RUN_LENGTH;
+use crate::engine::sets::{GRID, Record};
 use crate::ffi::raw::*;
 use crate::ffi::{Questions, Refusal};
 use crate::guard::{Edge, Guarded};
@@ -17,6 +19,10 @@ pub fn empty_lendings() -> Result<(), String> {
     let mut guarded = Guarded::new(1);
     let at_guard = guarded.place(0, Edge::Back).as_mut_ptr();
     for pointer in [ptr::null_mut(), ptr::without_provenance_mut(1), at_guard] {
+        let answered = refusals_without_history(pointer);
+        if answered.iter().any(|refusal| *refusal != Refusal::default()) {
+            return Err(format!("a history of length 0 at {pointer:?}: {answered:?}"));
+        }
         let refusals = refusals_of_nothing(pointer);
         let wanted = |number, first| Refusal { number, first, second: 0 };
         let mut expected = vec![wanted(1, 0), wanted(11, 4554), wanted(11, 4608), wanted(11, 4554), wanted(11, 119)];
@@ -26,9 +32,31 @@ pub fn empty_lendings() -> Result<(), String> {
         }
     }
     println!(
-        "compare: a length of 0 with a null pointer, one out of line and one that cannot be read is refused as 1 or 11"
+        "compare: a length of 0 with a null pointer, one out of line and one that cannot be read is refused as 1 or 11, \
+         and for a history that is not needed it is no fault"
     );
     Ok(())
+}
+
+/// Every call that is lent a history, on a run that needs none.
+fn refusals_without_history(nothing: *mut u8) -> Vec<Refusal> {
+    let run = Draft::benchmark().run;
+    let (lent, length) = (run.as_ptr(), run.len());
+    let mut records =
+        [Record { age: 150, deferment: 0, year: 2010, refusal: 0, results: [0; 4], first: 0, second: 0 }; GRID];
+    unsafe {
+        let mut refusals = vec![
+            parvusek_grid(lent, length, nothing, 0, records.as_mut_ptr(), GRID),
+            parvusek_improvement(lent, length, nothing, 0, 60, 2010).refusal,
+            parvusek_factor(lent, length, nothing, 0, 60, 2010).refusal,
+            parvusek_rate(lent, length, nothing, 0, 60, 2010).refusal,
+            parvusek_small_set(lent, length, nothing, 0, Questions::default()).refusal,
+            parvusek_lifeline_start(lent, length, nothing, 0, 60, 2010).refusal,
+            parvusek_lifeline_step(lent, length, nothing, 0, 60, 2010, 0).refusal,
+        ];
+        refusals.extend(ENQUIRIES.map(|enquiry| enquiry(lent, length, nothing, 0, 60, 0, 2010).refusal));
+        refusals
+    }
 }
 
 fn refusals_of_nothing(nothing: *mut u8) -> Vec<Refusal> {
@@ -38,15 +66,15 @@ fn refusals_of_nothing(nothing: *mut u8) -> Vec<Refusal> {
             parvusek_read_basis(nothing, 0, nothing, 0),
             parvusek_write_basis(nothing, 0, nothing, 0),
             parvusek_short_form(nothing, 0, 0, nothing, 0),
-            parvusek_grid(nothing, 0, nothing.cast(), 0),
-            parvusek_improvement(nothing, 0, 60, 2010).refusal,
-            parvusek_factor(nothing, 0, 60, 2010).refusal,
-            parvusek_rate(nothing, 0, 60, 2010).refusal,
-            parvusek_small_set(nothing, 0, Questions::default()).refusal,
-            parvusek_lifeline_start(nothing, 0, 60, 2010).refusal,
-            parvusek_lifeline_step(nothing, 0, 60, 2010, 0).refusal,
+            parvusek_grid(nothing, 0, nothing, 0, nothing.cast(), 0),
+            parvusek_improvement(nothing, 0, nothing, 0, 60, 2010).refusal,
+            parvusek_factor(nothing, 0, nothing, 0, 60, 2010).refusal,
+            parvusek_rate(nothing, 0, nothing, 0, 60, 2010).refusal,
+            parvusek_small_set(nothing, 0, nothing, 0, Questions::default()).refusal,
+            parvusek_lifeline_start(nothing, 0, nothing, 0, 60, 2010).refusal,
+            parvusek_lifeline_step(nothing, 0, nothing, 0, 60, 2010, 0).refusal,
         ];
-        refusals.extend(ENQUIRIES.map(|enquiry| enquiry(nothing, 0, 60, 0, 2010).refusal));
+        refusals.extend(ENQUIRIES.map(|enquiry| enquiry(nothing, 0, nothing, 0, 60, 0, 2010).refusal));
         refusals
     }
 }

@@ -43,14 +43,29 @@ pub const FUNCTIONS: [Function; 17] = [
     Function::LifelineStep,
 ];
 
-/// The refusals that a call of the archive can give; 12 belongs to lines of text.
-const REFUSALS: usize = 12;
+impl Function {
+    /// All but those that ask about the data run alone.
+    pub fn lends_history(self) -> bool {
+        use Function::*;
+        !matches!(self, CheckBasis | ReadBasis | WriteBasis | ShortForm)
+    }
+}
+
+/// 0 for an answer, and the refusals 1 to 13; 12 belongs to lines of text, and no call of the archive gives it.
+const OUTCOMES: usize = 14;
+
+/// What a history leads to: an answer by means of it, and its own refusals in their order.
+const HISTORY_OUTCOMES: [usize; 6] = [0, 13, 2, 3, 4, 5];
+
+type Counts = [[u64; OUTCOMES]; FUNCTIONS.len()];
 
 /// Calls by function and by refusal, 0 for an answer. A point of a set is counted under its set.
 #[derive(Clone, Default)]
 pub struct Tally {
     calls: u64,
-    outcomes: [[u64; REFUSALS]; FUNCTIONS.len()],
+    outcomes: Counts,
+    /// Of these, the answers on a run whose history is needed, and what the history itself refused.
+    by_history: Counts,
 }
 
 impl Tally {
@@ -59,7 +74,11 @@ impl Tally {
     }
 
     pub fn outcome(&mut self, function: Function, refusal: u32) {
-        self.outcomes[function as usize][(refusal as usize).min(REFUSALS - 1)] += 1;
+        self.outcomes[function as usize][(refusal as usize).min(OUTCOMES - 1)] += 1;
+    }
+
+    pub fn by_history(&mut self, function: Function, refusal: u32) {
+        self.by_history[function as usize][(refusal as usize).min(OUTCOMES - 1)] += 1;
     }
 
     pub fn calls(&self) -> u64 {
@@ -68,8 +87,8 @@ impl Tally {
 
     pub fn add(&mut self, other: &Tally) {
         self.calls += other.calls;
-        for (row, more) in self.outcomes.iter_mut().zip(&other.outcomes) {
-            row.iter_mut().zip(more).for_each(|(sum, count)| *sum += count);
+        for (counts, more) in [(&mut self.outcomes, &other.outcomes), (&mut self.by_history, &other.by_history)] {
+            counts.as_flattened_mut().iter_mut().zip(more.as_flattened()).for_each(|(sum, count)| *sum += count);
         }
     }
 
@@ -82,12 +101,17 @@ impl Tally {
                     missing.push(format!("{function:?} {refusal}"));
                 }
             }
+            for refusal in HISTORY_OUTCOMES {
+                if function.lends_history() && self.by_history[function as usize][refusal] == 0 {
+                    missing.push(format!("{function:?} {refusal} by the history"));
+                }
+            }
         }
         missing
     }
 }
 
-/// 0 and the refusals that 01 names for each function.
+/// 0 and the refusals that 01 names for each function, without those of a history.
 fn possible(function: Function) -> &'static [usize] {
     use Function::*;
     match function {
@@ -106,17 +130,30 @@ fn possible(function: Function) -> &'static [usize] {
 
 impl fmt::Display for Tally {
     fn fmt(&self, f: &mut fmt::Formatter) -> fmt::Result {
-        write!(f, "{:<20}{:>10}", "", "answered")?;
-        (1..REFUSALS).try_for_each(|refusal| write!(f, "{refusal:>8}"))?;
-        writeln!(f)?;
-        for function in FUNCTIONS {
-            let row = self.outcomes[function as usize];
-            write!(f, "{:<20}{:>10}", format!("{function:?}"), row[0])?;
-            row[1..].iter().try_for_each(|count| write!(f, "{count:>8}"))?;
-            writeln!(f)?;
-        }
-        Ok(())
+        table(f, "", &FUNCTIONS, &std::array::from_fn::<usize, OUTCOMES, _>(|refusal| refusal), &self.outcomes)?;
+        let lending: Vec<Function> = FUNCTIONS.into_iter().filter(|function| function.lends_history()).collect();
+        table(f, "by the history", &lending, &HISTORY_OUTCOMES, &self.by_history)
     }
+}
+
+/// A row for each function, a column for each outcome, and their sums.
+fn table(f: &mut fmt::Formatter, title: &str, rows: &[Function], columns: &[usize], counts: &Counts) -> fmt::Result {
+    write!(f, "{title:<20}")?;
+    for &outcome in columns {
+        if outcome == 0 { write!(f, "{:>10}", "answered")? } else { write!(f, "{outcome:>8}")? }
+    }
+    writeln!(f)?;
+    let mut line = |name: String, count: &dyn Fn(usize) -> u64| {
+        write!(f, "{name:<20}")?;
+        for &outcome in columns {
+            write!(f, "{:>1$}", count(outcome), if outcome == 0 { 10 } else { 8 })?;
+        }
+        writeln!(f)
+    };
+    for &function in rows {
+        line(format!("{function:?}"), &|outcome| counts[function as usize][outcome])?;
+    }
+    line("all".into(), &|outcome| rows.iter().map(|&function| counts[function as usize][outcome]).sum())
 }
 
 /// A call on which the two engines differ, or that broke the header's promise about a lent output.

@@ -1,8 +1,8 @@
 //! A stretch of the comparison: bases by number, each from a stream of its own, and the calls on each.
-use super::calls::{Calls, edge};
+use super::calls::Calls;
 use super::inputs;
 use super::report::{Difference, Tally};
-use crate::engine::enquiries;
+use crate::engine::basis::Basis;
 use crate::engine::layout::RUN_LENGTH;
 use crate::random::Random;
 
@@ -12,6 +12,7 @@ pub struct Found {
     pub base: u64,
     pub kind: &'static str,
     pub run: Vec<u8>,
+    pub history: Vec<u8>,
     pub difference: Difference,
 }
 
@@ -29,14 +30,17 @@ pub fn compare(seed: u64, first: u64, every: u64, enough: impl Fn(&Tally) -> boo
 /// All that is asked of one base.
 pub fn compare_base(calls: &mut Calls, seed: u64, base: u64) -> Result<(), Box<Found>> {
     let mut random = Random::case(seed, base);
-    let (kind, run) = inputs::run(&mut random);
-    calls.run.lend(&run, edge(&mut random));
-    ask(calls, &mut random).map_err(|difference| Box::new(Found { base, kind: inputs::BASES[kind], run, difference }))
+    let inputs::Basis { kind, run, history } = inputs::basis(&mut random);
+    calls.lend(&mut random, &run, &history);
+    ask(calls, &mut random).map_err(|difference| Box::new(Found { base, kind, run, history, difference }))
 }
 
 fn ask(calls: &mut Calls, random: &mut Random) -> Result<(), Difference> {
     calls.check_basis()?;
-    let rounds = if calls.run.bytes().len() == RUN_LENGTH { 10 } else { 2 };
+    let (run, history) = calls.lent();
+    // the sets cost the most, unless the basis is refused
+    let refused = Basis::accept(run, history).is_err();
+    let rounds = if run.len() == RUN_LENGTH { 10 } else { 2 };
     for round in 0..rounds {
         calls.lifeline_start(random)?;
         if round % 4 == 0 {
@@ -51,12 +55,10 @@ fn ask(calls: &mut Calls, random: &mut Random) -> Result<(), Difference> {
             calls.lifeline_step(random)?;
         }
     }
-    // the sets cost the most, unless the run is refused
-    let refused = enquiries::check_basis(calls.run.bytes()).is_err();
     if refused || random.one_in(8) {
         calls.small_set(random)?;
     }
-    if refused || random.one_in(64) {
+    if refused || random.one_in(16) {
         calls.grid(random)?;
     }
     Ok(())

@@ -1,33 +1,46 @@
-//! A data run that has passed its checks, and the checks: 1, then every 4, then 5 by offset.
+//! A data run that has passed its checks, and the checks: 1, then every 4, then 5 by offset. A basis is such a run with
+//! the history that its years need.
+use super::history::History;
 use super::layout::*;
 use super::refusal::Refusal;
 use std::ops::RangeInclusive;
 
-/// An accepted data run with its single fields; the tables are read where they are used.
+/// An accepted data run with its single fields, and its history; the tables of both are read where they are used.
 #[derive(Clone, Copy)]
-pub struct Basis<'run> {
-    pub run: &'run [u8; RUN_LENGTH],
+pub struct Basis<'lent> {
+    pub run: &'lent [u8; RUN_LENGTH],
+    pub history: History<'lent>,
     pub foundation_year: u32,
     pub base_year: u32,
     pub constant_addition: i64,
     pub discount_rate: i64,
 }
 
-impl<'run> Basis<'run> {
-    /// Checks a lent run afresh.
-    pub fn accept(run: &'run [u8]) -> Result<Self, Refusal> {
-        let run: &[u8; RUN_LENGTH] = run.try_into().map_err(|_| Refusal::length())?;
-        check_mark(run)?;
-        check_single_fields(run)?;
-        check_tables(run)?;
+impl<'lent> Basis<'lent> {
+    /// Checks a lent run afresh, and after it the history that is lent beside it.
+    pub fn accept(run: &'lent [u8], history: &'lent [u8]) -> Result<Self, Refusal> {
+        let run = accept_run(run)?;
+        let (foundation_year, base_year) = (short(run, FOUNDATION_YEAR), short(run, BASE_YEAR));
+        // a base year at the foundation year or later needs none
+        let years = foundation_year.saturating_sub(base_year);
         Ok(Basis {
             run,
-            foundation_year: short(run, FOUNDATION_YEAR),
-            base_year: short(run, BASE_YEAR),
+            history: History::accept(history, years as usize)?,
+            foundation_year,
+            base_year,
             constant_addition: i64::from(signed(run, CONSTANT_ADDITION)),
             discount_rate: i64::from(signed(run, DISCOUNT_RATE)),
         })
     }
+}
+
+/// Checks a lent run afresh, by itself: whether its years need a history is not asked.
+pub fn accept_run(run: &[u8]) -> Result<&[u8; RUN_LENGTH], Refusal> {
+    let run: &[u8; RUN_LENGTH] = run.try_into().map_err(|_| Refusal::length())?;
+    check_mark(run)?;
+    check_single_fields(run)?;
+    check_tables(run)?;
+    Ok(run)
 }
 
 fn check_mark(run: &[u8; RUN_LENGTH]) -> Result<(), Refusal> {
@@ -41,11 +54,10 @@ fn check_mark(run: &[u8; RUN_LENGTH]) -> Result<(), Refusal> {
 }
 
 fn check_single_fields(run: &[u8; RUN_LENGTH]) -> Result<(), Refusal> {
-    let foundation_year = short(run, FOUNDATION_YEAR);
-    if !(FIRST_YEAR..=LAST_FOUNDATION_YEAR).contains(&foundation_year) {
+    if !(FIRST_YEAR..=LAST_FOUNDATION_YEAR).contains(&short(run, FOUNDATION_YEAR)) {
         return Err(Refusal::field(FOUNDATION_YEAR));
     }
-    if !(foundation_year..=LAST_YEAR).contains(&short(run, BASE_YEAR)) {
+    if !(FIRST_YEAR..=LAST_YEAR).contains(&short(run, BASE_YEAR)) {
         return Err(Refusal::field(BASE_YEAR));
     }
     if !ADDITIONS.contains(&signed(run, CONSTANT_ADDITION)) {

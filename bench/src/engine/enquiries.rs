@@ -1,5 +1,5 @@
-//! The enquiries: the run is checked, then the question by 6, 8, 7, then the work is done.
-use super::basis::Basis;
+//! The enquiries: the run and the history are checked, then the question by 6, 8, 7, then the work is done.
+use super::basis::{Basis, accept_run};
 use super::layout::{FIRST_AGE, LAST_AGE, LAST_YEAR};
 use super::refusal::Refusal;
 use super::valuation::Kind;
@@ -22,43 +22,57 @@ pub fn check_question(basis: &Basis, age: u32, deferment: u32, year: u32) -> Res
 }
 
 pub fn check_basis(run: &[u8]) -> Result<(), Refusal> {
-    Basis::accept(run).map(|_| ())
+    accept_run(run).map(|_| ())
 }
 
-pub fn improvement(run: &[u8], age: u32, year: u32) -> Result<i64, Refusal> {
-    let basis = Basis::accept(run)?;
+pub fn improvement(run: &[u8], history: &[u8], age: u32, year: u32) -> Result<i64, Refusal> {
+    let basis = Basis::accept(run, history)?;
     check_age(age)?;
-    check_year(year, basis.foundation_year)?;
+    check_year(year, basis.first_improvement_year())?;
     basis.improvement(age, year)
 }
 
-pub fn factor(run: &[u8], age: u32, year: u32) -> Result<u64, Refusal> {
-    let basis = Basis::accept(run)?;
+pub fn factor(run: &[u8], history: &[u8], age: u32, year: u32) -> Result<u64, Refusal> {
+    let basis = Basis::accept(run, history)?;
     check_question(&basis, age, 0, year)?;
     basis.factor(age, year)
 }
 
-pub fn rate(run: &[u8], age: u32, year: u32) -> Result<u64, Refusal> {
-    let basis = Basis::accept(run)?;
+pub fn rate(run: &[u8], history: &[u8], age: u32, year: u32) -> Result<u64, Refusal> {
+    let basis = Basis::accept(run, history)?;
     check_question(&basis, age, 0, year)?;
     basis.rate(age, year)
 }
 
 /// The deferment is the number of years survived.
-pub fn survivorship(run: &[u8], kind: Kind, age: u32, deferment: u32, year: u32) -> Result<u64, Refusal> {
-    let basis = Basis::accept(run)?;
+pub fn survivorship(
+    run: &[u8],
+    history: &[u8],
+    kind: Kind,
+    age: u32,
+    deferment: u32,
+    year: u32,
+) -> Result<u64, Refusal> {
+    let basis = Basis::accept(run, history)?;
     check_question(&basis, age, deferment, year)?;
     basis.survivorship(kind, age, deferment, year)
 }
 
-pub fn expectation(run: &[u8], kind: Kind, age: u32, deferment: u32, year: u32) -> Result<u64, Refusal> {
-    let basis = Basis::accept(run)?;
+pub fn expectation(
+    run: &[u8],
+    history: &[u8],
+    kind: Kind,
+    age: u32,
+    deferment: u32,
+    year: u32,
+) -> Result<u64, Refusal> {
+    let basis = Basis::accept(run, history)?;
     check_question(&basis, age, deferment, year)?;
     basis.expectation(kind, age, deferment, year)
 }
 
-pub fn annuity(run: &[u8], kind: Kind, age: u32, deferment: u32, year: u32) -> Result<u64, Refusal> {
-    let basis = Basis::accept(run)?;
+pub fn annuity(run: &[u8], history: &[u8], kind: Kind, age: u32, deferment: u32, year: u32) -> Result<u64, Refusal> {
+    let basis = Basis::accept(run, history)?;
     check_question(&basis, age, deferment, year)?;
     basis.annuity(kind, age, deferment, year)
 }

@@ -9,6 +9,9 @@ use super::valuation::Kind;
 use crate::bases::Draft;
 use crate::bases::draft::Component::{Age, BirthYear};
 
+/// The history of a basis that needs none.
+const NONE: &[u8] = &[];
+
 fn component(initial_rate: i64, long_term_rate: i64, period: i64, proportion: i64, years: i64) -> i64 {
     Component { initial_rate, long_term_rate, convergence_period: period, proportion_remaining: proportion }
         .after(years)
@@ -36,7 +39,7 @@ fn level(rate: i32) -> Draft {
 #[test]
 fn factors() {
     let draft = level(10_000_000);
-    let at = |year| factor(&draft.run, 60, year).unwrap();
+    let at = |year| factor(&draft.run, NONE, 60, year).unwrap();
     assert_eq!([2006, 2007, 2008, 2009].map(at), [UNIT, 990_000_000, 980_100_000, 970_299_000]);
 }
 
@@ -47,7 +50,7 @@ fn a_factor_above_four() {
     for index in 0..BIRTH_YEARS {
         draft.set_component(BirthYear, index, [-200_000_000; 2], 20, 50);
     }
-    let at = |year| factor(&draft.run, 60, year);
+    let at = |year| factor(&draft.run, NONE, 60, year);
     assert_eq!([2007, 2008, 2009].map(at), [1_500_000_000, 2_250_000_000, 3_375_000_000].map(Ok));
     assert_eq!(at(2010), Err(Refusal::factor(60, 2010)));
     assert_eq!(at(2130), Err(Refusal::factor(60, 2010)));
@@ -58,9 +61,9 @@ fn an_improvement_beyond_its_limits() {
     let mut draft = Draft::plain(2006, 2006);
     draft.set_component(Age, 40, [200_000_000, -200_000_000], 4, 150);
     assert_eq!(component(200_000_000, -200_000_000, 4, 150, 1), 587_500_000);
-    assert_eq!(improvement(&draft.run, 60, 2006), Ok(200_000_000));
-    assert_eq!(improvement(&draft.run, 60, 2007), Err(Refusal::improvement(60, 2007)));
-    assert_eq!(factor(&draft.run, 60, 2008), Err(Refusal::improvement(60, 2007)));
+    assert_eq!(improvement(&draft.run, NONE, 60, 2006), Ok(200_000_000));
+    assert_eq!(improvement(&draft.run, NONE, 60, 2007), Err(Refusal::improvement(60, 2007)));
+    assert_eq!(factor(&draft.run, NONE, 60, 2008), Err(Refusal::improvement(60, 2007)));
 }
 
 #[test]
@@ -68,8 +71,8 @@ fn an_annuity() {
     let mut draft = Draft::plain(2006, 2006);
     draft.set_base_rate(129, 100_000_000);
     draft.set_discount_rate(200_000_000);
-    assert_eq!(annuity(&draft.run, Kind::Period, 149, 0, 2006), Ok(1_750_000_000));
-    assert_eq!(annuity(&draft.run, Kind::Cohort, 149, 0, 2130), Ok(1_750_000_000));
+    assert_eq!(annuity(&draft.run, NONE, Kind::Period, 149, 0, 2006), Ok(1_750_000_000));
+    assert_eq!(annuity(&draft.run, NONE, Kind::Cohort, 149, 0, 2130), Ok(1_750_000_000));
 }
 
 /// The discounts are 1,010,101,010 and 1,020,304,051, of which nine tenths and 0.81 are paid; at -1 the first is
@@ -78,11 +81,11 @@ fn an_annuity() {
 fn annuities_at_a_rate_below_zero() {
     let mut draft = tenth();
     draft.set_discount_rate(-10_000_000);
-    assert_eq!(annuity(&draft.run, Kind::Period, 149, 0, 2010), Ok(1_909_090_909));
-    assert_eq!(annuity(&draft.run, Kind::Cohort, 148, 0, 2130), Ok(2_735_537_190));
-    assert_eq!(annuity(&draft.run, Kind::Cohort, 148, 1, 2130), Ok(1_735_537_190));
+    assert_eq!(annuity(&draft.run, NONE, Kind::Period, 149, 0, 2010), Ok(1_909_090_909));
+    assert_eq!(annuity(&draft.run, NONE, Kind::Cohort, 148, 0, 2130), Ok(2_735_537_190));
+    assert_eq!(annuity(&draft.run, NONE, Kind::Cohort, 148, 1, 2130), Ok(1_735_537_190));
     draft.set_discount_rate(-1);
-    assert_eq!(annuity(&draft.run, Kind::Period, 149, 0, 2010), Ok(1_900_000_001));
+    assert_eq!(annuity(&draft.run, NONE, Kind::Period, 149, 0, 2010), Ok(1_900_000_001));
 }
 
 /// Where nobody dies a payment is the discount itself, and the last one is the greatest that there is.
@@ -91,7 +94,7 @@ fn the_greatest_discount() {
     let mut draft = Draft::plain(2006, 2006);
     draft.set_discount_rate(-10_000_000);
     for kind in [Kind::Period, Kind::Cohort] {
-        assert_eq!(annuity(&draft.run, kind, 20, 130, 2006), Ok(3_693_386_042));
+        assert_eq!(annuity(&draft.run, NONE, kind, 20, 130, 2006), Ok(3_693_386_042));
     }
 }
 
@@ -105,7 +108,7 @@ fn tenth() -> Draft {
 #[test]
 fn the_points_program() {
     let draft = tenth();
-    let basis = Basis::accept(&draft.run).unwrap();
+    let basis = Basis::accept(&draft.run, NONE).unwrap();
     let at = |age, deferment| super::sets::point(&basis, super::sets::Question { age, deferment, year: 2010 });
     assert_eq!(at(148, 0), Ok([2_210_000_000, 2_210_000_000, 2_710_000_000, 2_710_000_000]));
     assert_eq!(at(150, 0), Ok([500_000_000, 500_000_000, 1_000_000_000, 1_000_000_000]));
@@ -115,16 +118,16 @@ fn the_points_program() {
 #[test]
 fn a_deferred_annuity_starts_at_the_undeferred_age() {
     let draft = tenth();
-    assert_eq!(annuity(&draft.run, Kind::Period, 148, 1, 2010), Ok(1_710_000_000));
-    assert_eq!(expectation(&draft.run, Kind::Period, 148, 1, 2010), Ok(1_400_000_000));
-    assert_eq!(survivorship(&draft.run, Kind::Cohort, 20, 2, 2010), Ok(810_000_000));
+    assert_eq!(annuity(&draft.run, NONE, Kind::Period, 148, 1, 2010), Ok(1_710_000_000));
+    assert_eq!(expectation(&draft.run, NONE, Kind::Period, 148, 1, 2010), Ok(1_400_000_000));
+    assert_eq!(survivorship(&draft.run, NONE, Kind::Cohort, 20, 2, 2010), Ok(810_000_000));
 }
 
 #[test]
 fn the_addition_begins_after_the_foundation_year() {
     let mut draft = tenth();
     draft.set_addition(7);
-    assert_eq!([2006, 2007].map(|year| improvement(&draft.run, 60, year)), [Ok(0), Ok(7)]);
+    assert_eq!([2006, 2007].map(|year| improvement(&draft.run, NONE, 60, year)), [Ok(0), Ok(7)]);
 }
 
 #[test]
@@ -133,14 +136,17 @@ fn the_factor_belongs_to_the_attained_age() {
     let born = 1950;
     draft.set_component(BirthYear, (born - FIRST_BIRTH_YEAR) as usize, [100_000_000; 2], 20, 50);
     // only the year in which an age meets the birth year moves its factor
-    assert_eq!([2009, 2010, 2011].map(|year| factor(&draft.run, 60, year)), [UNIT, 900_000_000, 900_000_000].map(Ok));
-    assert_eq!(factor(&draft.run, 61, 2010), Ok(UNIT));
+    assert_eq!(
+        [2009, 2010, 2011].map(|year| factor(&draft.run, NONE, 60, year)),
+        [UNIT, 900_000_000, 900_000_000].map(Ok)
+    );
+    assert_eq!(factor(&draft.run, NONE, 61, 2010), Ok(UNIT));
 }
 
 #[test]
 fn the_factor_is_held_after_2130() {
     let draft = level(10_000_000);
-    let basis = Basis::accept(&draft.run).unwrap();
+    let basis = Basis::accept(&draft.run, NONE).unwrap();
     assert_eq!(basis.factor(60, 2131), basis.factor(60, 2130));
-    assert_eq!(factor(&draft.run, 60, 2131), Err(Refusal::year(2131)));
+    assert_eq!(factor(&draft.run, NONE, 60, 2131), Err(Refusal::year(2131)));
 }

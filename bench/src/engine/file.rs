@@ -1,5 +1,5 @@
 //! The basis file: nine blocks of a number, data and a check.
-use super::basis::Basis;
+use super::basis::accept_run;
 use super::layout::*;
 use super::refusal::Refusal;
 
@@ -9,7 +9,8 @@ fn block_check(block: &[u8]) -> u32 {
     words.zip(1u32..).fold(0u32, |sum, (word, place)| sum.wrapping_add(place.wrapping_mul(signed(word, 0) as u32)))
 }
 
-fn check_block(number: usize, block: &[u8]) -> Result<(), Refusal> {
+/// The block that stands at this place of a basis file or of a history.
+pub(super) fn check_block(number: usize, block: &[u8]) -> Result<(), Refusal> {
     if signed(block, BLOCK_LENGTH - 4) as u32 != block_check(block) {
         return Err(Refusal::block_check(number));
     }
@@ -32,7 +33,7 @@ pub fn read_basis(file: &[u8], run: &mut [u8]) -> Result<(), Refusal> {
         check_block(number, block)?;
         joined[number * BLOCK_DATA..][..BLOCK_DATA].copy_from_slice(&block[2..2 + BLOCK_DATA]);
     }
-    Basis::accept(&joined)?;
+    accept_run(&joined)?;
     run.copy_from_slice(&joined);
     Ok(())
 }
@@ -42,8 +43,7 @@ pub fn write_basis(run: &[u8], file: &mut [u8]) -> Result<(), Refusal> {
     let Some(file) = file.get_mut(..FILE_LENGTH) else {
         return Err(Refusal::output(FILE_LENGTH));
     };
-    let basis = Basis::accept(run)?;
-    let parts = basis.run.chunks_exact(BLOCK_DATA);
+    let parts = accept_run(run)?.chunks_exact(BLOCK_DATA);
     for ((number, data), block) in (0u16..).zip(parts).zip(file.chunks_exact_mut(BLOCK_LENGTH)) {
         block[..2].copy_from_slice(&number.to_le_bytes());
         block[2..2 + BLOCK_DATA].copy_from_slice(data);

@@ -1,4 +1,4 @@
-//! Where the data run's fields stand, and their limits.
+//! Where the fields of a data run and of a history stand, and their limits.
 use std::ops::RangeInclusive;
 
 pub const FIRST_AGE: u32 = 20;
@@ -18,6 +18,10 @@ pub const BLOCK_LENGTH: usize = 512;
 pub const BLOCK_DATA: usize = 506;
 pub const FILE_LENGTH: usize = BLOCKS * BLOCK_LENGTH;
 pub const RUN_LENGTH: usize = BLOCKS * BLOCK_DATA;
+
+/// A year of a history file is two blocks, and each has the improvements of so many ages, in their order.
+pub const HISTORY_PARTS: [usize; 2] = [66, 65];
+pub const HISTORY_YEAR: usize = HISTORY_PARTS.len() * BLOCK_LENGTH;
 
 pub const MARK: [u8; 4] = *b"MPB1";
 pub const FOUNDATION_YEAR: usize = 4;
@@ -39,6 +43,7 @@ pub const ADDITIONS: RangeInclusive<i32> = -100_000_000..=100_000_000;
 pub const DISCOUNT_RATES: RangeInclusive<i32> = -10_000_000..=200_000_000;
 pub const MORTALITY_RATES: RangeInclusive<i32> = 0..=1_000_000_000;
 pub const IMPROVEMENT_RATES: RangeInclusive<i32> = -200_000_000..=200_000_000;
+pub const ACTUAL_IMPROVEMENTS: RangeInclusive<i32> = -500_000_000..=500_000_000;
 pub const PERIODS: RangeInclusive<u8> = 1..=50;
 pub const PROPORTIONS: RangeInclusive<u8> = 0..=150;
 
@@ -74,5 +79,12 @@ mod tests {
         assert_eq!(BIRTH_PROPORTIONS + BIRTH_YEARS, RUN_LENGTH);
         assert_eq!((LAST_AGE - FIRST_AGE + 1) as usize, AGES);
         assert_eq!((LAST_BIRTH_YEAR - FIRST_BIRTH_YEAR + 1) as usize, BIRTH_YEARS);
+    }
+
+    #[test]
+    fn a_year_of_a_history_has_every_age_once() {
+        let [younger, older] = HISTORY_PARTS;
+        assert_eq!(((85 - FIRST_AGE + 1) as usize, (LAST_AGE - 86 + 1) as usize), (younger, older));
+        assert_eq!((younger + older, HISTORY_YEAR), (AGES, 1024));
     }
 }

@@ -1,4 +1,5 @@
-//! The lifeline: one life's cohort survivorship, a year at a step. The caller keeps where it stands.
+//! The lifeline: one life's cohort survivorship, a year at a step. The caller keeps where it stands, and lends run and
+//! history each time.
 use super::basis::Basis;
 use super::enquiries::check_question;
 use super::layout::{FIRST_AGE, LAST_AGE, LAST_BIRTH_YEAR, RUN_LENGTH};
@@ -18,15 +19,15 @@ pub enum Step {
     Ended,
 }
 
-pub fn start(run: &[u8], age: u32, year: u32) -> Result<Stand, Refusal> {
-    let basis = Basis::accept(run)?;
+pub fn start(run: &[u8], history: &[u8], age: u32, year: u32) -> Result<Stand, Refusal> {
+    let basis = Basis::accept(run, history)?;
     check_question(&basis, age, 0, year)?;
     Ok(Stand { age, year, survivors: UNIT })
 }
 
 /// One year on from where it stands. Refused or ended, it stands where it stood.
-pub fn step(run: &[u8], stand: Stand) -> Result<Step, Refusal> {
-    let basis = Basis::accept(run)?;
+pub fn step(run: &[u8], history: &[u8], stand: Stand) -> Result<Step, Refusal> {
+    let basis = Basis::accept(run, history)?;
     let Stand { age, year, survivors } = stand;
     if !(FIRST_AGE..=LAST_AGE).contains(&age) {
         return Err(Refusal::age(age));

@@ -1,8 +1,10 @@
-//! The rules of 01, written once more from the paper alone. No call keeps anything for a later one: the data run is
-//! checked once in each call, and the terms of an age are read once where its factor is worked out.
+//! The rules of 01 as the changes leave them, written once more from the papers alone. No call keeps anything for a later
+//! one: the data run and the history are checked once in each call, and the terms of an age are read once where its
+//! factor is worked out.
 pub mod basis;
 pub mod enquiries;
 pub mod file;
+pub mod history;
 pub mod layout;
 pub mod lifeline;
 pub mod projection;
@@ -14,6 +16,8 @@ pub mod valuation;
 
 #[cfg(test)]
 mod figures;
+#[cfg(test)]
+mod histories;
 #[cfg(test)]
 mod orders;
 

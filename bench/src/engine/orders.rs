@@ -10,6 +10,9 @@ use super::units::UNIT;
 use super::valuation::Kind;
 use crate::bases::{Draft, files};
 
+/// The history of a basis that needs none.
+const NONE: &[u8] = &[];
+
 #[test]
 fn checks_of_a_run() {
     let mut run = Draft::plain(2006, 2006).run;
@@ -25,10 +28,13 @@ fn checks_of_a_run() {
 }
 
 #[test]
-fn a_base_year_before_the_foundation_year() {
-    assert_eq!(check_basis(&Draft::plain(2006, 2005).run), Err(Refusal::field(6)));
-    assert_eq!(check_basis(&Draft::plain(2081, 2081).run), Err(Refusal::field(4)));
-    assert_eq!(check_basis(&Draft::plain(2080, 2130).run), Ok(()));
+fn the_limits_of_the_years() {
+    let checked = |foundation_year, base_year| check_basis(&Draft::plain(foundation_year, base_year).run);
+    for (foundation_year, base_year) in [(1992, 1992), (2006, 2005), (2080, 1992), (1992, 2130), (2080, 2130)] {
+        assert_eq!(checked(foundation_year, base_year), Ok(()));
+    }
+    assert_eq!([1991, 2131].map(|base_year| checked(2006, base_year)), [Err(Refusal::field(6)); 2]);
+    assert_eq!([1991, 2081].map(|foundation_year| checked(foundation_year, 1991)), [Err(Refusal::field(4)); 2]);
 }
 
 #[test]
@@ -45,15 +51,15 @@ fn the_limits_of_the_rate_of_discount() {
 #[test]
 fn questions() {
     let run = Draft::plain(2006, 2010).run;
-    let asked = |age, deferment, year| expectation(&run, Kind::Cohort, age, deferment, year);
+    let asked = |age, deferment, year| expectation(&run, NONE, Kind::Cohort, age, deferment, year);
     assert_eq!(asked(19, u32::MAX, 0), Err(Refusal::age(19)));
     assert_eq!(asked(u32::MAX, 0, 0), Err(Refusal::age(u32::MAX)));
     assert_eq!(asked(20, u32::MAX, 0), Err(Refusal::deferment(20, u32::MAX)));
     assert_eq!(asked(20, 130, 2009), Err(Refusal::year(2009)));
     assert_eq!(asked(20, 130, 2130), Ok(UNIT / 2));
-    assert_eq!(improvement(&run, 20, 2006), Ok(0));
-    assert_eq!(improvement(&run, 20, 2005), Err(Refusal::year(2005)));
-    assert_eq!(rate(&run, 20, 2009), Err(Refusal::year(2009)));
+    assert_eq!(improvement(&run, NONE, 20, 2006), Ok(0));
+    assert_eq!(improvement(&run, NONE, 20, 2005), Err(Refusal::year(2005)));
+    assert_eq!(rate(&run, NONE, 20, 2009), Err(Refusal::year(2009)));
 }
 
 #[test]
@@ -107,26 +113,26 @@ fn sets() {
     let blank = Record { age: 150, deferment: 0, year: 2006, refusal: 9, results: [1; 4], first: 1, second: 1 };
     let mut records = vec![blank; GRID + 1];
     records[1].age = 151;
-    assert_eq!(grid(&run[1..], &mut records[..GRID - 1]), Err(Refusal::output(119)));
-    assert_eq!(grid(&run[1..], &mut records), Err(Refusal::length()));
+    assert_eq!(grid(&run[1..], NONE, &mut records[..GRID - 1]), Err(Refusal::output(119)));
+    assert_eq!(grid(&run[1..], NONE, &mut records), Err(Refusal::length()));
     assert_eq!(records[0], blank);
-    assert_eq!(grid(&run, &mut records), Ok(()));
+    assert_eq!(grid(&run, NONE, &mut records), Ok(()));
     let answered = [UNIT / 2, UNIT / 2, UNIT, UNIT];
     assert_eq!(records[0], Record { refusal: 0, results: answered, first: 0, second: 0, ..blank });
     assert_eq!(records[1], Record { age: 151, refusal: 6, results: [0; 4], first: 151, second: 0, ..blank });
     assert_eq!(records[GRID], blank);
     let mut questions = [Question { age: 150, deferment: 0, year: 2006 }; 6];
     questions[5].year = 2131;
-    let set = small_set(&run, &questions).unwrap();
+    let set = small_set(&run, NONE, &questions).unwrap();
     assert_eq!((set[0], set[5]), (Ok(answered), Err(Refusal::year(2131))));
 }
 
 #[test]
 fn a_lifeline() {
     let run = Draft::plain(2006, 2006).run;
-    let stepped = |age, year, survivors| lifeline::step(&run, Stand { age, year, survivors });
-    assert_eq!(lifeline::start(&run, 20, 2130), Ok(Stand { age: 20, year: 2130, survivors: UNIT }));
-    assert_eq!(lifeline::start(&run, 20, 2131), Err(Refusal::year(2131)));
+    let stepped = |age, year, survivors| lifeline::step(&run, NONE, Stand { age, year, survivors });
+    assert_eq!(lifeline::start(&run, NONE, 20, 2130), Ok(Stand { age: 20, year: 2130, survivors: UNIT }));
+    assert_eq!(lifeline::start(&run, NONE, 20, 2131), Err(Refusal::year(2131)));
     assert_eq!(stepped(149, 2259, 5), Ok(Step::Moved(Stand { age: 150, year: 2260, survivors: 5 })));
     assert_eq!(stepped(150, 2260, UNIT), Ok(Step::Ended));
     assert_eq!(stepped(150, 2261, UNIT + 1), Err(Refusal::year(2261)));

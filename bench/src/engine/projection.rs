@@ -1,4 +1,4 @@
-//! Weight and component, improvement, reduction factor and mortality rate.
+//! Weight and component, improvement (actual or projected), reduction factor and mortality rate.
 use super::basis::Basis;
 use super::layout::*;
 use super::refusal::Refusal;
@@ -26,6 +26,13 @@ impl Component {
         let whole = 100 * period * period * period;
         self.long_term_rate + rounded((self.initial_rate - self.long_term_rate) * weight, whole)
     }
+}
+
+/// The factor a year later, if it is not above 4 U.
+#[inline]
+fn improved(factor: u64, improvement: i64) -> Option<u64> {
+    let factor = product(factor, (UNIT as i64 - improvement) as u64);
+    (factor <= 4 * UNIT).then_some(factor)
 }
 
 impl Basis<'_> {
@@ -56,32 +63,44 @@ impl Basis<'_> {
         }
     }
 
-    /// The improvement at an age of 20 to 150 in a year from the foundation year to 2130, or 9.
+    /// The first year that has an improvement: where there is a history, its first.
+    pub fn first_improvement_year(&self) -> u32 {
+        if self.base_year < self.foundation_year { self.base_year + 1 } else { self.foundation_year }
+    }
+
+    /// The improvement at an age of 20 to 150 in a year from the first that has one to 2130, or 9.
     pub fn improvement(&self, age: u32, year: u32) -> Result<i64, Refusal> {
-        let improvement = self.improvement_of(&self.age_component(age), age, year);
-        if IMPROVEMENTS.contains(&improvement) { Ok(improvement) } else { Err(Refusal::improvement(age, year)) }
+        if self.base_year < year && year <= self.foundation_year {
+            return Ok(self.actual_improvement(age, year));
+        }
+        self.projected_improvement(&self.age_component(age), age, year)
+    }
+
+    /// The history's, as it stands there: no addition, and its limits are those of 9.
+    #[inline]
+    fn actual_improvement(&self, age: u32, year: u32) -> i64 {
+        self.history.improvement(age, year - self.base_year - 1)
     }
 
     #[inline]
-    fn improvement_of(&self, age_component: &Component, age: u32, year: u32) -> i64 {
+    fn projected_improvement(&self, age_component: &Component, age: u32, year: u32) -> Result<i64, Refusal> {
         let years = i64::from(year - self.foundation_year);
         let addition = if years > 0 { self.constant_addition } else { 0 };
-        age_component.after(years) + self.birth_year_component(year - age).after(years) + addition
+        let improvement = age_component.after(years) + self.birth_year_component(year - age).after(years) + addition;
+        if IMPROVEMENTS.contains(&improvement) { Ok(improvement) } else { Err(Refusal::improvement(age, year)) }
     }
 
     /// The factor at an age of 20 to 150 in a year from the base year on, or the first 9 or 10 on the way to it.
     pub fn factor(&self, age: u32, year: u32) -> Result<u64, Refusal> {
-        let age_component = self.age_component(age);
+        let end = year.min(LAST_YEAR) + 1;
         let mut factor = UNIT;
-        for year in self.base_year + 1..year.min(LAST_YEAR) + 1 {
-            let improvement = self.improvement_of(&age_component, age, year);
-            if !IMPROVEMENTS.contains(&improvement) {
-                return Err(Refusal::improvement(age, year));
-            }
-            factor = product(factor, (UNIT as i64 - improvement) as u64);
-            if factor > 4 * UNIT {
-                return Err(Refusal::factor(age, year));
-            }
+        for year in self.base_year + 1..end.min(self.foundation_year + 1) {
+            factor = improved(factor, self.actual_improvement(age, year)).ok_or(Refusal::factor(age, year))?;
+        }
+        let age_component = self.age_component(age);
+        for year in self.base_year.max(self.foundation_year) + 1..end {
+            let improvement = self.projected_improvement(&age_component, age, year)?;
+            factor = improved(factor, improvement).ok_or(Refusal::factor(age, year))?;
         }
         Ok(factor)
     }

@@ -66,4 +66,9 @@ impl Refusal {
     pub const fn output(needed: usize) -> Self {
         Self::new(11, needed as u64, 0)
     }
+
+    /// 13: a history of another length than its years need.
+    pub const fn history_length(needed: usize) -> Self {
+        Self::new(13, needed as u64, 0)
+    }
 }

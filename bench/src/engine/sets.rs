@@ -31,8 +31,8 @@ pub fn point(basis: &Basis, question: Question) -> Result<Results, Refusal> {
 
 pub type SmallSet = [Result<Results, Refusal>; SMALL_SET];
 
-pub fn small_set(run: &[u8], questions: &[Question; SMALL_SET]) -> Result<SmallSet, Refusal> {
-    let basis = Basis::accept(run)?;
+pub fn small_set(run: &[u8], history: &[u8], questions: &[Question; SMALL_SET]) -> Result<SmallSet, Refusal> {
+    let basis = Basis::accept(run, history)?;
     Ok(questions.map(|question| point(&basis, question)))
 }
 
@@ -65,11 +65,11 @@ impl Record {
     }
 }
 
-pub fn grid(run: &[u8], records: &mut [Record]) -> Result<(), Refusal> {
+pub fn grid(run: &[u8], history: &[u8], records: &mut [Record]) -> Result<(), Refusal> {
     let Some(records) = records.get_mut(..GRID) else {
         return Err(Refusal::output(GRID));
     };
-    let basis = Basis::accept(run)?;
+    let basis = Basis::accept(run, history)?;
     records.iter_mut().for_each(|record| record.answer(&basis));
     Ok(())
 }

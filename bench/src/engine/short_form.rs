@@ -1,5 +1,5 @@
 //! The short form: a run whose long-term rates, periods and proportions come from one long-term rate.
-use super::basis::Basis;
+use super::basis::accept_run;
 use super::layout::*;
 use super::refusal::Refusal;
 use super::units::rounded;
@@ -36,11 +36,11 @@ pub fn short_form(run: &[u8], long_term_rate: i32, out: &mut [u8]) -> Result<(),
     let Some(out) = out.get_mut(..RUN_LENGTH) else {
         return Err(Refusal::output(RUN_LENGTH));
     };
-    let basis = Basis::accept(run)?;
+    let run = accept_run(run)?;
     if !IMPROVEMENT_RATES.contains(&long_term_rate) {
         return Err(Refusal::field(AGE_LONG_TERM));
     }
-    out.copy_from_slice(basis.run);
+    out.copy_from_slice(run);
     for (entry, &share) in out[AGE_LONG_TERM..AGE_PERIODS].chunks_exact_mut(4).zip(&SHARES) {
         entry.copy_from_slice(&long_term_rate_at(share, long_term_rate).to_le_bytes());
     }
