@@ -1,6 +1,6 @@
 /* Checks the boundary that nothing proves: C sees the engine's structs where the engine puts them, and each function
    answers and refuses as the definitions say on a few cases worked by hand. Prints one line, and each check that failed.
-   The sets and the lifeline are in check_sets.c. */
+   The sets and the lifeline are in check_sets.c, bases older than their foundation year in check_histories.c. */
 #include <stddef.h>
 #include <stdio.h>
 #include <string.h>
@@ -26,11 +26,11 @@ int passed(parvusek_refusal_t r) { return refused(r, 0, 0, 0); }
 
 int is(parvusek_answer_t a, uint64_t value) { return passed(a.refusal) && a.value == value; }
 
-static int declined(parvusek_answer_t a, uint32_t number, uint64_t first, uint64_t second) {
+int declined(parvusek_answer_t a, uint32_t number, uint64_t first, uint64_t second) {
     return refused(a.refusal, number, first, second) && a.value == 0;
 }
 
-static int is_signed(parvusek_signed_answer_t a, int64_t value) { return passed(a.refusal) && a.value == value; }
+int is_signed(parvusek_signed_answer_t a, int64_t value) { return passed(a.refusal) && a.value == value; }
 
 static int all(const uint8_t *at, size_t n, uint8_t byte) {
     for (size_t i = 0; i < n; i++)
@@ -40,7 +40,7 @@ static int all(const uint8_t *at, size_t n, uint8_t byte) {
 
 /* ---- bases */
 
-static void put2(uint8_t *at, uint32_t n) {
+void put2(uint8_t *at, uint32_t n) {
     at[0] = (uint8_t)n;
     at[1] = (uint8_t)(n >> 8);
 }
@@ -54,7 +54,7 @@ static uint32_t get4(const uint8_t *at) {
     return at[0] | (uint32_t)at[1] << 8 | (uint32_t)at[2] << 16 | (uint32_t)at[3] << 24;
 }
 
-static void fill4(uint8_t *at, size_t count, int32_t n) {
+void fill4(uint8_t *at, size_t count, int32_t n) {
     for (size_t i = 0; i < count; i++) put4(at + 4 * i, n);
 }
 
@@ -137,7 +137,13 @@ static void check_runs(void) {
     HOLDS(passed(parvusek_check_basis(run, RUN)));
     HOLDS(refused(parvusek_check_basis(run, RUN - 1), 1, 0, 0));
     HOLDS(refused(parvusek_check_basis(NULL, 0), 1, 0, 0));
-    put2(run + 6, 2005);
+    put2(run + 6, 1992);
+    HOLDS(passed(parvusek_check_basis(run, RUN)));
+    put2(run + 6, 2130);
+    HOLDS(passed(parvusek_check_basis(run, RUN)));
+    put2(run + 6, 2131);
+    HOLDS(refused(parvusek_check_basis(run, RUN), 5, 6, 0));
+    put2(run + 6, 1991);
     HOLDS(refused(parvusek_check_basis(run, RUN), 5, 6, 0));
     run[17] = 1;
     HOLDS(refused(parvusek_check_basis(run, RUN), 4, 17, 0));
@@ -150,7 +156,7 @@ static void check_runs(void) {
     HOLDS(refused(parvusek_check_basis(run, RUN), 5, 12, 0));
 }
 
-static uint32_t block_check(const uint8_t *block) {
+uint32_t block_check(const uint8_t *block) {
     uint32_t sum = 0;
     for (uint32_t i = 0; i < 127; i++) sum += get4(block + 4 * i) * (i + 1);
     return sum;
@@ -223,37 +229,37 @@ static void check_short_forms(void) {
 static void check_cells(void) {
     uint8_t run[RUN];
     sample(run);
-    HOLDS(is_signed(parvusek_improvement(run, RUN, 148, 2010), 0));
-    HOLDS(is(parvusek_factor(run, RUN, 148, 2010), 1000000000));
-    HOLDS(is(parvusek_rate(run, RUN, 148, 2010), 100000000));
-    HOLDS(declined(parvusek_factor(run, RUN, 19, 2131), 6, 19, 0));
-    HOLDS(declined(parvusek_rate(run, RUN, UINT32_MAX, 2010), 6, UINT32_MAX, 0));
-    HOLDS(declined(parvusek_factor(run, RUN, 150, UINT32_MAX), 7, UINT32_MAX, 0));
-    HOLDS(declined(parvusek_rate(run, RUN, 20, 2005), 7, 2005, 0));
-    HOLDS(declined(parvusek_rate(run, RUN - 1, 19, 2005), 1, 0, 0));
+    HOLDS(is_signed(parvusek_improvement(run, RUN, NO_HISTORY, 148, 2010), 0));
+    HOLDS(is(parvusek_factor(run, RUN, NO_HISTORY, 148, 2010), 1000000000));
+    HOLDS(is(parvusek_rate(run, RUN, NO_HISTORY, 148, 2010), 100000000));
+    HOLDS(declined(parvusek_factor(run, RUN, NO_HISTORY, 19, 2131), 6, 19, 0));
+    HOLDS(declined(parvusek_rate(run, RUN, NO_HISTORY, UINT32_MAX, 2010), 6, UINT32_MAX, 0));
+    HOLDS(declined(parvusek_factor(run, RUN, NO_HISTORY, 150, UINT32_MAX), 7, UINT32_MAX, 0));
+    HOLDS(declined(parvusek_rate(run, RUN, NO_HISTORY, 20, 2005), 7, 2005, 0));
+    HOLDS(declined(parvusek_rate(run, RUN - 1, NO_HISTORY, 19, 2005), 1, 0, 0));
 
     /* an improvement is asked from F on, the others from B on */
     put2(run + 6, 2009);
-    HOLDS(is_signed(parvusek_improvement(run, RUN, 60, 2006), 0));
-    HOLDS(declined(parvusek_factor(run, RUN, 60, 2008), 7, 2008, 0));
+    HOLDS(is_signed(parvusek_improvement(run, RUN, NO_HISTORY, 60, 2006), 0));
+    HOLDS(declined(parvusek_factor(run, RUN, NO_HISTORY, 60, 2008), 7, 2008, 0));
 
     sample_with_addition(run, 10000000);
-    HOLDS(is_signed(parvusek_improvement(run, RUN, 60, 2006), 0));
-    HOLDS(is_signed(parvusek_improvement(run, RUN, 60, 2007), 10000000));
-    HOLDS(is(parvusek_factor(run, RUN, 60, 2006), 1000000000));
-    HOLDS(is(parvusek_factor(run, RUN, 60, 2009), 970299000));
-    HOLDS(is(parvusek_rate(run, RUN, 60, 2009), 97029900));
+    HOLDS(is_signed(parvusek_improvement(run, RUN, NO_HISTORY, 60, 2006), 0));
+    HOLDS(is_signed(parvusek_improvement(run, RUN, NO_HISTORY, 60, 2007), 10000000));
+    HOLDS(is(parvusek_factor(run, RUN, NO_HISTORY, 60, 2006), 1000000000));
+    HOLDS(is(parvusek_factor(run, RUN, NO_HISTORY, 60, 2009), 970299000));
+    HOLDS(is(parvusek_rate(run, RUN, NO_HISTORY, 60, 2009), 97029900));
 
     sample_worsening(run);
-    HOLDS(is_signed(parvusek_improvement(run, RUN, 60, 2006), -400000000));
-    HOLDS(is_signed(parvusek_improvement(run, RUN, 60, 2130), -500000000));
-    HOLDS(is(parvusek_factor(run, RUN, 60, 2009), 3375000000));
-    HOLDS(declined(parvusek_factor(run, RUN, 60, 2011), 10, 60, 2010));
+    HOLDS(is_signed(parvusek_improvement(run, RUN, NO_HISTORY, 60, 2006), -400000000));
+    HOLDS(is_signed(parvusek_improvement(run, RUN, NO_HISTORY, 60, 2130), -500000000));
+    HOLDS(is(parvusek_factor(run, RUN, NO_HISTORY, 60, 2009), 3375000000));
+    HOLDS(declined(parvusek_factor(run, RUN, NO_HISTORY, 60, 2011), 10, 60, 2010));
 
     sample_beyond(run);
-    parvusek_signed_answer_t beyond = parvusek_improvement(run, RUN, 60, 2007);
+    parvusek_signed_answer_t beyond = parvusek_improvement(run, RUN, NO_HISTORY, 60, 2007);
     HOLDS(refused(beyond.refusal, 9, 60, 2007) && beyond.value == 0);
-    HOLDS(declined(parvusek_rate(run, RUN, 60, 2130), 9, 60, 2007));
+    HOLDS(declined(parvusek_rate(run, RUN, NO_HISTORY, 60, 2130), 9, 60, 2007));
 }
 
 /* ---- values */
@@ -261,41 +267,41 @@ static void check_cells(void) {
 static void check_values(void) {
     uint8_t run[RUN];
     sample(run);
-    HOLDS(is(parvusek_period_survivorship(run, RUN, 148, 2, 2010), 810000000));
-    HOLDS(is(parvusek_cohort_survivorship(run, RUN, 148, 0, 2010), 1000000000));
-    HOLDS(is(parvusek_period_expectation(run, RUN, 148, 0, 2010), 2210000000));
-    HOLDS(is(parvusek_period_expectation(run, RUN, 148, 1, 2010), 1400000000));
-    HOLDS(is(parvusek_period_annuity(run, RUN, 148, 0, 2010), 2710000000));
-    HOLDS(is(parvusek_period_annuity(run, RUN, 148, 1, 2010), 1710000000));
-    HOLDS(is(parvusek_cohort_expectation(run, RUN, 148, 2, 2130), 500000000));
-    HOLDS(declined(parvusek_cohort_annuity(run, RUN, 148, 3, 2131), 8, 148, 3));
-    HOLDS(declined(parvusek_period_annuity(run, RUN, 148, UINT32_MAX, 2010), 8, 148, UINT32_MAX));
-    HOLDS(declined(parvusek_cohort_expectation(run, RUN, 151, 3, 2131), 6, 151, 0));
-    HOLDS(declined(parvusek_period_expectation(run, RUN, 148, 2, 2131), 7, 2131, 0));
-    HOLDS(declined(parvusek_cohort_survivorship(NULL, 0, 151, 3, 2131), 1, 0, 0));
+    HOLDS(is(parvusek_period_survivorship(run, RUN, NO_HISTORY, 148, 2, 2010), 810000000));
+    HOLDS(is(parvusek_cohort_survivorship(run, RUN, NO_HISTORY, 148, 0, 2010), 1000000000));
+    HOLDS(is(parvusek_period_expectation(run, RUN, NO_HISTORY, 148, 0, 2010), 2210000000));
+    HOLDS(is(parvusek_period_expectation(run, RUN, NO_HISTORY, 148, 1, 2010), 1400000000));
+    HOLDS(is(parvusek_period_annuity(run, RUN, NO_HISTORY, 148, 0, 2010), 2710000000));
+    HOLDS(is(parvusek_period_annuity(run, RUN, NO_HISTORY, 148, 1, 2010), 1710000000));
+    HOLDS(is(parvusek_cohort_expectation(run, RUN, NO_HISTORY, 148, 2, 2130), 500000000));
+    HOLDS(declined(parvusek_cohort_annuity(run, RUN, NO_HISTORY, 148, 3, 2131), 8, 148, 3));
+    HOLDS(declined(parvusek_period_annuity(run, RUN, NO_HISTORY, 148, UINT32_MAX, 2010), 8, 148, UINT32_MAX));
+    HOLDS(declined(parvusek_cohort_expectation(run, RUN, NO_HISTORY, 151, 3, 2131), 6, 151, 0));
+    HOLDS(declined(parvusek_period_expectation(run, RUN, NO_HISTORY, 148, 2, 2131), 7, 2131, 0));
+    HOLDS(declined(parvusek_cohort_survivorship(NULL, 0, NO_HISTORY, 151, 3, 2131), 1, 0, 0));
 
     /* a cohort moves to the next year, whose rate is 99,000,000 */
     sample_with_addition(run, 10000000);
-    HOLDS(is(parvusek_period_survivorship(run, RUN, 148, 2, 2006), 810000000));
-    HOLDS(is(parvusek_cohort_survivorship(run, RUN, 148, 2, 2006), 810900000));
-    HOLDS(is(parvusek_cohort_expectation(run, RUN, 148, 0, 2006), 2210900000));
-    HOLDS(is(parvusek_cohort_annuity(run, RUN, 148, 0, 2006), 2710900000));
-    HOLDS(is(parvusek_period_annuity(run, RUN, 148, 0, 2006), 2710000000));
+    HOLDS(is(parvusek_period_survivorship(run, RUN, NO_HISTORY, 148, 2, 2006), 810000000));
+    HOLDS(is(parvusek_cohort_survivorship(run, RUN, NO_HISTORY, 148, 2, 2006), 810900000));
+    HOLDS(is(parvusek_cohort_expectation(run, RUN, NO_HISTORY, 148, 0, 2006), 2210900000));
+    HOLDS(is(parvusek_cohort_annuity(run, RUN, NO_HISTORY, 148, 0, 2006), 2710900000));
+    HOLDS(is(parvusek_period_annuity(run, RUN, NO_HISTORY, 148, 0, 2006), 2710000000));
 
     sample(run);
     put4(run + 12, 200000000);
-    HOLDS(is(parvusek_period_annuity(run, RUN, 149, 0, 2010), 1750000000));
+    HOLDS(is(parvusek_period_annuity(run, RUN, NO_HISTORY, 149, 0, 2010), 1750000000));
 
     /* the discount grows: 1,010,101,010 after a year and 1,020,304,051 after two, of which 0.9 and 0.81 are paid */
     put4(run + 12, -10000000);
-    HOLDS(is(parvusek_period_annuity(run, RUN, 149, 0, 2010), 1909090909));
-    HOLDS(is(parvusek_cohort_annuity(run, RUN, 148, 1, 2010), 1735537190));
+    HOLDS(is(parvusek_period_annuity(run, RUN, NO_HISTORY, 149, 0, 2010), 1909090909));
+    HOLDS(is(parvusek_cohort_annuity(run, RUN, NO_HISTORY, 148, 1, 2010), 1735537190));
 
     sample_worsening(run);
-    HOLDS(declined(parvusek_cohort_annuity(run, RUN, 100, 0, 2006), 10, 104, 2010));
-    HOLDS(declined(parvusek_period_survivorship(run, RUN, 100, 1, 2010), 10, 100, 2010));
+    HOLDS(declined(parvusek_cohort_annuity(run, RUN, NO_HISTORY, 100, 0, 2006), 10, 104, 2010));
+    HOLDS(declined(parvusek_period_survivorship(run, RUN, NO_HISTORY, 100, 1, 2010), 10, 100, 2010));
     sample_beyond(run);
-    HOLDS(declined(parvusek_cohort_expectation(run, RUN, 100, 0, 2006), 9, 101, 2007));
+    HOLDS(declined(parvusek_cohort_expectation(run, RUN, NO_HISTORY, 100, 0, 2006), 9, 101, 2007));
 }
 
 int main(void) {
@@ -308,6 +314,7 @@ int main(void) {
     check_small_sets();
     check_grids();
     check_lifelines();
+    check_histories();
     printf("boundary, C: %d checks, %d failed\n", checks, failures);
     return failures != 0;
 }

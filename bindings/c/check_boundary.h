@@ -3,7 +3,10 @@
 #define CHECK_BOUNDARY_H
 #include "parvusek.h"
 
-enum { RUN = 4554, FILE_SIZE = 4608, FURTHER = 16, KEPT = 0xA5 };
+enum { RUN = 4554, FILE_SIZE = 4608, BLOCK = 512, FURTHER = 16, KEPT = 0xA5 };
+
+/* what is lent beside a data run that needs no history */
+#define NO_HISTORY NULL, 0
 
 #define HOLDS(fact) holds((fact), #fact, __FILE__, __LINE__)
 
@@ -12,8 +15,14 @@ void holds(int fact, const char *text, const char *file, int line);
 int refused(parvusek_refusal_t r, uint32_t number, uint64_t first, uint64_t second);
 int passed(parvusek_refusal_t r);
 int is(parvusek_answer_t a, uint64_t value);
+int is_signed(parvusek_signed_answer_t a, int64_t value);
+int declined(parvusek_answer_t a, uint32_t number, uint64_t first, uint64_t second);
 
+void put2(uint8_t *at, uint32_t n);
 void put4(uint8_t *at, int32_t n);
+void fill4(uint8_t *at, size_t count, int32_t n);
+/* the check that belongs behind the 508 bytes of a block */
+uint32_t block_check(const uint8_t *block);
 
 /* F and B 2006, every base rate 100,000,000, other rates 0, T 20, P 50 */
 void sample(uint8_t *run);
@@ -28,5 +37,8 @@ void sample_beyond(uint8_t *run);
 void check_small_sets(void);
 void check_grids(void);
 void check_lifelines(void);
+
+/* the checks of check_histories.c */
+void check_histories(void);
 
 #endif

@@ -17,7 +17,7 @@ void check_small_sets(void) {
     uint8_t run[RUN];
     const parvusek_questions_t asked = {{{148, 0, 2010}, {150, 0, 2010}, {148, 3, 2010}, {19, 0, 2010}, {148, 0, 2131}, {149, 1, 2010}}};
     sample(run);
-    parvusek_small_set_t set = parvusek_small_set(run, RUN, asked);
+    parvusek_small_set_t set = parvusek_small_set(run, RUN, NO_HISTORY, asked);
     HOLDS(passed(set.refusal));
     HOLDS(point_is(set.points[0], 2210000000, 2210000000, 2710000000, 2710000000));
     HOLDS(point_is(set.points[1], 500000000, 500000000, 1000000000, 1000000000));
@@ -28,11 +28,11 @@ void check_small_sets(void) {
 
     sample_with_addition(run, 10000000);
     const parvusek_questions_t moving = {{{148, 0, 2006}, {148, 0, 2006}, {148, 0, 2006}, {148, 0, 2006}, {148, 0, 2006}, {148, 0, 2006}}};
-    set = parvusek_small_set(run, RUN, moving);
+    set = parvusek_small_set(run, RUN, NO_HISTORY, moving);
     HOLDS(point_is(set.points[5], 2210000000, 2210900000, 2710000000, 2710900000));
 
     run[3] = '2';
-    set = parvusek_small_set(run, RUN, asked);
+    set = parvusek_small_set(run, RUN, NO_HISTORY, asked);
     HOLDS(refused(set.refusal, 4, 3, 0));
     for (int i = 0; i < 6; i++) HOLDS(point_is(set.points[i], 0, 0, 0, 0));
 }
@@ -73,7 +73,7 @@ static void check_records(void) {
     for (size_t count = GRID; count <= LENT; count += 2) {
         ask(list, asked, 7);
         memcpy(before, list, sizeof list);
-        HOLDS(passed(parvusek_grid(run, RUN, list, count)));
+        HOLDS(passed(parvusek_grid(run, RUN, NO_HISTORY, list, count)));
         for (size_t i = 0; i < GRID; i += 7) {
             HOLDS(record_is(list[i], 2210000000, 2210000000, 2710000000, 2710000000));
             HOLDS(record_is(list[i + 1], 500000000, 500000000, 1000000000, 1000000000));
@@ -95,21 +95,21 @@ static void check_records_again(void) {
     const parvusek_question_t asked[4] = {{148, 0, 2006}, {148, 0, 2009}, {149, 1, 2010}, {150, 0, 2010}};
     ask(list, asked, 4);
     sample_worsening(run);
-    HOLDS(passed(parvusek_grid(run, RUN, list, LENT)));
+    HOLDS(passed(parvusek_grid(run, RUN, NO_HISTORY, list, LENT)));
     HOLDS(record_is(list[0], 2210000000, 2165000000, 2710000000, 2665000000));
     HOLDS(record_refused(list[1], 10, 149, 2010));
     HOLDS(record_refused(list[2], 10, 149, 2010));
     HOLDS(record_is(list[3], 500000000, 500000000, 1000000000, 1000000000));
 
     sample_beyond(run);
-    HOLDS(passed(parvusek_grid(run, RUN, list, LENT)));
+    HOLDS(passed(parvusek_grid(run, RUN, NO_HISTORY, list, LENT)));
     HOLDS(record_refused(list[0], 9, 149, 2007));
     HOLDS(record_refused(list[1], 9, 148, 2007));
     HOLDS(record_refused(list[2], 9, 149, 2007));
     HOLDS(record_is(list[3], 500000000, 500000000, 1000000000, 1000000000));
 
     sample_with_addition(run, 10000000);
-    HOLDS(passed(parvusek_grid(run, RUN, list, LENT)));
+    HOLDS(passed(parvusek_grid(run, RUN, NO_HISTORY, list, LENT)));
     HOLDS(record_is(list[0], 2210000000, 2210900000, 2710000000, 2710900000));
     HOLDS(record_is(list[116], 2210000000, 2210900000, 2710000000, 2710900000));
     HOLDS(list[1].refusal == 0 && list[1].first == 0 && list[1].second == 0);
@@ -122,15 +122,15 @@ static void check_refused_grids(void) {
     sample(run);
     ask(list, asked, 1);
     memcpy(before, list, sizeof list);
-    HOLDS(refused(parvusek_grid(run, RUN, list, GRID - 1), 11, GRID, 0));
-    HOLDS(refused(parvusek_grid(run, RUN - 1, list, GRID - 1), 11, GRID, 0));
-    HOLDS(refused(parvusek_grid(NULL, 0, NULL, 0), 11, GRID, 0));
-    HOLDS(refused(parvusek_grid(run, RUN - 1, list, LENT), 1, 0, 0));
+    HOLDS(refused(parvusek_grid(run, RUN, NO_HISTORY, list, GRID - 1), 11, GRID, 0));
+    HOLDS(refused(parvusek_grid(run, RUN - 1, NO_HISTORY, list, GRID - 1), 11, GRID, 0));
+    HOLDS(refused(parvusek_grid(NULL, 0, NO_HISTORY, NULL, 0), 11, GRID, 0));
+    HOLDS(refused(parvusek_grid(run, RUN - 1, NO_HISTORY, list, LENT), 1, 0, 0));
     put4(run + 12, -10000001);
-    HOLDS(refused(parvusek_grid(run, RUN, list, GRID), 5, 12, 0));
+    HOLDS(refused(parvusek_grid(run, RUN, NO_HISTORY, list, GRID), 5, 12, 0));
     run[29] = 1;
-    HOLDS(refused(parvusek_grid(run, RUN, list, GRID), 4, 29, 0));
-    HOLDS(refused(parvusek_grid(run, RUN, list, GRID - 1), 11, GRID, 0));
+    HOLDS(refused(parvusek_grid(run, RUN, NO_HISTORY, list, GRID), 4, 29, 0));
+    HOLDS(refused(parvusek_grid(run, RUN, NO_HISTORY, list, GRID - 1), 11, GRID, 0));
     HOLDS(memcmp(list, before, sizeof list) == 0);
 }
 
@@ -153,34 +153,34 @@ static int not_started(parvusek_lifeline_t l, uint32_t number, uint64_t first) {
 }
 
 static parvusek_lifeline_t step(const uint8_t *run, parvusek_lifeline_t l) {
-    return parvusek_lifeline_step(run, RUN, l.age, l.year, l.survivors);
+    return parvusek_lifeline_step(run, RUN, NO_HISTORY, l.age, l.year, l.survivors);
 }
 
 /* a step from here is so refused, and hands back what it was given */
 static int stays(const uint8_t *run, size_t run_len, uint32_t age, uint32_t year, uint64_t survivors,
                  uint32_t number, uint64_t first, uint64_t second) {
-    parvusek_lifeline_t l = parvusek_lifeline_step(run, run_len, age, year, survivors);
+    parvusek_lifeline_t l = parvusek_lifeline_step(run, run_len, NO_HISTORY, age, year, survivors);
     return refused(l.refusal, number, first, second) && l.age == age && l.year == year && l.survivors == survivors && !l.ended;
 }
 
 static void check_starts(void) {
     uint8_t run[RUN];
     sample(run);
-    HOLDS(stands(parvusek_lifeline_start(run, RUN, 20, 2130), 20, 2130, UNIT, 0));
-    HOLDS(stands(parvusek_lifeline_start(run, RUN, 150, 2006), 150, 2006, UNIT, 0));
-    HOLDS(not_started(parvusek_lifeline_start(run, RUN, 19, 2131), 6, 19));
-    HOLDS(not_started(parvusek_lifeline_start(run, RUN, UINT32_MAX, 2010), 6, UINT32_MAX));
-    HOLDS(not_started(parvusek_lifeline_start(run, RUN, 148, 2131), 7, 2131));
-    HOLDS(not_started(parvusek_lifeline_start(run, RUN, 148, 2005), 7, 2005));
-    HOLDS(not_started(parvusek_lifeline_start(run, RUN - 1, 19, 2005), 1, 0));
+    HOLDS(stands(parvusek_lifeline_start(run, RUN, NO_HISTORY, 20, 2130), 20, 2130, UNIT, 0));
+    HOLDS(stands(parvusek_lifeline_start(run, RUN, NO_HISTORY, 150, 2006), 150, 2006, UNIT, 0));
+    HOLDS(not_started(parvusek_lifeline_start(run, RUN, NO_HISTORY, 19, 2131), 6, 19));
+    HOLDS(not_started(parvusek_lifeline_start(run, RUN, NO_HISTORY, UINT32_MAX, 2010), 6, UINT32_MAX));
+    HOLDS(not_started(parvusek_lifeline_start(run, RUN, NO_HISTORY, 148, 2131), 7, 2131));
+    HOLDS(not_started(parvusek_lifeline_start(run, RUN, NO_HISTORY, 148, 2005), 7, 2005));
+    HOLDS(not_started(parvusek_lifeline_start(run, RUN - 1, NO_HISTORY, 19, 2005), 1, 0));
     put4(run + 12, -10000001);
-    HOLDS(not_started(parvusek_lifeline_start(run, RUN, 148, 2010), 5, 12));
+    HOLDS(not_started(parvusek_lifeline_start(run, RUN, NO_HISTORY, 148, 2010), 5, 12));
 }
 
 static void check_steps(void) {
     uint8_t run[RUN];
     sample(run);
-    parvusek_lifeline_t l = parvusek_lifeline_start(run, RUN, 148, 2010);
+    parvusek_lifeline_t l = parvusek_lifeline_start(run, RUN, NO_HISTORY, 148, 2010);
     HOLDS(stands(l, 148, 2010, UNIT, 0));
     l = step(run, l);
     HOLDS(stands(l, 149, 2011, 900000000, 0));
@@ -191,15 +191,15 @@ static void check_steps(void) {
     l = step(run, l);
     HOLDS(stands(l, 150, 2012, 810000000, 1));
 
-    HOLDS(stands(parvusek_lifeline_step(run, RUN, 149, 2259, UNIT), 150, 2260, 900000000, 0));
-    HOLDS(stands(parvusek_lifeline_step(run, RUN, 150, 2260, UNIT), 150, 2260, UNIT, 1));
-    HOLDS(stands(parvusek_lifeline_step(run, RUN, 20, 2130, UNIT), 21, 2131, 900000000, 0));
-    HOLDS(stands(parvusek_lifeline_step(run, RUN, 60, 2010, 5), 61, 2011, 5, 0));
-    HOLDS(stands(parvusek_lifeline_step(run, RUN, 60, 2010, 0), 61, 2011, 0, 0));
+    HOLDS(stands(parvusek_lifeline_step(run, RUN, NO_HISTORY, 149, 2259, UNIT), 150, 2260, 900000000, 0));
+    HOLDS(stands(parvusek_lifeline_step(run, RUN, NO_HISTORY, 150, 2260, UNIT), 150, 2260, UNIT, 1));
+    HOLDS(stands(parvusek_lifeline_step(run, RUN, NO_HISTORY, 20, 2130, UNIT), 21, 2131, 900000000, 0));
+    HOLDS(stands(parvusek_lifeline_step(run, RUN, NO_HISTORY, 60, 2010, 5), 61, 2011, 5, 0));
+    HOLDS(stands(parvusek_lifeline_step(run, RUN, NO_HISTORY, 60, 2010, 0), 61, 2011, 0, 0));
 
     /* the next year's rate is 99,000,000 */
     sample_with_addition(run, 10000000);
-    l = step(run, parvusek_lifeline_start(run, RUN, 148, 2006));
+    l = step(run, parvusek_lifeline_start(run, RUN, NO_HISTORY, 148, 2006));
     HOLDS(stands(l, 149, 2007, 900000000, 0));
     HOLDS(stands(step(run, l), 150, 2008, 810900000, 0));
 }
@@ -223,13 +223,13 @@ static void check_refused_steps(void) {
     HOLDS(stays(run, RUN, 148, 2010, UNIT + 1, 5, 12, 0));
 
     sample_beyond(run);
-    parvusek_lifeline_t l = step(run, parvusek_lifeline_start(run, RUN, 100, 2006));
+    parvusek_lifeline_t l = step(run, parvusek_lifeline_start(run, RUN, NO_HISTORY, 100, 2006));
     HOLDS(stands(l, 101, 2007, 900000000, 0));
     HOLDS(stays(run, RUN, 101, 2007, 900000000, 9, 101, 2007));
     HOLDS(stays(run, RUN, 101, 2211, 0, 9, 101, 2007));
-    HOLDS(stands(parvusek_lifeline_step(run, RUN, 150, 2010, 7), 150, 2010, 7, 1));
+    HOLDS(stands(parvusek_lifeline_step(run, RUN, NO_HISTORY, 150, 2010, 7), 150, 2010, 7, 1));
     sample_worsening(run);
-    HOLDS(stands(parvusek_lifeline_step(run, RUN, 100, 2009, UNIT), 101, 2010, 662500000, 0));
+    HOLDS(stands(parvusek_lifeline_step(run, RUN, NO_HISTORY, 100, 2009, UNIT), 101, 2010, 662500000, 0));
     HOLDS(stays(run, RUN, 101, 2010, 662500000, 10, 101, 2010));
 }
 
@@ -239,10 +239,10 @@ static void check_whole_lives(void) {
     sample_with_addition(run, 10000000);
     for (int32_t i = 0; i < 131; i++) put4(run + 30 + 4 * i, 1000000 * (i + 1));
     for (uint32_t year = 2006; year <= 2130; year += 124) {
-        parvusek_lifeline_t l = parvusek_lifeline_start(run, RUN, 20, year);
+        parvusek_lifeline_t l = parvusek_lifeline_start(run, RUN, NO_HISTORY, 20, year);
         for (uint32_t n = 0; n <= 130; n++) {
             HOLDS(stands(l, 20 + n, year + n, l.survivors, 0));
-            HOLDS(is(parvusek_cohort_survivorship(run, RUN, 20, n, year), l.survivors));
+            HOLDS(is(parvusek_cohort_survivorship(run, RUN, NO_HISTORY, 20, n, year), l.survivors));
             l = step(run, l);
         }
         HOLDS(stands(l, 150, year + 130, l.survivors, 1));

@@ -1,8 +1,9 @@
 /* Values a list of members against a basis file and prints a table; a refusal is explained where it stands.
 
-     value_members BASIS.bin [MEMBERS.csv]
+     value_members BASIS.bin [MEMBERS.csv [HISTORY.bin]]
 
-   MEMBERS.csv has the header row member,age,deferment,year; without it the three members below are valued.
+   MEMBERS.csv has the header row member,age,deferment,year; without it the three members below are valued. HISTORY.bin
+   is needed where the base year of the basis is before its foundation year.
    Exit status: 0 done (refused members are part of the table), 1 the basis is refused or a file cannot be used, 2 usage. */
 #include <errno.h>
 #include <stdio.h>
@@ -22,29 +23,64 @@ static const member_t own_members[] = {
     {"too old", {148, 3, 2010}},
 };
 
-/* ---- the basis: one file, read once; the engine keeps nothing, so the run is ours to keep */
+/* ---- the basis: its files, read once; the engine keeps nothing, so run and history are ours to keep */
 
-/* The data run of a basis file. Hands back 0, or 1 where it has said what is wrong. */
-static int read_basis(const char *path, uint8_t run[PARVUSEK_RUN_LENGTH]) {
-    /* One byte more than a basis file has: a longer file is then refused, too. */
-    uint8_t file[PARVUSEK_FILE_LENGTH + 1];
-    parvusek_refusal_t refusal;
-    size_t length;
-    char line[128];
+/* The longest history is for the years 1993 to 2080. */
+enum { HISTORY_YEARS = 88 };
+
+typedef struct {
+    uint8_t run[PARVUSEK_RUN_LENGTH];
+    /* One byte more than the longest history has: a longer file is then refused, too. */
+    uint8_t history[HISTORY_YEARS * PARVUSEK_HISTORY_YEAR + 1];
+    size_t history_length;
+} basis_t;
+
+/* Reads up to `size` bytes of a file. Hands back 0, or 1 where it has said what is wrong. */
+static int read_file(const char *path, uint8_t *bytes, size_t size, size_t *length) {
     FILE *opened = fopen(path, "rb");
     if (opened == NULL) {
         fprintf(stderr, "value_members: %s: %s\n", path, strerror(errno));
         return 1;
     }
-    length = fread(file, 1, sizeof file, opened);
+    *length = fread(bytes, 1, size, opened);
     fclose(opened);
-    refusal = parvusek_read_basis(file, length, run, PARVUSEK_RUN_LENGTH);
-    if (refusal.number != 0) {
-        parvusek_refusal_line(line, sizeof line, refusal);
-        fprintf(stderr, "value_members: %s: %s\n", path, line);
+    return 0;
+}
+
+/* Hands back 0, or 1 where it has said why the file is refused. */
+static int say_refusal(const char *path, parvusek_refusal_t refusal) {
+    char line[128];
+    if (refusal.number == 0) {
+        return 0;
+    }
+    parvusek_refusal_line(line, sizeof line, refusal);
+    fprintf(stderr, "value_members: %s: %s\n", path, line);
+    return 1;
+}
+
+/* The data run of a basis file. Hands back 0, or 1 where it has said what is wrong. */
+static int read_run(const char *path, basis_t *basis) {
+    /* One byte more than a basis file has, for the same reason. */
+    uint8_t file[PARVUSEK_FILE_LENGTH + 1];
+    size_t length;
+    if (read_file(path, file, sizeof file, &length) != 0) {
         return 1;
     }
-    return 0;
+    return say_refusal(path, parvusek_read_basis(file, length, basis->run, sizeof basis->run));
+}
+
+/* The history beside it, as it is; without a path there is none. Hands back 0, or 1 where it has said what is wrong. */
+static int read_history(const char *path, basis_t *basis) {
+    parvusek_questions_t none;
+    parvusek_small_set_t set;
+    basis->history_length = 0;
+    if (path != NULL && read_file(path, basis->history, sizeof basis->history, &basis->history_length) != 0) {
+        return 1;
+    }
+    /* A set is refused as a whole by its basis alone. The run is accepted, so that this is the history's refusal. */
+    memset(&none, 0, sizeof none);
+    set = parvusek_small_set(basis->run, sizeof basis->run, basis->history, basis->history_length, none);
+    return say_refusal(path == NULL ? "no history" : path, set.refusal);
 }
 
 /* ---- the table */
@@ -76,7 +112,7 @@ static void print_member(const member_t *member, const parvusek_point_answer_t *
 }
 
 /* Values up to six members by one small set: the basis is checked once for all of them. */
-static void value(const uint8_t *run, const member_t *members, size_t count) {
+static void value(const basis_t *basis, const member_t *members, size_t count) {
     parvusek_questions_t questions;
     parvusek_small_set_t set;
     size_t i;
@@ -85,8 +121,8 @@ static void value(const uint8_t *run, const member_t *members, size_t count) {
     for (i = 0; i < count; i++) {
         questions.points[i] = members[i].question;
     }
-    /* The set as a whole can only be refused for its basis, which read_basis has accepted. */
-    set = parvusek_small_set(run, PARVUSEK_RUN_LENGTH, questions);
+    /* The set as a whole can only be refused for its basis, which was accepted when it was read. */
+    set = parvusek_small_set(basis->run, sizeof basis->run, basis->history, basis->history_length, questions);
     for (i = 0; i < count; i++) {
         print_member(&members[i], &set.points[i]);
     }
@@ -95,7 +131,7 @@ static void value(const uint8_t *run, const member_t *members, size_t count) {
 /* ---- the list of members */
 
 /* Values the rows below the header, six at a time. Hands back 0, or 1 where it has said what is wrong. */
-static int value_list(const uint8_t *run, const char *path) {
+static int value_list(const basis_t *basis, const char *path) {
     member_t members[PARVUSEK_SMALL_SET];
     size_t count = 0;
     unsigned long line = 1;
@@ -122,28 +158,28 @@ static int value_list(const uint8_t *run, const char *path) {
             return 1;
         }
         if (++count == PARVUSEK_SMALL_SET) {
-            value(run, members, count);
+            value(basis, members, count);
             count = 0;
         }
     }
-    value(run, members, count);
+    value(basis, members, count);
     fclose(list);
     return 0;
 }
 
 int main(int count, char **words) {
-    uint8_t run[PARVUSEK_RUN_LENGTH];
-    if (count != 2 && count != 3) {
-        fprintf(stderr, "usage: value_members BASIS.bin [MEMBERS.csv]\n");
+    static basis_t basis;
+    if (count < 2 || count > 4) {
+        fprintf(stderr, "usage: value_members BASIS.bin [MEMBERS.csv [HISTORY.bin]]\n");
         return 2;
     }
-    if (read_basis(words[1], run) != 0) {
+    if (read_run(words[1], &basis) != 0 || read_history(count == 4 ? words[3] : NULL, &basis) != 0) {
         return 1;
     }
     print_header();
-    if (count == 3) {
-        return value_list(run, words[2]);
+    if (count >= 3) {
+        return value_list(&basis, words[2]);
     }
-    value(run, own_members, sizeof own_members / sizeof own_members[0]);
+    value(&basis, own_members, sizeof own_members / sizeof own_members[0]);
     return 0;
 }
