@@ -1,4 +1,4 @@
-//! The basis: a data run that the engine has accepted.
+//! The basis: a data run that the engine has accepted, and the history that goes with it.
 
 use std::error::Error;
 use std::fmt;
@@ -15,7 +15,14 @@ pub const RUN_LENGTH: usize = 4_554;
 /// Bytes of a basis file.
 pub const FILE_LENGTH: usize = 4_608;
 
-/// An accepted basis. It owns its data run, which never changes, so that any thread may use it.
+/// Bytes of a history file for each year from B + 1 to F.
+pub const HISTORY_YEAR: usize = 1_024;
+
+/// An accepted basis. It owns its data run and its history, which never change, so that any thread may use it.
+///
+/// A basis whose base year B is before its foundation year F needs a history: the actual improvements of the years
+/// B + 1 to F, lent to every enquiry. Without it the basis can be read, written and brought to the short form, and every
+/// enquiry is refused by 13. Any other basis has none.
 ///
 /// ```
 /// use parvusek::{decimal, Basis, Kind};
@@ -31,12 +38,14 @@ pub const FILE_LENGTH: usize = 4_608;
 #[derive(Clone, PartialEq, Eq, Hash)]
 pub struct Basis {
     run: Box<[u8; RUN_LENGTH]>,
+    history: Box<[u8]>,
 }
 
 // ---- reading and writing
 
 impl Basis {
-    /// The basis of a data run, refused by 1, 4 or 5. The engine checks it here, and again in each call.
+    /// The basis of a data run, without a history, refused by 1, 4 or 5. The engine checks it here, and again in each
+    /// call.
     ///
     /// ```
     /// let refusal = parvusek::Basis::from_run(b"MPB1").unwrap_err();
@@ -46,10 +55,10 @@ impl Basis {
         // SAFETY: the pointer and the length are those of a slice.
         unsafe { ffi::parvusek_check_basis(run.as_ptr(), run.len()) }.unless_none()?;
         let run = Box::new(run.try_into().expect("an accepted data run has 4,554 bytes"));
-        Ok(Basis { run })
+        Ok(Basis::without_history(run))
     }
 
-    /// The basis of the bytes of a basis file, refused by 1 to 5.
+    /// The basis of the bytes of a basis file, without a history, refused by 1 to 5.
     ///
     /// ```
     /// let mut file = std::fs::read("../../samples/basis.bin")?;
@@ -62,10 +71,10 @@ impl Basis {
         let mut run = Box::new([0; RUN_LENGTH]);
         // SAFETY: the pointers and lengths are those of two slices, which do not overlap.
         unsafe { ffi::parvusek_read_basis(file.as_ptr(), file.len(), run.as_mut_ptr(), run.len()) }.unless_none()?;
-        Ok(Basis { run })
+        Ok(Basis::without_history(run))
     }
 
-    /// The basis of the basis file at a path.
+    /// The basis of the basis file at a path, without a history.
     ///
     /// ```
     /// use parvusek::{Basis, OpenError};
@@ -76,15 +85,64 @@ impl Basis {
     /// # Ok::<(), OpenError>(())
     /// ```
     pub fn open(path: impl AsRef<Path>) -> Result<Basis, OpenError> {
-        let mut file = Vec::with_capacity(FILE_LENGTH + 1);
-        // One byte more than a basis file has: enough to be refused, however long the file is.
-        File::open(path)?.take(FILE_LENGTH as u64 + 1).read_to_end(&mut file)?;
-        Ok(Basis::from_file(&file)?)
+        Ok(Basis::from_file(&read(path, FILE_LENGTH)?)?)
+    }
+
+    /// The basis of the basis file at a path, with the history file at another.
+    ///
+    /// ```
+    /// # use parvusek::{Basis, OpenError};
+    /// // The sample's base year is after its foundation year: any file but an empty one is no history of it.
+    /// let opened = Basis::open_with_history("../../samples/basis.bin", "Cargo.toml");
+    /// assert!(matches!(opened, Err(OpenError::Refused(refusal)) if (refusal.number, refusal.first) == (13, 0)));
+    /// ```
+    pub fn open_with_history(path: impl AsRef<Path>, history: impl AsRef<Path>) -> Result<Basis, OpenError> {
+        let basis = Basis::open(path)?;
+        let history = read(history, basis.history_needed())?;
+        Ok(basis.with_history(&history)?)
+    }
+
+    /// This basis with the bytes of a history file, in the place of the one that it has. Refused by 13 (its length),
+    /// then by 2 to 5 of the history itself. The engine checks it here, and again in each call.
+    ///
+    /// ```
+    /// # let basis = parvusek::Basis::open("../../samples/basis.bin")?;
+    /// // Improvements are known from the year after the base year on.
+    /// let mut run = *basis.run();
+    /// run[6..8].copy_from_slice(&2005_u16.to_le_bytes());
+    /// let older = parvusek::Basis::from_run(&run)?;
+    /// assert_eq!(older.history_needed(), 1_024);
+    ///
+    /// let refusal = older.annuity(parvusek::Kind::Cohort, 65, 0, 2010).unwrap_err();
+    /// assert_eq!((refusal.number, refusal.first), (13, 1_024));
+    /// let refusal = older.with_history(&[1; 1_024]).unwrap_err();
+    /// assert_eq!((refusal.number, refusal.first), (2, 0));
+    /// # Ok::<(), Box<dyn std::error::Error>>(())
+    /// ```
+    pub fn with_history(mut self, history: &[u8]) -> Result<Basis, Refusal> {
+        self.history = history.into();
+        // The start of a lifeline at age 20 in B is refused by the basis alone, and uses no rate.
+        self.lifeline(20, self.base_year())?;
+        Ok(self)
+    }
+
+    fn without_history(run: Box<[u8; RUN_LENGTH]>) -> Basis {
+        Basis { run, history: Box::default() }
     }
 
     /// The data run.
     pub fn run(&self) -> &[u8; RUN_LENGTH] {
         &self.run
+    }
+
+    /// The history file's bytes; none where there is no history.
+    pub fn history(&self) -> &[u8] {
+        &self.history
+    }
+
+    /// The bytes that the history of this basis has: 1,024 for each year from B + 1 to F, so 0 with B at F or later.
+    pub fn history_needed(&self) -> usize {
+        HISTORY_YEAR * self.foundation_year().saturating_sub(self.base_year()) as usize
     }
 
     /// The bytes of the basis file; reading them gives this basis again.
@@ -106,7 +164,8 @@ impl Basis {
     }
 
     /// The short form: the basis that differs only in its long-term rates (this one to age 90, running off to 0 at
-    /// 120; none by birth year), every T 20 and every P 50. A rate beyond ±200,000,000 units is refused by 5.
+    /// 120; none by birth year), every T 20 and every P 50. Its history stays. A rate beyond ±200,000,000 units is
+    /// refused by 5.
     ///
     /// ```
     /// # use parvusek::Basis;
@@ -119,21 +178,22 @@ impl Basis {
     /// ```
     pub fn short_form(&self, long_term_rate: i32) -> Result<Basis, Refusal> {
         let mut out = Box::new([0; RUN_LENGTH]);
-        let (run, len) = self.lent();
+        let (run, len) = (self.run.as_ptr(), self.run.len());
         // SAFETY: the pointers and lengths are those of two arrays, which do not overlap.
         unsafe { ffi::parvusek_short_form(run, len, long_term_rate, out.as_mut_ptr(), out.len()) }.unless_none()?;
-        Ok(Basis { run: out })
+        Ok(Basis { run: out, history: self.history.clone() })
     }
 
-    pub(crate) fn lent(&self) -> (*const u8, usize) {
-        (self.run.as_ptr(), self.run.len())
+    /// What every enquiry is lent: the run and the history, each with its length.
+    pub(crate) fn lent(&self) -> (*const u8, usize, *const u8, usize) {
+        (self.run.as_ptr(), self.run.len(), self.history.as_ptr(), self.history.len())
     }
 }
 
 // ---- settings
 
 impl Basis {
-    /// F, the year from which improvements are projected.
+    /// F, the year from which improvements are projected; from the year after it, where B is before it.
     pub fn foundation_year(&self) -> u32 {
         u16::from_le_bytes(self.bytes(4)).into()
     }
@@ -167,12 +227,19 @@ impl fmt::Debug for Basis {
     }
 }
 
-// ---- a file that cannot be opened
+// ---- files
 
-/// Why [`Basis::open`] has no basis.
+/// The bytes of a file. Of one that is longer than wanted one byte more: enough to be refused, however long it is.
+fn read(path: impl AsRef<Path>, wanted: usize) -> io::Result<Vec<u8>> {
+    let mut file = Vec::with_capacity(wanted + 1);
+    File::open(path)?.take(wanted as u64 + 1).read_to_end(&mut file)?;
+    Ok(file)
+}
+
+/// Why [`Basis::open`] and [`Basis::open_with_history`] have no basis.
 #[derive(Debug)]
 pub enum OpenError {
-    /// The file cannot be read.
+    /// A file cannot be read.
     Io(io::Error),
     /// The engine refuses what is in it.
     Refused(Refusal),

@@ -4,7 +4,8 @@ use crate::ffi;
 use crate::{Basis, Kind, Lifeline, Refusal};
 
 impl Basis {
-    /// The mortality improvement at an age in a year from F on, in units; below zero where mortality worsens.
+    /// The mortality improvement at an age in a year, in units; below zero where mortality worsens. The first year is F,
+    /// and where B is before F it is B + 1: up to F an improvement is then the history's.
     ///
     /// ```
     /// # let basis = parvusek::Basis::open("../../samples/basis.bin")?;
@@ -12,9 +13,9 @@ impl Basis {
     /// # Ok::<(), Box<dyn std::error::Error>>(())
     /// ```
     pub fn improvement(&self, age: u32, year: u32) -> Result<i64, Refusal> {
-        let (run, len) = self.lent();
-        // SAFETY: the pointer and the length are those of the run; every number may be asked.
-        let answer = unsafe { ffi::parvusek_improvement(run, len, age, year) };
+        let (run, run_len, history, history_len) = self.lent();
+        // SAFETY: the pointers and lengths are those of the run and the history; every number may be asked.
+        let answer = unsafe { ffi::parvusek_improvement(run, run_len, history, history_len, age, year) };
         answer.refusal.unless_none().map(|()| answer.value)
     }
 
@@ -96,16 +97,16 @@ impl Basis {
     }
 
     fn cell(&self, function: ffi::Cell, age: u32, year: u32) -> Result<u64, Refusal> {
-        let (run, len) = self.lent();
-        // SAFETY: the pointer and the length are those of the run; every number may be asked.
-        let answer = unsafe { function(run, len, age, year) };
+        let (run, run_len, history, history_len) = self.lent();
+        // SAFETY: the pointers and lengths are those of the run and the history; every number may be asked.
+        let answer = unsafe { function(run, run_len, history, history_len, age, year) };
         answer.refusal.unless_none().map(|()| answer.value)
     }
 
     fn value_of(&self, function: ffi::Value, age: u32, deferment: u32, year: u32) -> Result<u64, Refusal> {
-        let (run, len) = self.lent();
-        // SAFETY: the pointer and the length are those of the run; every number may be asked.
-        let answer = unsafe { function(run, len, age, deferment, year) };
+        let (run, run_len, history, history_len) = self.lent();
+        // SAFETY: the pointers and lengths are those of the run and the history; every number may be asked.
+        let answer = unsafe { function(run, run_len, history, history_len, age, deferment, year) };
         answer.refusal.unless_none().map(|()| answer.value)
     }
 }

@@ -1,7 +1,7 @@
 //! The functions of `include/parvusek.h`, as C declares them.
 //!
 //! Each takes any stretch of bytes with its true length and any number, keeps no pointer, and writes only to the output
-//! that it is lent, which must not overlap its input. Rust's borrows see to both.
+//! that it is lent, which must not overlap its input. Rust's borrows see to both. A history of length 0 is none.
 
 use crate::{Question, Record, Refusal};
 
@@ -43,29 +43,46 @@ pub struct Lifeline {
     pub ended: u32,
 }
 
-pub type Cell = unsafe extern "C" fn(*const u8, usize, u32, u32) -> Answer;
-pub type Value = unsafe extern "C" fn(*const u8, usize, u32, u32, u32) -> Answer;
+pub type Cell = unsafe extern "C" fn(*const u8, usize, *const u8, usize, u32, u32) -> Answer;
+pub type Value = unsafe extern "C" fn(*const u8, usize, *const u8, usize, u32, u32, u32) -> Answer;
 
 extern "C" {
     pub fn parvusek_check_basis(run: *const u8, run_len: usize) -> Refusal;
     pub fn parvusek_read_basis(file: *const u8, file_len: usize, run: *mut u8, run_len: usize) -> Refusal;
     pub fn parvusek_write_basis(run: *const u8, run_len: usize, file: *mut u8, file_len: usize) -> Refusal;
     pub fn parvusek_short_form(run: *const u8, run_len: usize, rate: i32, out: *mut u8, out_len: usize) -> Refusal;
+}
 
-    pub fn parvusek_improvement(run: *const u8, run_len: usize, age: u32, year: u32) -> SignedAnswer;
-    pub fn parvusek_factor(run: *const u8, run_len: usize, age: u32, year: u32) -> Answer;
-    pub fn parvusek_rate(run: *const u8, run_len: usize, age: u32, year: u32) -> Answer;
+/// Every other function is lent a history directly after the data run: declares what each takes after both.
+macro_rules! lent_a_history {
+    ($($name:ident($($argument:ident: $kind:ty),*) -> $answer:ty;)*) => {
+        extern "C" {
+            $(pub fn $name(
+                run: *const u8,
+                run_len: usize,
+                history: *const u8,
+                history_len: usize,
+                $($argument: $kind),*
+            ) -> $answer;)*
+        }
+    };
+}
 
-    pub fn parvusek_period_survivorship(run: *const u8, run_len: usize, age: u32, deferment: u32, year: u32) -> Answer;
-    pub fn parvusek_cohort_survivorship(run: *const u8, run_len: usize, age: u32, deferment: u32, year: u32) -> Answer;
-    pub fn parvusek_period_expectation(run: *const u8, run_len: usize, age: u32, deferment: u32, year: u32) -> Answer;
-    pub fn parvusek_cohort_expectation(run: *const u8, run_len: usize, age: u32, deferment: u32, year: u32) -> Answer;
-    pub fn parvusek_period_annuity(run: *const u8, run_len: usize, age: u32, deferment: u32, year: u32) -> Answer;
-    pub fn parvusek_cohort_annuity(run: *const u8, run_len: usize, age: u32, deferment: u32, year: u32) -> Answer;
+lent_a_history! {
+    parvusek_improvement(age: u32, year: u32) -> SignedAnswer;
+    parvusek_factor(age: u32, year: u32) -> Answer;
+    parvusek_rate(age: u32, year: u32) -> Answer;
 
-    pub fn parvusek_small_set(run: *const u8, run_len: usize, questions: Questions) -> SmallSet;
-    pub fn parvusek_grid(run: *const u8, run_len: usize, points: *mut Record, count: usize) -> Refusal;
+    parvusek_period_survivorship(age: u32, deferment: u32, year: u32) -> Answer;
+    parvusek_cohort_survivorship(age: u32, deferment: u32, year: u32) -> Answer;
+    parvusek_period_expectation(age: u32, deferment: u32, year: u32) -> Answer;
+    parvusek_cohort_expectation(age: u32, deferment: u32, year: u32) -> Answer;
+    parvusek_period_annuity(age: u32, deferment: u32, year: u32) -> Answer;
+    parvusek_cohort_annuity(age: u32, deferment: u32, year: u32) -> Answer;
 
-    pub fn parvusek_lifeline_start(run: *const u8, run_len: usize, age: u32, year: u32) -> Lifeline;
-    pub fn parvusek_lifeline_step(run: *const u8, run_len: usize, age: u32, year: u32, survivors: u64) -> Lifeline;
+    parvusek_small_set(questions: Questions) -> SmallSet;
+    parvusek_grid(points: *mut Record, count: usize) -> Refusal;
+
+    parvusek_lifeline_start(age: u32, year: u32) -> Lifeline;
+    parvusek_lifeline_step(age: u32, year: u32, survivors: u64) -> Lifeline;
 }

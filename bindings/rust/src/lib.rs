@@ -13,7 +13,8 @@
 //! ```
 //!
 //! Values are whole units, [`UNIT`] of them to one. What is refused is a [`Refusal`]: a number and two places. The
-//! engine has no state and allocates nothing: a [`Basis`] may be shared by any number of threads.
+//! engine has no state and allocates nothing: a [`Basis`] may be shared by any number of threads. A basis whose base
+//! year is before its foundation year is opened with its history, [`Basis::open_with_history`].
 //!
 //! The archive is linked from the folder that `PARVUSEK_LIB_DIR` names when this crate is built, or else from the
 //! repository's `target/staticlib`.
@@ -26,7 +27,7 @@ mod points;
 mod refusal;
 mod units;
 
-pub use basis::{Basis, OpenError, FILE_LENGTH, RUN_LENGTH};
+pub use basis::{Basis, OpenError, FILE_LENGTH, HISTORY_YEAR, RUN_LENGTH};
 pub use lifeline::{Lifeline, Standing};
 pub use points::{Question, Record, Results, GRID, SMALL_SET};
 pub use refusal::Refusal;

@@ -16,7 +16,8 @@ pub struct Standing {
     pub survivors: u64,
 }
 
-/// One life on a basis. As an iterator it steps year by year up to age 150, and stops after a refusal.
+/// One life on a basis, whose run and history are lent to each step. As an iterator it steps year by year up to age 150,
+/// and stops after a refusal.
 ///
 /// ```
 /// # use parvusek::{Basis, Kind, Standing, UNIT};
@@ -41,9 +42,9 @@ pub struct Lifeline<'a> {
 
 impl<'a> Lifeline<'a> {
     pub(crate) fn start(basis: &'a Basis, age: u32, year: u32) -> Result<Lifeline<'a>, Refusal> {
-        let (run, len) = basis.lent();
-        // SAFETY: the pointer and the length are those of the run; every number may be asked.
-        let start = unsafe { ffi::parvusek_lifeline_start(run, len, age, year) };
+        let (run, run_len, history, history_len) = basis.lent();
+        // SAFETY: the pointers and lengths are those of the run and the history; every number may be asked.
+        let start = unsafe { ffi::parvusek_lifeline_start(run, run_len, history, history_len, age, year) };
         start.refusal.unless_none()?;
         Ok(Lifeline { basis, standing: standing(&start), is_over: false })
     }
@@ -56,10 +57,10 @@ impl<'a> Lifeline<'a> {
     /// One year on: where the life then stands, or `None` where it has ended at age 150. A step that ends or is
     /// refused leaves the life where it stands.
     pub fn step(&mut self) -> Result<Option<Standing>, Refusal> {
-        let (run, len) = self.basis.lent();
+        let (run, run_len, history, history_len) = self.basis.lent();
         let Standing { age, year, survivors } = self.standing;
-        // SAFETY: the pointer and the length are those of the run; every number may be asked.
-        let step = unsafe { ffi::parvusek_lifeline_step(run, len, age, year, survivors) };
+        // SAFETY: the pointers and lengths are those of the run and the history; every number may be asked.
+        let step = unsafe { ffi::parvusek_lifeline_step(run, run_len, history, history_len, age, year, survivors) };
         step.refusal.unless_none()?;
         self.standing = standing(&step);
         Ok((step.ended == 0).then_some(self.standing))

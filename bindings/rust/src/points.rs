@@ -70,26 +70,32 @@ impl Record {
 }
 
 impl Basis {
-    /// The small set: six questions, each with its four results or its refusal.
+    /// The small set: six questions, each with its four results or its refusal. The set as a whole is refused by 13
+    /// where this basis needs a history and has none.
     ///
     /// ```
     /// # use parvusek::{decimal, Basis, Question};
     /// # let basis = Basis::open("../../samples/basis.bin")?;
     /// let questions = [60, 61, 62, 63, 64, 151].map(|age| Question { age, deferment: 0, year: 2010 });
-    /// let answers = basis.small_set(&questions);
+    /// let answers = basis.small_set(&questions)?;
     /// assert!(answers[..5].iter().all(|answer| answer.is_ok()));
     /// assert_eq!(answers[5].unwrap_err().number, 6);
     /// # Ok::<(), Box<dyn std::error::Error>>(())
     /// ```
-    pub fn small_set(&self, questions: &[Question; SMALL_SET]) -> [Result<Results, Refusal>; SMALL_SET] {
-        let (run, len) = self.lent();
-        // SAFETY: the pointer and the length are those of the run; every number may be asked.
-        let set = unsafe { ffi::parvusek_small_set(run, len, ffi::Questions { points: *questions }) };
-        set.refusal.unless_none().expect("an accepted data run is not refused");
-        set.points.map(|point| point.refusal.unless_none().map(|()| point.results.into()))
+    pub fn small_set(
+        &self,
+        questions: &[Question; SMALL_SET],
+    ) -> Result<[Result<Results, Refusal>; SMALL_SET], Refusal> {
+        let (run, run_len, history, history_len) = self.lent();
+        let points = ffi::Questions { points: *questions };
+        // SAFETY: the pointers and lengths are those of the run and the history; every number may be asked.
+        let set = unsafe { ffi::parvusek_small_set(run, run_len, history, history_len, points) };
+        set.refusal.unless_none()?;
+        Ok(set.points.map(|point| point.refusal.unless_none().map(|()| point.results.into())))
     }
 
-    /// The grid: fills the first 119 records in place and leaves the others. Fewer are refused by 11.
+    /// The grid: fills the first 119 records in place and leaves the others. Fewer are refused by 11; then the whole is
+    /// refused by 13, and no record changes, where this basis needs a history and has none.
     ///
     /// ```
     /// # use parvusek::{Basis, Question, Record, GRID};
@@ -103,23 +109,25 @@ impl Basis {
     /// # Ok::<(), Box<dyn std::error::Error>>(())
     /// ```
     pub fn grid(&self, records: &mut [Record]) -> Result<(), Refusal> {
-        let (run, len) = self.lent();
-        // SAFETY: the pointers and lengths are those of the run and of a slice of records, which do not overlap.
-        unsafe { ffi::parvusek_grid(run, len, records.as_mut_ptr(), records.len()) }.unless_none()
+        let (run, run_len, history, history_len) = self.lent();
+        let (points, count) = (records.as_mut_ptr(), records.len());
+        // SAFETY: the pointers and lengths are those of the run, the history and a slice of records, which do not overlap.
+        unsafe { ffi::parvusek_grid(run, run_len, history, history_len, points, count) }.unless_none()
     }
 
-    /// Any number of questions, answered in their order by as many grids as they fill.
+    /// Any number of questions, answered in their order by as many grids as they fill. All of them are refused by 13
+    /// where this basis needs a history and has none.
     ///
     /// ```
     /// # use parvusek::{Basis, Question};
     /// # let basis = Basis::open("../../samples/basis.bin")?;
     /// let members: Vec<Question> = (20..=150).map(|age| Question { age, deferment: 0, year: 2010 }).collect();
-    /// let answers = basis.value(&members);
+    /// let answers = basis.value(&members)?;
     /// assert_eq!(answers.len(), members.len());
     /// assert_eq!(answers[65 - 20]?.cohort_annuity, 15_698_927_802);
     /// # Ok::<(), Box<dyn std::error::Error>>(())
     /// ```
-    pub fn value(&self, questions: &[Question]) -> Vec<Result<Results, Refusal>> {
+    pub fn value(&self, questions: &[Question]) -> Result<Vec<Result<Results, Refusal>>, Refusal> {
         let mut answers = Vec::with_capacity(questions.len());
         for part in questions.chunks(GRID) {
             // Records of age 0 fill the grid up: they are refused at once and cost nothing.
@@ -127,9 +135,9 @@ impl Basis {
             for (record, question) in records.iter_mut().zip(part) {
                 *record = Record::new(*question);
             }
-            self.grid(&mut records).expect("an accepted data run and 119 records are not refused");
+            self.grid(&mut records)?;
             answers.extend(records[..part.len()].iter().map(Record::answer));
         }
-        answers
+        Ok(answers)
     }
 }

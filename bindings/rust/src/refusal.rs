@@ -13,7 +13,7 @@ use std::fmt;
 #[repr(C)]
 #[derive(Clone, Copy, Debug, PartialEq, Eq, Hash)]
 pub struct Refusal {
-    /// 1 to 12; what each says is in docs/REFUSALS.md.
+    /// 1 to 13; what each says is in docs/REFUSALS.md.
     pub number: u32,
     /// The first place: a block, an offset, an age, a year, as the number has it.
     pub first: u64,
@@ -37,6 +37,7 @@ impl Refusal {
             10 => "a factor needed is above 4 × U",
             11 => "lent output too short",
             12 => "a line is not of the form asked",
+            13 => "history not 1,024 bytes for each year from B + 1 to F",
             _ => "no such refusal",
         }
     }
@@ -50,7 +51,7 @@ impl Refusal {
             7 => (Some("year"), None),
             8 => (Some("age"), Some("deferment")),
             9 | 10 => (Some("age"), Some("year")),
-            11 => (Some("needed"), None),
+            11 | 13 => (Some("needed"), None),
             12 => (Some("line"), None),
             _ => (None, None),
         }

@@ -27,7 +27,8 @@ fn question(row: &[String]) -> Question {
 fn members_have_the_expected_values() {
     let rows = expected_rows();
     let questions: Vec<Question> = rows.iter().map(|row| question(row)).collect();
-    for (row, answer) in rows.iter().zip(sample().value(&questions)) {
+    let answers = sample().value(&questions).expect("the sample needs no history");
+    for (row, answer) in rows.iter().zip(answers) {
         let cells = match answer {
             Ok(results) => {
                 let four = [
@@ -63,7 +64,7 @@ fn single_enquiries_agree_with_the_points() {
             );
             Ok([period, cohort, annuities.0, annuities.1].into())
         });
-        assert_eq!(basis.value(&[Question { age, deferment, year }]), [single]);
+        assert_eq!(basis.value(&[Question { age, deferment, year }]), Ok(vec![single]));
     }
 }
 
@@ -132,7 +133,7 @@ fn the_rate_of_discount_may_be_below_zero() {
 fn sentences_are_those_of_the_document() {
     let document = fs::read_to_string(concat!(env!("CARGO_MANIFEST_DIR"), "/../../docs/REFUSALS.md"))
         .expect("the document is there");
-    for number in 1..=12 {
+    for number in 1..=13 {
         let refusal = Refusal { number, first: 0, second: 0 };
         let row = format!("\n| {number} | {} |", refusal.sentence());
         assert!(document.contains(&row), "docs/REFUSALS.md has no row {row:?}");
