@@ -5,19 +5,21 @@
     >>> decimal(basis.annuity(Kind.COHORT, age=65, deferment=0, year=2010))
     '15.698927802'
 
-Values are whole units, 1,000,000,000 to one. What is refused raises `Refusal`. The command line,
-`python3 -m parvusek --help`, values a CSV of members and makes a basis from CSV tables.
+Values are whole units, 1,000,000,000 to one. What is refused raises `Refusal`. A basis whose base year is
+before its foundation year is read with its history, `Basis.read("basis.bin", "history.bin")`. The command
+line, `python3 -m parvusek --help`, values a CSV of members and makes a basis from CSV tables.
 """
 
 from ._library import LibraryNotFound
 from .basis import (FILE_LENGTH, RUN_LENGTH, Answer, Basis, Kind, Lifeline, Question, Results,
                     Standing)
+from .history import history_file, improvements_of
 from .refusals import Refusal
 from .decimals import UNIT, decimal, units
 
-__version__ = "0.1.0"
+__version__ = "0.2.0"
 
 __all__ = [
     "Answer", "Basis", "FILE_LENGTH", "Kind", "LibraryNotFound", "Lifeline", "Question", "RUN_LENGTH",
-    "Refusal", "Results", "Standing", "UNIT", "decimal", "units",
+    "Refusal", "Results", "Standing", "UNIT", "decimal", "history_file", "improvements_of", "units",
 ]

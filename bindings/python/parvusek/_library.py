@@ -58,9 +58,11 @@ class CLifeline(ctypes.Structure):
 
 # ---- its functions: what each takes after the run and its length, and what it hands back
 
-_BYTES = [ctypes.c_char_p, ctypes.c_size_t]
-_CELL = [ctypes.c_uint32] * 2
-_VALUE = [ctypes.c_uint32] * 3
+_BYTES: list[Any] = [ctypes.c_char_p, ctypes.c_size_t]
+
+# The history and its length come next, in every call that answers of a basis.
+_CELL = _BYTES + [ctypes.c_uint32] * 2
+_VALUE = _BYTES + [ctypes.c_uint32] * 3
 
 FUNCTIONS: dict[str, tuple[list[Any], Any]] = {
     "parvusek_check_basis": ([], CRefusal),
@@ -76,8 +78,8 @@ FUNCTIONS: dict[str, tuple[list[Any], Any]] = {
     "parvusek_cohort_expectation": (_VALUE, CAnswer),
     "parvusek_period_annuity": (_VALUE, CAnswer),
     "parvusek_cohort_annuity": (_VALUE, CAnswer),
-    "parvusek_small_set": ([CQuestions], CSmallSet),
-    "parvusek_grid": ([ctypes.POINTER(CPoint), ctypes.c_size_t], CRefusal),
+    "parvusek_small_set": (_BYTES + [CQuestions], CSmallSet),
+    "parvusek_grid": (_BYTES + [ctypes.POINTER(CPoint), ctypes.c_size_t], CRefusal),
     "parvusek_lifeline_start": (_CELL, CLifeline),
     "parvusek_lifeline_step": (_CELL + [ctypes.c_uint64], CLifeline),
 }

@@ -1,13 +1,14 @@
-"""A basis and the enquiries that it answers."""
+"""A basis, held with its history, and the enquiries that it answers."""
 
 import ctypes
 import enum
 import os
 from pathlib import Path
-from typing import Iterable, NamedTuple, Sequence, Union
+from typing import Any, Iterable, NamedTuple, Optional, Sequence, Union
 
 from ._library import (GRID_RECORDS, SMALL_SET_POINTS, CPoint, CQuestion, CQuestions, CRefusal,
                        library)
+from .history import YEAR_LENGTH
 from .refusals import Refusal
 
 RUN_LENGTH = 4_554
@@ -48,39 +49,68 @@ class Standing(NamedTuple):
 
 Answer = Union[Results, Refusal]
 
+_Path = Union[str, "os.PathLike[str]"]
+
 
 class Basis:
-    """An accepted basis. It owns its data run, which never changes; any thread may use it.
+    """An accepted basis. It owns its data run and its history, which never change; any thread may use it.
+
+    A basis whose base year B is before its foundation year F needs a history: the actual improvements
+    of the years B + 1 to F (see `history_file`). Without it the basis can be read, written and brought
+    to the short form, and every enquiry is refused by 13. Any other basis has none.
 
     Values are whole units, 1,000,000,000 to one (see `decimal`). An enquiry that is refused raises
     `Refusal`; a number that does not fit the engine's 32 bits raises ValueError.
     """
 
-    __slots__ = ("_run",)
+    __slots__ = ("_run", "_history")
 
-    def __init__(self, run: bytes) -> None:
-        """The basis of a data run of 4,554 bytes, refused by 1, 4 or 5."""
+    def __init__(self, run: bytes, history: Optional[bytes] = None) -> None:
+        """The basis of a data run of 4,554 bytes, refused by 1, 4 or 5.
+
+        If a history file's bytes are given, they are checked as well: 13 for their length, then 2 to 5.
+        """
         self._run = bytes(run)
+        self._history = b"" if history is None else bytes(history)
         _accepted(library().parvusek_check_basis(self._run, len(self._run)))
+        if history is not None:
+            # The start of a lifeline at age 20 in B is refused by the basis alone, and uses no rate.
+            Lifeline(self, 20, self.base_year)
 
     @classmethod
-    def from_file(cls, file: bytes) -> "Basis":
-        """The basis of the 4,608 bytes of a basis file, refused by 1 to 5."""
+    def from_file(cls, file: bytes, history: Optional[bytes] = None) -> "Basis":
+        """The basis of the 4,608 bytes of a basis file, refused by 1 to 5, and of its history file."""
         run = ctypes.create_string_buffer(RUN_LENGTH)
         _accepted(library().parvusek_read_basis(bytes(file), len(file), run, RUN_LENGTH))
-        return cls(run.raw)
+        return cls(run.raw, history)
 
     @classmethod
-    def read(cls, path: Union[str, "os.PathLike[str]"]) -> "Basis":
-        """The basis of the basis file at a path; OSError where it cannot be read."""
-        with open(path, "rb") as file:
-            # One byte more than a basis file has: enough to be refused, however long the file is.
-            return cls.from_file(file.read(FILE_LENGTH + 1))
+    def read(cls, path: _Path, history: Optional[_Path] = None) -> "Basis":
+        """The basis of the basis file at a path, with the history file at another, if one is named.
+
+        OSError where one of them cannot be read.
+        """
+        basis = cls.from_file(_read(path, FILE_LENGTH))
+        return basis if history is None else basis.with_history(_read(history, basis.history_needed))
+
+    def with_history(self, history: bytes) -> "Basis":
+        """This basis with the bytes of a history file, in the place of the one that it has."""
+        return Basis(self._run, history)
 
     @property
     def run(self) -> bytes:
         """The data run of 4,554 bytes."""
         return self._run
+
+    @property
+    def history(self) -> bytes:
+        """The bytes of the history file; none where there is no history."""
+        return self._history
+
+    @property
+    def history_needed(self) -> int:
+        """The bytes that the history has: 1,024 for each year from B + 1 to F, so 0 with B at F or later."""
+        return YEAR_LENGTH * max(0, self.foundation_year - self.base_year)
 
     def to_file(self) -> bytes:
         """The 4,608 bytes of the basis file; reading them gives this basis again."""
@@ -88,22 +118,25 @@ class Basis:
         _accepted(library().parvusek_write_basis(self._run, RUN_LENGTH, file, FILE_LENGTH))
         return file.raw
 
-    def write(self, path: Union[str, "os.PathLike[str]"]) -> None:
-        """Writes the basis file to a path."""
+    def write(self, path: _Path) -> None:
+        """Writes the basis file to a path; its history is a file of its own."""
         Path(path).write_bytes(self.to_file())
 
     def short_form(self, long_term_rate: int) -> "Basis":
-        """The basis that has one long-term rate, running off from age 90 to 120, every T 20 and P 50."""
+        """The basis that has one long-term rate, running off from age 90 to 120, every T 20 and P 50.
+
+        Its history stays.
+        """
         run = ctypes.create_string_buffer(RUN_LENGTH)
         rate = _fits("long_term_rate", long_term_rate, -2**31, 2**31 - 1)
         _accepted(library().parvusek_short_form(self._run, RUN_LENGTH, rate, run, RUN_LENGTH))
-        return Basis(run.raw)
+        return Basis(run.raw, self._history or None)
 
     def __eq__(self, other: object) -> bool:
-        return isinstance(other, Basis) and self._run == other._run
+        return isinstance(other, Basis) and (self._run, self._history) == (other._run, other._history)
 
     def __hash__(self) -> int:
-        return hash(self._run)
+        return hash((self._run, self._history))
 
     def __repr__(self) -> str:
         return f"<Basis F {self.foundation_year}, B {self.base_year}>"
@@ -112,7 +145,7 @@ class Basis:
 
     @property
     def foundation_year(self) -> int:
-        """F, the year from which improvements are projected."""
+        """F, the year from which improvements are projected; from the year after it, where B is before it."""
         return int.from_bytes(self._run[4:6], "little")
 
     @property
@@ -133,7 +166,10 @@ class Basis:
     # ---- single cells
 
     def improvement(self, age: int, year: int) -> int:
-        """The mortality improvement at an age in a year from F on; it may be below zero."""
+        """The mortality improvement at an age in a year; it may be below zero.
+
+        The first year is F, and where B is before F it is B + 1: up to F it is then the history's.
+        """
         return self._answer("improvement", age=age, year=year)
 
     def factor(self, age: int, year: int) -> int:
@@ -159,11 +195,15 @@ class Basis:
         return self._answer(f"{kind.value}_annuity", age=age, deferment=deferment, year=year)
 
     def _answer(self, enquiry: str, **numbers: int) -> int:
-        function = getattr(library(), f"parvusek_{enquiry}")
         asked = [_fits(name, number) for name, number in numbers.items()]
-        answer = function(self._run, RUN_LENGTH, *asked)
+        answer = self._ask(enquiry, *asked)
         _accepted(answer.refusal)
         return int(answer.value)
+
+    def _ask(self, call: str, *arguments: Any) -> Any:
+        """What a call answers that is lent the run and the history, each with its length."""
+        function = getattr(library(), f"parvusek_{call}")
+        return function(self._run, RUN_LENGTH, self._history, len(self._history), *arguments)
 
     # ---- model points
 
@@ -172,14 +212,14 @@ class Basis:
         if len(questions) != SMALL_SET_POINTS:
             raise ValueError(f"the small set has six questions, not {len(questions)}")
         asked = CQuestions((CQuestion * SMALL_SET_POINTS)(*map(_asked, questions)))
-        answers = library().parvusek_small_set(self._run, RUN_LENGTH, asked)
+        answers = self._ask("small_set", asked)
         _accepted(answers.refusal)
         return [_refused(point.refusal) or Results(*point.results) for point in answers.points]
 
     def grid(self, questions: Sequence[Question]) -> list[Answer]:
         """The answers to the first 119 questions; fewer are refused by 11."""
         records = (CPoint * len(questions))(*map(_asked, questions))
-        _accepted(library().parvusek_grid(self._run, RUN_LENGTH, records, len(questions)))
+        _accepted(self._ask("grid", records, len(questions)))
         return [Refusal(record.refusal, record.first, record.second) if record.refusal
                 else Results(*record.results) for record in records[:GRID_RECORDS]]
 
@@ -201,15 +241,15 @@ class Basis:
 class Lifeline:
     """One life followed along its cohort: iterating steps year by year, up to age 150.
 
-    It holds the age, the year and the survivors of one; a step that ends or is refused leaves them.
+    It holds the age, the year and the survivors of one; a step that ends or is refused leaves them. Each
+    step is lent the basis's run and history.
     """
 
     __slots__ = ("_basis", "_standing")
 
     def __init__(self, basis: Basis, age: int, year: int) -> None:
         self._basis = basis
-        start = library().parvusek_lifeline_start(basis.run, RUN_LENGTH, _fits("age", age),
-                                                  _fits("year", year))
+        start = basis._ask("lifeline_start", _fits("age", age), _fits("year", year))
         _accepted(start.refusal)
         self._standing = Standing(start.age, start.year, start.survivors)
 
@@ -220,7 +260,7 @@ class Lifeline:
 
     def step(self) -> bool:
         """One year on. False, with nothing changed, where the life has ended at age 150."""
-        step = library().parvusek_lifeline_step(self._basis.run, RUN_LENGTH, *self._standing)
+        step = self._basis._ask("lifeline_step", *self._standing)
         _accepted(step.refusal)
         self._standing = Standing(step.age, step.year, step.survivors)
         return not step.ended
@@ -232,6 +272,12 @@ class Lifeline:
         if not self.step():
             raise StopIteration
         return self._standing
+
+
+def _read(path: _Path, wanted: int) -> bytes:
+    """The bytes of a file. Of one that is longer than wanted one byte more: enough to be refused."""
+    with open(path, "rb") as file:
+        return file.read(wanted + 1)
 
 
 def _refused(refusal: CRefusal) -> Union[Refusal, None]:

@@ -1,4 +1,4 @@
-"""The fields of a data run: where each stands, in which CSV table, and between which limits."""
+"""The fields of a data run and of a history: where each stands, in which CSV table, and between which limits."""
 
 from typing import NamedTuple, Optional
 
@@ -6,12 +6,13 @@ from .decimals import UNIT, decimal
 
 FIRST_AGE, AGES = 20, 131
 FIRST_BIRTH_YEAR, BIRTH_YEARS = 1842, 269
-LAST_YEAR = 2130
+FIRST_YEAR, LAST_YEAR = 1992, 2130
 
 SETTINGS_FILE = "settings.csv"
 BASE_FILE = "base_rates.csv"
 AGE_FILE = "age_component.csv"
 COHORT_FILE = "cohort_component.csv"
+ACTUAL_FILE = "actual_improvements.csv"
 
 
 class Column(NamedTuple):
@@ -65,9 +66,10 @@ class Column(NamedTuple):
             return f"{self.file}, {self.name}"
         return f"{self.file}, {self.key.replace('_', ' ')} {self.first_key + entry}, {self.name}"
 
-    def limits(self, foundation_year: int) -> str:
-        low = f"the foundation year {foundation_year}" if self.name == "base_year" else self.text(self.low)
-        return f"{low} to {self.text(self.high)}"
+    def outside(self, place: str, number: int) -> str:
+        """What is said of a number beyond this column's limits."""
+        return (f"{place}: {self.text(number)} is outside its limits, "
+                f"{self.text(self.low)} to {self.text(self.high)}")
 
 
 def _setting(name: str, offset: int, width: int, low: int, high: int, is_rate: bool) -> Column:
@@ -77,8 +79,8 @@ def _setting(name: str, offset: int, width: int, low: int, high: int, is_rate: b
 _RATE_LIMIT = UNIT // 5
 
 SETTINGS = (
-    _setting("foundation_year", 4, 2, 1992, 2080, False),
-    _setting("base_year", 6, 2, 1992, LAST_YEAR, False),
+    _setting("foundation_year", 4, 2, FIRST_YEAR, 2080, False),
+    _setting("base_year", 6, 2, FIRST_YEAR, LAST_YEAR, False),
     _setting("constant_addition", 8, 4, -UNIT // 10, UNIT // 10, True),
     _setting("discount_rate", 12, 4, -UNIT // 100, UNIT // 5, True),
 )
@@ -94,6 +96,9 @@ COLUMNS = (
     Column(COHORT_FILE, "convergence_period", 4016, BIRTH_YEARS, 1, 1, 50, False),
     Column(COHORT_FILE, "proportion_remaining", 4285, BIRTH_YEARS, 1, 0, 150, False),
 )
+
+# The actual improvements of a year, which stand in the history and not in the data run.
+IMPROVEMENT = Column(ACTUAL_FILE, "improvement", 0, AGES, 4, -UNIT // 2, UNIT // 2, True)
 
 TABLE_FILES = (BASE_FILE, AGE_FILE, COHORT_FILE)
 FILES = (SETTINGS_FILE,) + TABLE_FILES

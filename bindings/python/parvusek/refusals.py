@@ -13,6 +13,7 @@ SENTENCES: dict[int, str] = {
     10: "a factor needed is above 4 × U",
     11: "lent output too short",
     12: "a line is not of the form asked",
+    13: "history not 1,024 bytes for each year from B + 1 to F",
 }
 
 # What the places of each refusal are; those that are always 0 have no name.
@@ -29,11 +30,12 @@ PLACES: dict[int, tuple[str, ...]] = {
     10: ("age", "year"),
     11: ("needed",),
     12: ("line",),
+    13: ("needed",),
 }
 
 
 class Refusal(Exception):
-    """The engine's refusal of an enquiry or of a basis.
+    """The engine's refusal of an enquiry, of a basis or of a history.
 
     >>> refusal = Refusal(8, 148, 3)
     >>> refusal.number, refusal.first, refusal.second

@@ -9,8 +9,10 @@ from typing import Any, Callable, Optional
 
 from outside import bases, engine, points
 from outside.basis import encode, short_form, write_file
+from outside.older_bases import lent, older_bases
 from outside.refusals import Refusal as OutsideRefusal
 from parvusek import Basis, Kind, Question, Refusal, Results, Standing, UNIT
+import parvusek.history
 import parvusek.refusals
 import parvusek.decimals
 
@@ -32,7 +34,7 @@ def outcome(call: Callable[..., Any], *arguments: Any) -> Any:
 def drawn_questions(draw: random.Random, count: int) -> list[Question]:
     """Mostly well-formed questions, some at and beyond each edge."""
     ages = [0, 19, 20, 65, 149, 150, 151, 2**32 - 1] + list(range(20, 151, 7))
-    years = [0, 2005, 2006, 2008, 2130, 2131, 2**32 - 1] + list(range(2010, 2130, 17))
+    years = [0, 1999, 2000, 2001, 2005, 2006, 2007, 2008, 2130, 2131, 2**32 - 1] + list(range(2010, 2130, 17))
     return [Question(draw.choice(ages), draw.choice([0, 0, 1, 20, 85, 131, 2**32 - 1]), draw.choice(years))
             for _ in range(count)]
 
@@ -42,32 +44,40 @@ class Enquiries(unittest.TestCase):
              "limits": bases.limits_basis(1), "random": bases.random_basis(2, -200_000_000, 200_000_000),
              "below zero": bases.named_bases()["lowest discount"]}
 
+    # Bases with a history: a realistic one, one stopped in the years of the history, one after them.
+    older = {name: older_bases()[name] for name in ("2000 table", "10 in mid-history", "9 after the history")}
+
     def each_basis(self) -> Any:
+        """The data run, the history and the basis of each."""
         for name, outside_basis in self.named.items():
             run = bytes(encode(outside_basis))
             with self.subTest(basis=name):
-                yield run, Basis(run)
+                yield run, b"", Basis(run)
+        for name, older in self.older.items():
+            run, history = map(bytes, lent(older))
+            with self.subTest(basis=name):
+                yield run, history, Basis(run, history)
 
     def test_cells(self) -> None:
-        for run, basis in self.each_basis():
+        for run, history, basis in self.each_basis():
             for age, _, year in drawn_questions(random.Random(1), 60):
                 for name in ("improvement", "factor", "rate"):
                     self.assertEqual(outcome(getattr(basis, name), age, year),
-                                     outcome(getattr(engine, name), run, age, year), (name, age, year))
+                                     outcome(getattr(engine, name), run, history, age, year), (name, age, year))
 
     def test_values(self) -> None:
-        for run, basis in self.each_basis():
+        for run, history, basis in self.each_basis():
             for question in drawn_questions(random.Random(2), 25):
                 for name in ("survivorship", "expectation", "annuity"):
                     for kind, outside_kind in KINDS:
                         self.assertEqual(outcome(getattr(basis, name), kind, *question),
-                                         outcome(getattr(engine, name), run, outside_kind, *question),
+                                         outcome(getattr(engine, name), run, history, outside_kind, *question),
                                          (name, kind, question))
 
     def test_points(self) -> None:
-        for run, basis in self.each_basis():
+        for run, history, basis in self.each_basis():
             questions = drawn_questions(random.Random(3), 131)
-            wanted = [outcome(points.point, run, *question) for question in questions]
+            wanted = [outcome(points.point, run, history, *question) for question in questions]
             answered = [tuple(answer) if isinstance(answer, Results)
                         else ("refused", answer.number, answer.first, answer.second)
                         for answer in basis.value(questions)]
@@ -76,12 +86,14 @@ class Enquiries(unittest.TestCase):
             self.assertEqual(basis.small_set(questions[:6]), basis.value(questions[:6]))
 
     def test_lifeline(self) -> None:
-        for run, basis in self.each_basis():
-            outside_line, refusal = points.start_lifeline(run, 60, 2100)
+        for run, history, basis in self.each_basis():
+            # From the base year on where there is a history, so that its years are lived through.
+            year = basis.base_year if history else 2100
+            outside_line, refusal = points.start_lifeline(run, history, 60, year)
             self.assertIsNone(refusal)
-            line = basis.lifeline(60, 2100)
-            self.assertEqual(line.standing, Standing(60, 2100, UNIT))
-            while (wanted := outcome(points.step_lifeline, outside_line)) == points.STEPPED:
+            line = basis.lifeline(60, year)
+            self.assertEqual(line.standing, Standing(60, year, UNIT))
+            while (wanted := outcome(points.step_lifeline, outside_line, history)) == points.STEPPED:
                 self.assertEqual(next(line),
                                  Standing(outside_line.age, outside_line.year, outside_line.survivors))
             if wanted == points.ENDED:
@@ -165,7 +177,7 @@ class Examples(unittest.TestCase):
         before = os.getcwd()
         os.chdir(SAMPLE)
         try:
-            for module in (parvusek, parvusek.refusals, parvusek.decimals):
+            for module in (parvusek, parvusek.history, parvusek.refusals, parvusek.decimals):
                 tested = doctest.testmod(module)
                 self.assertGreater(tested.attempted, 0, module.__name__)
                 self.assertEqual(tested.failed, 0, module.__name__)

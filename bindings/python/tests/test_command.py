@@ -4,6 +4,7 @@ import contextlib
 import csv
 import io
 import os
+import shutil
 import subprocess
 import sys
 import tempfile
@@ -12,8 +13,10 @@ from pathlib import Path
 from unittest import mock
 
 from outside import bases, points
-from outside.basis import encode
+from outside.basis import encode, encode_file
+from outside.older_bases import lent, older_bases
 from outside.refusals import Refusal as OutsideRefusal
+from parvusek import history_file
 from parvusek.__main__ import main
 from parvusek.members import Counts, Progress
 
@@ -56,7 +59,7 @@ class Value(Command):
             for row in csv.DictReader(file):
                 asked = (int(row["age"]), int(row["deferment"]), int(row["year"]))
                 try:
-                    wanted = ["%d.%09d" % divmod(result, 10**9) for result in points.point(run, *asked)] + [""] * 3
+                    wanted = ["%d.%09d" % divmod(result, 10**9) for result in points.point(run, b"", *asked)] + [""] * 3
                 except OutsideRefusal as refusal:
                     wanted = [""] * 4 + [str(number) for number in refusal.numbers()]
                 found = [row[column] for column in (
@@ -179,6 +182,141 @@ class Bases(Command):
         self.assertIn("has no settings.csv and no base_rates.csv", wrong)
         self.assertEqual(os.listdir(self.folder), ["basis.bin"])
         self.assertEqual((self.folder / "basis.bin").read_bytes(), b"old")
+
+
+class Histories(Command):
+    """A basis with its history beside it, F 2006 and B 2000, and one that has none."""
+
+    def setUp(self) -> None:
+        super().setUp()
+        self.run_bytes, self.history = map(bytes, lent(older_bases()["2000 table"]))
+        self.basis, self.beside = self.folder / "basis.bin", self.folder / "history.bin"
+        self.members, self.out = self.folder / "members.csv", self.folder / "values.csv"
+        self.basis.write_bytes(encode_file(self.run_bytes))
+        self.beside.write_bytes(self.history)
+        self.members.write_text("age,deferment,year\n65,0,2000\n65,0,2010\n45,20,2003\n65,0,1999\n", encoding="utf-8")
+
+    def value_older(self, *options: object) -> tuple[int, str, str]:
+        return self.run_command("value", self.members, self.basis, self.out, *options)
+
+    def is_valued(self) -> None:
+        for row in self.values():
+            asked = (int(row["age"]), int(row["deferment"]), int(row["year"]))
+            try:
+                wanted = [result / 10**9 for result in points.point(self.run_bytes, self.history, *asked)]
+                found = [row[column] for column in (
+                    "period_expectation", "cohort_expectation", "period_annuity", "cohort_annuity")]
+                self.assertEqual(found, [f"{result:.9f}" for result in wanted], asked)
+            except OutsideRefusal as refusal:
+                self.assertEqual([row["refusal"], row["first"], row["second"]], list(map(str, refusal.numbers())))
+
+    def test_valued_with_the_history_beside_the_basis(self) -> None:
+        status, said, wrong = self.value_older()
+        self.assertEqual((status, wrong), (0, ""))
+        self.assertIn("4 rows, 3 valued, 1 refused", said)
+        self.is_valued()
+
+    def test_valued_with_a_history_that_is_named(self) -> None:
+        named = self.folder / "actual.bin"
+        self.beside.rename(named)
+        self.beside.write_bytes(b"another's")
+        self.assertEqual(self.value_older("--history", named)[0], 0)
+        self.is_valued()
+        status, _, wrong = self.value_older("--history", self.folder / "none.bin")
+        self.assertEqual((status, wrong), (1, f"parvusek: {self.folder}/none.bin: No such file or directory\n"))
+
+    def test_without_its_history(self) -> None:
+        why = (": the base year 2000 is before the foundation year 2006, so that the actual improvements of 2001 to 2006 "
+               "belong to it (refused 13: history not 1,024 bytes for each year from B + 1 to F (needed 6144))\n")
+        status, _, wrong = self.value_older("--no-history")
+        self.assertEqual((status, wrong), (1, f"parvusek: {self.basis} needs a history, and none is lent{why}"))
+        self.beside.unlink()
+        none = f"parvusek: {self.basis} needs a history, and there is no history.bin beside it{why}"
+        self.assertEqual(self.value_older()[::2], (1, none))
+        self.assertEqual(self.run_command("basis", "check", self.basis)[::2], (1, none))
+        self.assertEqual(self.run_command("basis", "show", self.basis, self.folder / "tables")[::2], (1, none))
+        self.assertEqual(sorted(os.listdir(self.folder)), ["basis.bin", "members.csv"])
+
+    def test_a_history_of_another_basis(self) -> None:
+        self.basis.write_bytes((SAMPLE / "basis.bin").read_bytes())
+        status, _, wrong = self.value_older()
+        self.assertEqual(status, 1)
+        self.assertEqual(wrong, f"parvusek: {self.beside} is refused as the history of {self.basis}: the base year 2008 is "
+                                "not before the foundation year 2006, so that no actual improvements belong to it "
+                                "(refused 13: history not 1,024 bytes for each year from B + 1 to F (needed 0)); "
+                                "--no-history leaves it aside\n")
+        self.assertEqual(self.value_older("--no-history")[0], 0)
+
+    def test_a_damaged_history(self) -> None:
+        for history, wanted in (
+                (self.history[:-1], "the base year 2000 is before the foundation year 2006, so that the actual improvements "
+                                    "of 2001 to 2006 belong to it (refused 13: "),
+                (self.history[:700] + b"\xff" + self.history[701:], "refused 2: a block's check is wrong (block 1)\n"),
+                (self.history[512:1_024] + self.history[:512] + self.history[1_024:],
+                 "refused 3: a block's number is not its place (block 0)\n")):
+            self.beside.write_bytes(history)
+            for command in (("value", self.members, self.basis, self.out), ("basis", "check", self.basis)):
+                status, _, wrong = self.run_command(*command)
+                self.assertEqual(status, 1)
+                self.assertIn(f"{self.beside} is refused as the history of {self.basis}: {wanted}", wrong)
+        self.assertFalse(self.out.exists())
+
+    def test_an_improvement_beyond_its_limits_is_explained(self) -> None:
+        rows = [list(row) for row in older_bases()["2000 table"].rows]
+        rows[2][86 - 20] = -500_000_001
+        self.beside.write_bytes(history_file(rows))
+        status, _, wrong = self.run_command("basis", "check", self.basis)
+        self.assertEqual(status, 1)
+        self.assertIn("actual_improvements.csv, age 86, year 2003, improvement: -0.500000001 is outside its limits, "
+                      "-0.500000000 to 0.500000000 (refused 5: a field outside its limits (offset 2530))", wrong)
+
+    def test_shown_and_made_again(self) -> None:
+        status, said, _ = self.run_command("basis", "show", self.basis, self.folder / "tables")
+        summary = ("accepted; F 2006, B 2000, addition 0.001000000, discount 0.030000000, history of 2001 to 2006\n")
+        self.assertEqual((status, said), (0, f"{self.folder}/tables: the tables of {self.basis}, {summary}"))
+        for options, written in (((), "history.bin"), (("--history", self.folder / "again" / "actual.bin"), "actual.bin")):
+            again = self.folder / "again"
+            again.mkdir()
+            status, said, wrong = self.run_command("basis", "make", self.folder / "tables", again / "b.bin", *options)
+            self.assertEqual((status, wrong), (0, ""))
+            self.assertEqual(said, f"{again}/b.bin: {summary}{again}/{written}: history of 2001 to 2006\n")
+            self.assertEqual(sorted(os.listdir(again)), sorted(["b.bin", written]))
+            self.assertEqual((again / "b.bin").read_bytes(), self.basis.read_bytes())
+            self.assertEqual((again / written).read_bytes(), self.history)
+            shutil.rmtree(again)
+        self.assertEqual(self.run_command("basis", "check", self.basis), (0, f"{self.basis}: {summary}", ""))
+
+    def test_a_basis_without_a_history_is_made_without_one(self) -> None:
+        self.beside.unlink()
+        self.assertEqual(self.run_command("basis", "make", SAMPLE / "tables", self.basis)[::2], (0, ""))
+        self.assertFalse(self.beside.exists())
+        # One that is there stays, and is said to be another's.
+        self.beside.write_bytes(self.history)
+        status, said, wrong = self.run_command("basis", "make", SAMPLE / "tables", self.basis)
+        self.assertEqual(status, 0)
+        self.assertEqual(wrong, f"parvusek: {self.beside} is no history of this basis, which has none; take it away, or "
+                                "value with --no-history\n")
+        self.assertEqual(self.beside.read_bytes(), self.history)
+
+    def test_a_failed_make_leaves_the_old_files(self) -> None:
+        tables = self.folder / "tables"
+        self.run_command("basis", "show", self.basis, tables)
+        before = self.basis.read_bytes()
+        table = tables / "actual_improvements.csv"
+        text = table.read_text(encoding="utf-8")
+        table.write_text(text.replace("\n20,2001,", "\n20,2001,9", 1), encoding="utf-8")
+        status, _, wrong = self.run_command("basis", "make", tables, self.basis)
+        self.assertEqual(status, 1)
+        self.assertIn("actual_improvements.csv, age 20, year 2001, improvement: ", wrong)
+        table.write_text(text, encoding="utf-8")
+        status, _, wrong = self.run_command("basis", "make", tables, self.basis, "--history", self.folder / "no" / "h.bin")
+        self.assertEqual(status, 1)
+        self.assertIn("No such file or directory", wrong)
+        status, _, wrong = self.run_command("basis", "make", tables, self.basis, "--history", self.basis)
+        self.assertEqual((status, wrong), (1, f"parvusek: {self.basis} cannot be the basis file and its history; "
+                                              "name another\n"))
+        self.assertEqual((self.basis.read_bytes(), self.beside.read_bytes()), (before, self.history))
+        self.assertEqual(sorted(os.listdir(self.folder)), ["basis.bin", "history.bin", "members.csv", "tables"])
 
 
 class Library(Command):

@@ -14,15 +14,17 @@ class Refusals(unittest.TestCase):
     def test_sentences(self) -> None:
         text = (REPOSITORY / "docs" / "REFUSALS.md").read_text(encoding="utf-8")
         rows = re.findall(r"^\| (\d+) \| (.*?) \| (.*?) \|", text, re.MULTILINE)
-        in_short = {int(number): sentence for number, sentence, _ in rows[:12]}
+        in_short = {int(number): sentence for number, sentence, _ in rows[:13]}
         self.assertEqual(SENTENCES, in_short)
-        for number, _, places in rows[:12]:
+        for number, _, places in rows[:13]:
             named = [place for place in places.split(", ") if place != "0"]
             self.assertEqual(len(PLACES[int(number)]), len(named), f"the places of {number}")
 
     def test_message(self) -> None:
         self.assertEqual(str(Refusal(1)), "refused 1: file not 4,608 bytes, or data run not 4,554")
         self.assertEqual(str(Refusal(6, 19)), "refused 6: age outside 20 to 150 (age 19)")
+        self.assertEqual(str(Refusal(13, 6_144)),
+                         "refused 13: history not 1,024 bytes for each year from B + 1 to F (needed 6144)")
         self.assertEqual(Refusal(9, 70, 2031).message,
                          "an improvement needed is beyond ±500,000,000 (age 70, year 2031)")
 

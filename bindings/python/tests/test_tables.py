@@ -9,7 +9,7 @@ from outside import bases
 from outside.basis import encode
 from outside.layout import limits
 from parvusek import Basis, Refusal
-from parvusek.layout import COLUMNS, FILES, SETTINGS, field_at
+from parvusek.layout import ACTUAL_FILE, COLUMNS, FILES, SETTINGS, field_at
 from parvusek.tables import TableError, basis_of, explained, show
 
 from . import SAMPLE
@@ -32,6 +32,15 @@ class RoundTrip(unittest.TestCase):
             for file in FILES:
                 self.assertEqual((Path(folder) / file).read_bytes(), (SAMPLE / "tables" / file).read_bytes())
 
+    def test_sample_with_a_history(self) -> None:
+        basis = basis_of(SAMPLE / "older" / "tables")
+        self.assertEqual(basis.to_file(), (SAMPLE / "older" / "basis.bin").read_bytes())
+        self.assertEqual(basis.history, (SAMPLE / "older" / "history.bin").read_bytes())
+        with tempfile.TemporaryDirectory() as folder:
+            show(basis, Path(folder))
+            for file in FILES + (ACTUAL_FILE,):
+                self.assertEqual((Path(folder) / file).read_bytes(), (SAMPLE / "older" / "tables" / file).read_bytes())
+
     def test_shown_over_other_tables_only_if_told(self) -> None:
         basis = basis_of(SAMPLE / "tables")
         with tempfile.TemporaryDirectory() as folder:
@@ -44,11 +53,9 @@ class RoundTrip(unittest.TestCase):
 class Layout(unittest.TestCase):
     def test_fields_are_those_of_the_outside_calculation(self) -> None:
         run = bytes(encode(bases.realistic()))
-        wanted = [(offset, number, low, high) for offset, number, low, high in limits(run) if offset != 6]
         found = [(column.offset + column.width * entry, number, column.low, column.high)
-                 for column in SETTINGS + COLUMNS for entry, number in enumerate(column.numbers(run))
-                 if column.offset != 6]
-        self.assertEqual(found, wanted)
+                 for column in SETTINGS + COLUMNS for entry, number in enumerate(column.numbers(run))]
+        self.assertEqual(found, list(limits(run)))
 
     def test_field_at(self) -> None:
         for column in SETTINGS + COLUMNS:
@@ -87,9 +94,9 @@ class Messages(unittest.TestCase):
                                            "outside its limits, 1 to 50 (refused 5"), message)
 
     def test_settings(self) -> None:
-        message = self.refused("settings.csv", "base_year,2008", "base_year,2005")
-        self.assertTrue(message.startswith("settings.csv, base_year: 2005 is outside its limits, "
-                                           "the foundation year 2006 to 2130 (refused 5"), message)
+        self.assertEqual(self.refused("settings.csv", "base_year,2008", "base_year,1991"),
+                         "settings.csv, base_year: 1991 is outside its limits, 1992 to 2130 "
+                         "(refused 5: a field outside its limits (offset 6))")
 
     def test_the_discount_rate_may_be_below_zero(self) -> None:
         path = self.folder / "settings.csv"
