@@ -4,146 +4,14 @@ answers and refuses as the definitions say on a few cases worked by hand.
 Usage: check_boundary.py LIBRARY    (a shared library made from libengine.a)
 Prints one line, and each check that failed.
 """
-import ctypes
 import struct
 import sys
-from ctypes import POINTER, Structure, c_int32, c_int64, c_size_t, c_uint8, c_uint32, c_uint64, sizeof
+from ctypes import sizeof
 
-RUN, FILE, GRID, FURTHER, KEPT = 4554, 4608, 119, 16, 0xA5
-UNIT = 1_000_000_000
-
-
-class Refusal(Structure):
-    _fields_ = [("number", c_uint32), ("first", c_uint64), ("second", c_uint64)]
-
-
-class Answer(Structure):
-    _fields_ = [("refusal", Refusal), ("value", c_uint64)]
-
-
-class SignedAnswer(Structure):
-    _fields_ = [("refusal", Refusal), ("value", c_int64)]
-
-
-class Question(Structure):
-    _fields_ = [("age", c_uint32), ("deferment", c_uint32), ("year", c_uint32)]
-
-
-class Questions(Structure):
-    _fields_ = [("points", Question * 6)]
-
-
-class PointAnswer(Structure):
-    _fields_ = [("results", c_uint64 * 4), ("refusal", Refusal)]
-
-
-class SmallSet(Structure):
-    _fields_ = [("refusal", Refusal), ("points", PointAnswer * 6)]
-
-
-class Point(Structure):
-    _fields_ = [("age", c_uint32), ("deferment", c_uint32), ("year", c_uint32), ("refusal", c_uint32),
-                ("results", c_uint64 * 4), ("first", c_uint64), ("second", c_uint64)]
-
-
-class Lifeline(Structure):
-    _fields_ = [("refusal", Refusal), ("survivors", c_uint64), ("age", c_uint32), ("year", c_uint32), ("ended", c_uint32)]
-
-
-# What each struct has in the engine: its size, then its fields' offsets.
-LAYOUTS = [
-    (Refusal, 24, [0, 8, 16]),
-    (Answer, 32, [0, 24]),
-    (SignedAnswer, 32, [0, 24]),
-    (Question, 12, [0, 4, 8]),
-    (Questions, 72, [0]),
-    (PointAnswer, 56, [0, 32]),
-    (SmallSet, 360, [0, 24]),
-    (Point, 64, [0, 4, 8, 12, 16, 48, 56]),
-    (Lifeline, 48, [0, 24, 32, 36, 40]),
-]
-
-# What each function gives, and what it takes after a data run or a file.
-FUNCTIONS = {
-    "check_basis": (Refusal, []),
-    "read_basis": (Refusal, [POINTER(c_uint8), c_size_t]),
-    "write_basis": (Refusal, [POINTER(c_uint8), c_size_t]),
-    "short_form": (Refusal, [c_int32, POINTER(c_uint8), c_size_t]),
-    "improvement": (SignedAnswer, [c_uint32] * 2),
-    "factor": (Answer, [c_uint32] * 2),
-    "rate": (Answer, [c_uint32] * 2),
-    "period_survivorship": (Answer, [c_uint32] * 3),
-    "cohort_survivorship": (Answer, [c_uint32] * 3),
-    "period_expectation": (Answer, [c_uint32] * 3),
-    "cohort_expectation": (Answer, [c_uint32] * 3),
-    "period_annuity": (Answer, [c_uint32] * 3),
-    "cohort_annuity": (Answer, [c_uint32] * 3),
-    "small_set": (SmallSet, [Questions]),
-    "grid": (Refusal, [POINTER(Point), c_size_t]),
-    "lifeline_start": (Lifeline, [c_uint32] * 2),
-    "lifeline_step": (Lifeline, [c_uint32, c_uint32, c_uint64]),
-}
-
-checks = 0
-failures = 0
-
-
-def same(what, found, wanted):
-    """One check."""
-    global checks, failures
-    checks += 1
-    if found != wanted:
-        failures += 1
-        print(f"check_boundary.py: {what}: {found}, not {wanted}")
-
-
-def places(r):
-    return (r.number, r.first, r.second)
-
-
-class Engine:
-    """The library's functions, each taking bytes for its data run or file."""
-
-    def __init__(self, path):
-        library = ctypes.CDLL(path)
-        for name, (gives, takes) in FUNCTIONS.items():
-            f = getattr(library, "parvusek_" + name)
-            f.restype = gives
-            f.argtypes = [ctypes.c_char_p, c_size_t] + takes
-            setattr(self, name, lambda read, *rest, f=f: f(read, len(read), *rest))
-
-
-def lent(size):
-    return (c_uint8 * size)(*[KEPT] * size)
-
-
-def sample(addition=0, discount=0, initial=0, long_term=0, birth_year=0, period=20, remaining=50):
-    """F and B 2006, every base rate 100,000,000; other rates 0, T 20 and P 50 where not said otherwise."""
-    def words(count, n):
-        return struct.pack("<i", n) * count
-    return (b"MPB1" + struct.pack("<HHii", 2006, 2006, addition, discount) + bytes(14) + words(131, 100_000_000)
-            + words(131, initial) + words(131, long_term) + bytes([period]) * 131 + bytes([remaining]) * 131
-            + words(269, birth_year) + words(269, birth_year) + bytes([20]) * 269 + bytes([50]) * 269)
-
-
-def worsening():
-    """Every improvement -400,000,000 in F and -500,000,000 after it."""
-    return sample(addition=-100_000_000, initial=-200_000_000, long_term=-200_000_000, birth_year=-200_000_000)
-
-
-def beyond():
-    """An improvement of 587,500,000 in the year after F."""
-    return sample(initial=200_000_000, long_term=-200_000_000, period=4, remaining=150)
-
-
-def file_of(run):
-    """The basis file of a data run, by the paper's words."""
-    file = b""
-    for number in range(9):
-        block = struct.pack("<H", number) + run[506 * number:506 * number + 506]
-        words = struct.unpack("<127I", block)
-        file += block + struct.pack("<I", sum(w * (i + 1) for i, w in enumerate(words)) % 2**32)
-    return file
+import boundary
+from boundary import (FILE, FURTHER, GRID, KEPT, LAYOUTS, RUN, UNIT, Engine, Point, Question, Questions, answers_of_grid,
+                      asked_of_grid, beyond, file_of, lent, places, same, sample, stand, worsening)
+from check_histories import check_histories
 
 
 def check_layouts():
@@ -160,6 +28,8 @@ def check_bases(e):
     same("a wrong mark", places(e.check_basis(b"MPB2" + run[4:])), (4, 3, 0))
     same("the lowest discount", places(e.check_basis(sample(discount=-10_000_000))), (0, 0, 0))
     same("a discount below it", places(e.check_basis(sample(discount=-10_000_001))), (5, 12, 0))
+    same("the lowest base year", places(e.check_basis(sample(base_year=1992))), (0, 0, 0))
+    same("a base year below it", places(e.check_basis(sample(base_year=1991))), (5, 6, 0))
 
     file = lent(FILE + FURTHER)
     same("room for a file", places(e.write_basis(b"", file, FILE - 1)), (11, FILE, 0))
@@ -251,19 +121,6 @@ def check_small_sets(e):
     same("a refused set", (places(refused.refusal), points(refused)), ((5, 12, 0), [(nothing, (0, 0, 0))] * 6))
 
 
-def asked_of_grid(questions):
-    """119 records and two further ones that hold these questions in turn, and no byte of an answer yet."""
-    records = (Point * (GRID + 2))()
-    ctypes.memset(records, KEPT, sizeof(records))
-    for i, p in enumerate(records):
-        p.age, p.deferment, p.year = questions[i % len(questions)]
-    return records
-
-
-def answers_of_grid(records, count):
-    return [(list(p.results), (p.refusal, p.first, p.second)) for p in records[:count]]
-
-
 HALF, NOTHING = UNIT // 2, [0, 0, 0, 0]
 AT_LAST_AGE = ([HALF, HALF, UNIT, UNIT], (0, 0, 0))
 
@@ -319,10 +176,6 @@ def check_grids(e):
     check_records(e)
     check_records_again(e)
     check_refused_grids(e)
-
-
-def stand(line):
-    return (line.age, line.year, line.survivors, line.ended)
 
 
 def check_starts(e):
@@ -396,8 +249,9 @@ def main():
     check_small_sets(engine)
     check_grids(engine)
     check_lifelines(engine)
-    print(f"boundary, Python: {checks} checks, {failures} failed")
-    return failures != 0
+    check_histories(engine)
+    print(f"boundary, Python: {boundary.checks} checks, {boundary.failures} failed")
+    return boundary.failures != 0
 
 
 if __name__ == "__main__":
