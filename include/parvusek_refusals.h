@@ -18,7 +18,7 @@ static inline const char *parvusek_refusal_sentence(uint32_t number) {
     case 4: return "mark or zero bytes wrong";
     case 5: return "a field outside its limits";
     case 6: return "age outside 20 to 150";
-    case 7: return "year after 2130, or before B (before F for an improvement)";
+    case 7: return "year after 2130, or before B (before both F and B + 1 for an improvement)";
     case 8: return "age + deferment above 150";
     case 9: return "an improvement needed is beyond \302\261500,000,000";
     case 10: return "a factor needed is above 4 \303\227 U";

@@ -31,7 +31,7 @@ impl Refusal {
             4 => "mark or zero bytes wrong",
             5 => "a field outside its limits",
             6 => "age outside 20 to 150",
-            7 => "year after 2130, or before B (before F for an improvement)",
+            7 => "year after 2130, or before B (before both F and B + 1 for an improvement)",
             8 => "age + deferment above 150",
             9 => "an improvement needed is beyond ±500,000,000",
             10 => "a factor needed is above 4 × U",
