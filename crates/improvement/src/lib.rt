@@ -85,7 +85,7 @@ pub fn is_usable(improvement: i64) -> bool
     -500_000_000 <= improvement && improvement <= 500_000_000
 }
 
-// The same with refusal 9.
+// The improvement at an age in a year up to 2130 that has one, with refusal 9.
 pub fn improvement_needed(run: &[u8], history: &[u8], age: u32, year: u32) -> SignedAnswer
     requires { ⌜ AcceptedWith (now run) (now history) × (20 ≤ age) × (age ≤ 150) × (firstYear (basisWith (now run) (now history)) ≤ year) × (year ≤ 2130) ⌝ }
     ensures { λ r. ⌜ signedMeaning r ≡ improvementNeeded age year (improvementOf (basisWith (now (run .entry)) (now (history .entry))) age year) ⌝ }
