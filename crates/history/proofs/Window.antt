@@ -5,12 +5,11 @@ use mathlib.Core.List.{List}
 use Prim.Native.Nat.{ℕ, zero, suc, _+_, _*_, _<_, _≤_}
 use native.Mathlib.Nat.{suc-mul}
 use native.Mathlib.Omega.{arith}
-use lib.ListN.{length, take, drop, getD}
+use lib.ListN.{length, take, drop}
 use lib.Seq.{getD-take, getD-drop}
 use lib.IntN.{ℤ, pos}
-use Rattle.little_endian.specs.Bytes.{byteAt, u16At, u32At, i32At, signed32}
-use Rattle.basis.specs.declared.Check.{Check}
-use Rattle.basis.specs.declared.Check.the-variants.{Passed, Refused}
+use Rattle.little_endian.specs.Bytes.{byteAt, u32At, signed32}
+use Rattle.basis.specs.declared.Check.the-variants.{Refused}
 use Rattle.basis.specs.declared.Refusal.{Refusal}
 use Rattle.basis.specs.Outcome.{refusal}
 use Rattle.field_check.specs.declared.Number.{Number}

@@ -83,7 +83,8 @@ historyCheck b history =
 unfoldable pub basisCheck : List ℕ → List ℕ → Check
 basisCheck run history = firstOf (runCheck run) (historyCheck (basisOf run) history)
 
--- what none of these refuse: an accepted data run, the length of its history, and the limits
+-- what a data run and a history have that none of these refuses, as far as the work asks for it: the run's own acceptance, the
+-- history's length, and the limits of its improvements
 pub record AcceptedWith (run history : List ℕ) : Type 0 where
   pub basis : Accepted run
   pub size : length history ≡ lengthNeeded (basisOf run)

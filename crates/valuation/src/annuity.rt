@@ -2,7 +2,7 @@
 ghost use mathlib.Core.Path.{_≡_};
 ghost use Prim.Native.Nat.{_+_, _≤_};
 ghost use lib.IntN.{pos};
-ghost use Rattle.basis.specs.Basis.{basisOf, accumulationOf, Accepted};
+ghost use Rattle.basis.specs.Basis.{basisOf, Accepted};
 ghost use Rattle.basis.specs.Outcome.{meaning, value};
 ghost use Rattle.history.specs.History.{basisWith, AcceptedWith};
 ghost use Rattle.survivorship.specs.Survivorship.{survivorsOf};

@@ -1,6 +1,5 @@
 -- The length is the definition's, and the nine blocks are those of its check.
 use mathlib.Core.Path.{sym, _∙_}
-use native.Mathlib.Omega.{arith}
 use borrow.Author.Needs.{needs}
 use Rattle.basis_file.proofs.Files.{wrong-size, right-size}
 use Rattle.basis_file.proofs.read.check_outer.Statement.{statement}

@@ -1,5 +1,5 @@
 -- The opening is by the two cases of the check.
-use mathlib.Core.Path.{_≡_, refl, ap, sym, _∙_}
+use mathlib.Core.Path.{refl, ap, sym, _∙_}
 use mathlib.Core.List.{[]}
 use Rattle.reply_text.proofs.Puts.{being}
 use Rattle.enquiry_lines.specs.Output.{printed}
