@@ -12,7 +12,7 @@ use Rattle.field_check.specs.declared.Field.{Field}
 use Rattle.field_check.specs.Field.{widthOf, fieldCheck, fieldsCheck}
 use Rattle.block.specs.Blocks.{partsOf}
 use Rattle.history.specs.History.{movedTo, yearlyFields}
-use Rattle.history.specs.Inner.Part.{pairCheck}
+use Rattle.history.specs.Inner.Part.{partCheck}
 use Rattle.history.proofs.Window.{part-field}
 
 module _ (s : List ℕ) (first second : Field) where
@@ -65,12 +65,13 @@ module _ (s : List ℕ) (first second : Field) where
       rw e (each-year n k (at + 1012) (omega arith) (p .2))
 
 -- the same with the year's two blocks as they lie in the file; the years that are looked at begin at `after`
-pub year-turn : (history : List ℕ) (first second : Field) (n k after : ℕ) (r rest : Check)
+pub year-turn : (history : List ℕ) (first second : Field) (n k after : ℕ) {younger older r rest next : Check}
     → length history ≡ 1024 * n → k < n → after ≡ k + 1
     → first .4 + first .5 * widthOf (first .1) ≤ 506 → second .4 + second .5 * widthOf (second .1) ≤ 506
-    → r ≡ pairCheck history k first second
-    → rest ≡ fieldsCheck (partsOf (2 * n) history) (yearlyFields first second (1012 * after) (n - after))
-    → firstOf r rest ≡ fieldsCheck (partsOf (2 * n) history) (yearlyFields first second (1012 * k) (n - k))
-year-turn history first second n k after r rest l h e fits room er es =
-    rw (er, es, e, part-field (2 * n) (2 * k) history first (omega arith) (omega arith) fits, part-field (2 * n) (2 * k + 1) history second (omega arith) (omega arith) room)
-    (year-before (partsOf (2 * n) history) first second n k h)
+    → younger ≡ partCheck history (2 * k) first → older ≡ partCheck history (2 * k + 1) second → r ≡ firstOf younger older
+    → rest ≡ fieldsCheck (partsOf (2 * n) history) (yearlyFields first second (1012 * after) (n - after)) → next ≡ firstOf r rest
+    → next ≡ fieldsCheck (partsOf (2 * n) history) (yearlyFields first second (1012 * k) (n - k))
+year-turn history first second n k after l h e fits room ey eo er es en =
+    let young = ey ∙ part-field (2 * n) (2 * k) history first (omega arith) (omega arith) fits in
+    let old = eo ∙ part-field (2 * n) (2 * k + 1) history second (omega arith) (omega arith) room in
+    en ∙ rw (er, es, e, young, old) (year-before (partsOf (2 * n) history) first second n k h)

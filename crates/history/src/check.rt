@@ -5,8 +5,8 @@ ghost use lib.ListN.{length};
 ghost use Rattle.basis.specs.Basis.{basisOf, Accepted};
 ghost use Rattle.field_check.specs.Field.{widthOf, fieldsCheck};
 ghost use Rattle.block.specs.Blocks.{partsOf};
-ghost use Rattle.history.specs.History.{actualYears, improvements, zeros, historyFields, historyCheck, basisCheck};
-ghost use Rattle.history.specs.Inner.Part.{partCheck, pairCheck};
+ghost use Rattle.history.specs.History.{actualYears, historyFields, historyCheck, basisCheck};
+ghost use Rattle.history.specs.Inner.Part.{partCheck};
 use basis::Check;
 use basis::Refusal;
 use field_check::Field;
@@ -42,34 +42,6 @@ fn check_part(history: &[u8], b: usize, f: Field) -> Check
     }
 }
 
-// The remaining data of a year's two blocks (4).
-fn check_zeros(history: &[u8], k: usize) -> Check
-    requires { ⌜ (k < 88) × (1024 * k + 1024 ≤ length (now history)) ⌝ }
-    ensures { λ r. ⌜ r ≡ pairCheck (now (history .entry)) k (zeros 264 242) (zeros 260 246) ⌝ }
-{
-    let younger = check_part(history, 2 * k, Field(4, Number::Byte, 0, 0, 264, 242));
-    let older = check_part(history, 2 * k + 1, Field(4, Number::Byte, 0, 0, 260, 246));
-    basis::first_of(younger, older)
-}
-
-// A year's improvements (5).
-fn check_improvements(history: &[u8], k: usize) -> Check
-    requires { ⌜ (k < 88) × (1024 * k + 1024 ≤ length (now history)) ⌝ }
-    ensures { λ r. ⌜ r ≡ pairCheck (now (history .entry)) k (improvements 66) (improvements 65) ⌝ }
-{
-    let younger = check_part(
-        history,
-        2 * k,
-        Field(5, Number::SignedWord, -500_000_000, 500_000_000, 0, 66),
-    );
-    let older = check_part(
-        history,
-        2 * k + 1,
-        Field(5, Number::SignedWord, -500_000_000, 500_000_000, 0, 65),
-    );
-    basis::first_of(younger, older)
-}
-
 // Every 4, then every 5. The years go backwards, so that the first refusal of each kind is the one that is left. As in the
 // check of a run the fields stand in the calls, so that the compiler knows their limits.
 fn check_fields(history: &[u8], years: usize) -> Check
@@ -81,8 +53,21 @@ fn check_fields(history: &[u8], years: usize) -> Check
     let mut k = years;
     while 0 < k {
         k -= 1;
-        fours = basis::first_of(check_zeros(history, k), fours);
-        fives = basis::first_of(check_improvements(history, k), fives);
+        let b = 2 * k;
+        let zeros = check_part(history, b, Field(4, Number::Byte, 0, 0, 264, 242));
+        let more_zeros = check_part(history, b + 1, Field(4, Number::Byte, 0, 0, 260, 246));
+        let younger = check_part(
+            history,
+            b,
+            Field(5, Number::SignedWord, -500_000_000, 500_000_000, 0, 66),
+        );
+        let older = check_part(
+            history,
+            b + 1,
+            Field(5, Number::SignedWord, -500_000_000, 500_000_000, 0, 65),
+        );
+        fours = basis::first_of(basis::first_of(zeros, more_zeros), fours);
+        fives = basis::first_of(basis::first_of(younger, older), fives);
     }
     basis::first_of(fours, fives)
 }

@@ -4,7 +4,7 @@ use mathlib.Core.List.{List}
 use lib.ListN.{take, drop}
 use Rattle.basis.specs.declared.Check.{Check}
 use Rattle.basis.specs.declared.Check.the-variants.{Passed, Refused}
-use Rattle.basis.specs.Outcome.{refusal, firstOf}
+use Rattle.basis.specs.Outcome.{refusal}
 use Rattle.field_check.specs.declared.Field.{Field}
 use Rattle.field_check.specs.Field.{fieldCheck}
 
@@ -16,7 +16,3 @@ countedFrom from (Refused r) = Refused (refusal (r .number) (from + r .first) (r
 -- a field in the data of a block
 abbrev pub partCheck : List ℕ → ℕ → Field → Check
 partCheck history b f = countedFrom (506 * b) (fieldCheck (take 506 (drop (512 * b + 2) history)) f)
-
--- one in the first block of a year and one in the second
-abbrev pub pairCheck : List ℕ → ℕ → Field → Field → Check
-pairCheck history k first second = firstOf (partCheck history (2 * k) first) (partCheck history (2 * k + 1) second)

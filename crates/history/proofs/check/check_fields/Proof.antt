@@ -35,17 +35,38 @@ loop-holds c =
 sub-k : tie.Need-sub-k Inv-loop μ-loop
 sub-k c = omega arith
 
-check-zeros-requires : tie.Need-check-zeros-requires Inv-loop μ-loop
-check-zeros-requires c κs = (omega arith, omega arith)
+mul-b : tie.Need-mul-b Inv-loop μ-loop
+mul-b c = omega arith
+
+check-part-requires : tie.Need-check-part-requires Inv-loop μ-loop
+check-part-requires c κs = omega arith
+
+add-check-part : tie.Need-add-check-part Inv-loop μ-loop
+add-check-part c = omega arith
+
+check-part-requires-2 : tie.Need-check-part-requires-2 Inv-loop μ-loop
+check-part-requires-2 c κs = omega arith
+
+check-part-requires-3 : tie.Need-check-part-requires-3 Inv-loop μ-loop
+check-part-requires-3 c κs = omega arith
+
+add-check-part-2 : tie.Need-add-check-part-2 Inv-loop μ-loop
+add-check-part-2 c = omega arith
+
+check-part-requires-4 : tie.Need-check-part-requires-4 Inv-loop μ-loop
+check-part-requires-4 c κs = omega arith
 
 first-of-requires : tie.Need-first-of-requires Inv-loop μ-loop
 first-of-requires c κs = search needs
 
-check-improvements-requires : tie.Need-check-improvements-requires Inv-loop μ-loop
-check-improvements-requires c κs = (omega arith, omega arith)
-
 first-of-requires-2 : tie.Need-first-of-requires-2 Inv-loop μ-loop
 first-of-requires-2 c κs = search needs
+
+first-of-requires-3 : tie.Need-first-of-requires-3 Inv-loop μ-loop
+first-of-requires-3 c κs = search needs
+
+first-of-requires-4 : tie.Need-first-of-requires-4 Inv-loop μ-loop
+first-of-requires-4 c κs = search needs
 
 loop-less : tie.Need-loop-less Inv-loop μ-loop
 loop-less c = omega arith
@@ -55,20 +76,25 @@ loop-again c =
     let five = c .before in
     let fours = five .before in
     let four = fours .before in
-    let l = four .before .before in
+    let older = four .before in
+    let younger = older .before in
+    let more-zeros = younger .before in
+    let first-zeros = more-zeros .before in
+    let l = first-zeros .before .before in
     let s = l .before .before in
     let a = s .args in
-    let h = a .history .now in
     let k = l .loop .k - 1 in
-    let fours-turn = year-turn h (zeros 264 242) (zeros 260 246) (a .years) k (l .loop .k) _ _ (s .pre .0) in
-    let fives-turn = year-turn h (improvements 66) (improvements 65) (a .years) k (l .loop .k) _ _ (s .pre .0) in (
+    let turn-4 = year-turn (a .history .now) (zeros 264 242) (zeros 260 246) (a .years) k (l .loop .k) in
+    let turn-5 = year-turn (a .history .now) (improvements 66) (improvements 65) (a .years) k (l .loop .k) in (
       omega arith,
-      fours .first-of .ensures ∙ fours-turn (omega arith) (omega arith) (omega arith) (omega arith) (four .check-zeros .ensures) (l .loop .inv .1),
-      c .first-of2 .ensures ∙ fives-turn (omega arith) (omega arith) (omega arith) (omega arith) (five .check-improvements .ensures) (l .loop .inv .2),
+      turn-4 (s .pre .0) (omega arith) (omega arith) (omega arith) (omega arith) (first-zeros .check-part .ensures) (more-zeros .check-part2 .ensures)
+          (four .first-of .ensures) (l .loop .inv .1) (fours .first-of2 .ensures),
+      turn-5 (s .pre .0) (omega arith) (omega arith) (omega arith) (omega arith) (younger .check-part3 .ensures) (older .check-part4 .ensures)
+          (five .first-of3 .ensures) (l .loop .inv .2) (c .first-of4 .ensures),
     )
 
-first-of-requires-3 : tie.Need-first-of-requires-3 Inv-loop μ-loop
-first-of-requires-3 c κs = search needs
+first-of-requires-5 : tie.Need-first-of-requires-5 Inv-loop μ-loop
+first-of-requires-5 c κs = search needs
 
 returns : tie.Need-returns Inv-loop μ-loop
 returns c =
@@ -76,7 +102,7 @@ returns c =
     let a = l .before .before .args in
     let done : l .loop .k ≡ 0 = omega arith in
     let all : a .years - 0 ≡ a .years = omega arith in
-    c .first-of3 .ensures ∙ first-same (rw (done, all) at (l .loop .inv .1)) (rw (done, all) at (l .loop .inv .2)) ∙ sym (fields-parts _ _)
+    c .first-of5 .ensures ∙ first-same (rw (done, all) at (l .loop .inv .1)) (rw (done, all) at (l .loop .inv .2)) ∙ sym (fields-parts _ _)
 
 pub check-fields-spec : {M : Type 1} → statement M
 check-fields-spec =
@@ -86,11 +112,18 @@ check-fields-spec =
     μ-loop
     loop-holds
     sub-k
-    check-zeros-requires
+    mul-b
+    check-part-requires
+    add-check-part
+    check-part-requires-2
+    check-part-requires-3
+    add-check-part-2
+    check-part-requires-4
     first-of-requires
-    check-improvements-requires
     first-of-requires-2
+    first-of-requires-3
+    first-of-requires-4
     loop-less
     loop-again
-    first-of-requires-3
+    first-of-requires-5
     returns)
