@@ -80,116 +80,37 @@ pub mod raw {
             out: *mut u8,
             out_len: usize,
         ) -> Refusal;
-        pub fn parvusek_improvement(
-            run: *const u8,
-            run_len: usize,
-            history: *const u8,
-            history_len: usize,
-            age: u32,
-            year: u32,
-        ) -> SignedAnswer;
-        pub fn parvusek_factor(
-            run: *const u8,
-            run_len: usize,
-            history: *const u8,
-            history_len: usize,
-            age: u32,
-            year: u32,
-        ) -> Answer;
-        pub fn parvusek_rate(
-            run: *const u8,
-            run_len: usize,
-            history: *const u8,
-            history_len: usize,
-            age: u32,
-            year: u32,
-        ) -> Answer;
-        pub fn parvusek_period_survivorship(
-            run: *const u8,
-            run_len: usize,
-            history: *const u8,
-            history_len: usize,
-            age: u32,
-            deferment: u32,
-            year: u32,
-        ) -> Answer;
-        pub fn parvusek_cohort_survivorship(
-            run: *const u8,
-            run_len: usize,
-            history: *const u8,
-            history_len: usize,
-            age: u32,
-            deferment: u32,
-            year: u32,
-        ) -> Answer;
-        pub fn parvusek_period_expectation(
-            run: *const u8,
-            run_len: usize,
-            history: *const u8,
-            history_len: usize,
-            age: u32,
-            deferment: u32,
-            year: u32,
-        ) -> Answer;
-        pub fn parvusek_cohort_expectation(
-            run: *const u8,
-            run_len: usize,
-            history: *const u8,
-            history_len: usize,
-            age: u32,
-            deferment: u32,
-            year: u32,
-        ) -> Answer;
-        pub fn parvusek_period_annuity(
-            run: *const u8,
-            run_len: usize,
-            history: *const u8,
-            history_len: usize,
-            age: u32,
-            deferment: u32,
-            year: u32,
-        ) -> Answer;
-        pub fn parvusek_cohort_annuity(
-            run: *const u8,
-            run_len: usize,
-            history: *const u8,
-            history_len: usize,
-            age: u32,
-            deferment: u32,
-            year: u32,
-        ) -> Answer;
-        pub fn parvusek_small_set(
-            run: *const u8,
-            run_len: usize,
-            history: *const u8,
-            history_len: usize,
-            questions: Questions,
-        ) -> SmallSet;
-        pub fn parvusek_grid(
-            run: *const u8,
-            run_len: usize,
-            history: *const u8,
-            history_len: usize,
-            points: *mut Record,
-            count: usize,
-        ) -> Refusal;
-        pub fn parvusek_lifeline_start(
-            run: *const u8,
-            run_len: usize,
-            history: *const u8,
-            history_len: usize,
-            age: u32,
-            year: u32,
-        ) -> Lifeline;
-        pub fn parvusek_lifeline_step(
-            run: *const u8,
-            run_len: usize,
-            history: *const u8,
-            history_len: usize,
-            age: u32,
-            year: u32,
-            survivors: u64,
-        ) -> Lifeline;
+    }
+
+    /// Declares calls that are lent a data run and its history, which the header has before their other arguments.
+    macro_rules! lent_a_history {
+        ($(fn $name:ident($($more:ident: $of:ty),*) -> $answer:ty;)*) => {
+            unsafe extern "C" {
+                $(pub fn $name(
+                    run: *const u8,
+                    run_len: usize,
+                    history: *const u8,
+                    history_len: usize,
+                    $($more: $of),*
+                ) -> $answer;)*
+            }
+        };
+    }
+
+    lent_a_history! {
+        fn parvusek_improvement(age: u32, year: u32) -> SignedAnswer;
+        fn parvusek_factor(age: u32, year: u32) -> Answer;
+        fn parvusek_rate(age: u32, year: u32) -> Answer;
+        fn parvusek_period_survivorship(age: u32, deferment: u32, year: u32) -> Answer;
+        fn parvusek_cohort_survivorship(age: u32, deferment: u32, year: u32) -> Answer;
+        fn parvusek_period_expectation(age: u32, deferment: u32, year: u32) -> Answer;
+        fn parvusek_cohort_expectation(age: u32, deferment: u32, year: u32) -> Answer;
+        fn parvusek_period_annuity(age: u32, deferment: u32, year: u32) -> Answer;
+        fn parvusek_cohort_annuity(age: u32, deferment: u32, year: u32) -> Answer;
+        fn parvusek_small_set(questions: Questions) -> SmallSet;
+        fn parvusek_grid(points: *mut Record, count: usize) -> Refusal;
+        fn parvusek_lifeline_start(age: u32, year: u32) -> Lifeline;
+        fn parvusek_lifeline_step(age: u32, year: u32, survivors: u64) -> Lifeline;
     }
 
     /// The six enquiries of one shape, by the header's order.

@@ -12,7 +12,7 @@ from parvusek import Basis, Refusal
 from parvusek.layout import ACTUAL_FILE, COLUMNS, FILES, SETTINGS, field_at
 from parvusek.tables import TableError, basis_of, explained, show
 
-from . import SAMPLE
+from . import SAMPLE, refused_tables
 
 
 class RoundTrip(unittest.TestCase):
@@ -73,13 +73,7 @@ class Messages(unittest.TestCase):
         shutil.copytree(SAMPLE / "tables", self.folder, dirs_exist_ok=True)
 
     def refused(self, file: str, old: str, new: str) -> str:
-        path = self.folder / file
-        text = path.read_text(encoding="utf-8")
-        self.assertIn(old, text)
-        path.write_text(text.replace(old, new, 1), encoding="utf-8")
-        with self.assertRaises(TableError) as caught:
-            basis_of(self.folder)
-        return str(caught.exception)
+        return refused_tables(self, self.folder / file, old, new)
 
     def test_a_field_outside_its_limits(self) -> None:
         self.assertEqual(
