@@ -120,11 +120,11 @@ within-share {f} {F} {a} m n hn m≤ hF =
 
 -- ---- the lesser of two
 -- a distance as two bounds: 2 v d ≤ 2 N + m d and 2 N ≤ 2 v d + m d
-pub record Bounds (v N : ℤ) (d m : ℕ) : Type 0 where
-  pub high : (pos (2 * d) *ℤ v) ≤ℤ (pos 2 *ℤ N +ℤ pos (m * d))
-  pub low : (pos 2 *ℤ N) ≤ℤ (pos (2 * d) *ℤ v +ℤ pos (m * d))
+record Bounds (v N : ℤ) (d m : ℕ) : Type 0 where
+  high : (pos (2 * d) *ℤ v) ≤ℤ (pos 2 *ℤ N +ℤ pos (m * d))
+  low : (pos 2 *ℤ N) ≤ℤ (pos (2 * d) *ℤ v +ℤ pos (m * d))
 
-pub to-bounds : (v N : ℤ) (d m : ℕ) → 2 * natAbs (v *ℤ pos d -ℤ N) ≤ m * d → Bounds v N d m
+to-bounds : (v N : ℤ) (d m : ℕ) → 2 * natAbs (v *ℤ pos d -ℤ N) ≤ m * d → Bounds v N d m
 to-bounds v N d m h =
     let h′ = abs*-⊖ _ _ 2 (m * d) (simp ring at (rw (parts v, parts N) at h)) in
     record {
