@@ -1,9 +1,9 @@
--- Weight and component (01, "The projection"). The exact model takes the same weight, and the component without its rounding.
+-- Weight and component (01, "The projection"; 02, change 3): fractions, of which the exact model takes the same.
 use Prim.Native.Nat.{ℕ, _*_, _-_}
 use mathlib.Core.Bool.{cond}
 use lib.Dec.{ltb}
 use lib.IntN.{ℤ, pos, _+ℤ_, _-ℤ_, _*ℤ_}
-use Rattle.arithmetic.specs.Fraction.{Fraction, _over_, whole, _*ᶠ_, round}
+use Rattle.arithmetic.specs.Fraction.{Fraction, _over_, whole, _+ᶠ_, _*ᶠ_}
 use Rattle.basis.specs.declared.Convergence.{Convergence}
 
 -- 100T + (8P − 200)n
@@ -14,9 +14,9 @@ slopeOf T P n = pos (100 * T) +ℤ (pos (8 * P) -ℤ pos 200) *ℤ pos n
 abbrev pub weightOf : ℕ → ℕ → ℕ → Fraction
 weightOf T P n = cond (ltb n T) ((pos ((T - n) * (T - n)) *ℤ slopeOf T P n) over (100 * (T * T * T))) (whole (pos 0))
 
--- Component: L + round((I − L) × weight)
-unfoldable pub componentOf : Convergence → ℕ → ℤ
-componentOf c n = c .long +ℤ round (whole (c .initial -ℤ c .long) *ᶠ weightOf (c .period) (c .remaining) n)
+-- Component: L + (I − L) × weight, not rounded; its divisor is that of the weight, 100T³ before T and 1 from T on
+unfoldable pub componentOf : Convergence → ℕ → Fraction
+componentOf c n = whole (c .long) +ᶠ whole (c .initial -ℤ c .long) *ᶠ weightOf (c .period) (c .remaining) n
 
 -- the terms I, L, T and P
 abbrev pub terms : ℤ → ℤ → ℕ → ℕ → Convergence

@@ -1,9 +1,12 @@
-// The component of an improvement: how an initial rate gives way to a long-term rate over the years since F.
+// The component of an improvement: how an initial rate gives way to a long-term rate over the years since F. It is given exactly, by
+// its whole part and its remainder over its divisor.
 ghost use mathlib.Core.Path.{_≡_};
 ghost use Prim.Native.Nat.{_*_, _≤_};
 ghost use lib.IntN.{pos, natAbs, _-ℤ_, _*ℤ_};
 ghost use Rattle.basis.specs.Basis.{ConvergenceLimits};
+ghost use Rattle.arithmetic.specs.MixedNumbers.{mixedOf};
 ghost use Rattle.component.specs.Component.{slopeOf, componentOf, terms};
+use arithmetic::Mixed;
 use basis::Convergence;
 
 // I − L
@@ -23,7 +26,7 @@ fn slope(period: u64, remaining: u64, years: u64) -> i64
     (up as i64) - (down as i64)
 }
 
-// (I − L) (T − n)² (100T + (8P − 200)n), the dividend of the rounding
+// (I − L) (T − n)² (100T + (8P − 200)n), the dividend over 100T³
 fn weighted(excess: i64, left: u64, slope: i64) -> i64
     requires { ⌜ (natAbs excess ≤ 400_000_000) × (left ≤ 50) × (natAbs slope ≤ 55_000) ⌝ }
     ensures { λ r. ⌜ r ≡ excess *ℤ (pos (left * left) *ℤ slope) ⌝ }
@@ -31,29 +34,40 @@ fn weighted(excess: i64, left: u64, slope: i64) -> i64
     excess * (((left * left) as i64) * slope)
 }
 
-// The component by its four terms.
-fn converging(initial: i32, long: i32, period: u8, remaining: u8, years: u32) -> i64
+// The component by its four terms. L is whole, so that only what is above it is divided.
+fn converging(initial: i32, long: i32, period: u8, remaining: u8, years: u32) -> Mixed
     requires { ⌜ ConvergenceLimits (terms initial long period remaining) ⌝ }
-    ensures { λ r. ⌜ r ≡ componentOf (terms initial long period remaining) years ⌝ }
+    ensures { λ r. ⌜ r ≡ mixedOf (componentOf (terms initial long period remaining) years) ⌝ }
 {
     let span = period as u64;
     let past = years as u64;
     if past < span {
+        let divisor = 100 * (span * span * span);
         let dividend = weighted(
             excess(initial, long),
             span - past,
             slope(span, remaining as u64, past),
         );
-        arithmetic::wide(long) + arithmetic::round_div(dividend, 100 * (span * span * span))
+        let share = arithmetic::divide(dividend, divisor);
+        let whole = arithmetic::wide(long) + share.whole;
+        Mixed {
+            whole: whole,
+            remainder: share.remainder,
+            divisor: divisor,
+        }
     } else {
-        arithmetic::wide(long)
+        Mixed {
+            whole: arithmetic::wide(long),
+            remainder: 0,
+            divisor: 1,
+        }
     }
 }
 
 // The component of terms within their limits, a number of years after F.
-pub fn component(terms: Convergence, years: u32) -> i64
+pub fn component(terms: Convergence, years: u32) -> Mixed
     requires { ⌜ ConvergenceLimits terms ⌝ }
-    ensures { λ r. ⌜ r ≡ componentOf terms years ⌝ }
+    ensures { λ r. ⌜ r ≡ mixedOf (componentOf terms years) ⌝ }
 {
     converging(
         terms.initial,

@@ -1,23 +1,27 @@
--- Before T the code works out the definition's dividend and divisor, which fit; from T on both give L.
-use mathlib.Core.Path.{_≡_, _∙_, sym}
-use Prim.Native.Nat.{ℕ, _*_, _-_, _≤_, _<_}
+-- Before T the code divides the definition's dividend by its divisor, and both fit; from T on both give L and no remainder.
+use mathlib.Core.Path.{_≡_, _∙_, ap, sym}
+use Prim.Native.Nat.{_*_, _-_, _≤_, _<_}
 use native.Mathlib.Omega.{arith}
-use native.Mathlib.Nat.{mul-pos}
 use lib.IntN.{ℤ, pos, natAbs, _+ℤ_, _-ℤ_, _*ℤ_}
 use mir.Syntax.{w64}
 use mir.Val.{toZ, ofZ, SFits}
 use mir.Facts.{toZ-ofZ}
 use borrow.Author.Needs.{needs}
-use Rattle.arithmetic.specs.Round.{roundDiv}
+use Rattle.arithmetic.specs.Round.{floorDiv}
+use Rattle.arithmetic.specs.Fraction.{_over_}
+use Rattle.arithmetic.specs.MixedNumbers.{mixedOf}
+use Rattle.arithmetic.specs.declared.Mixed.{Mixed}
 use Rattle.arithmetic.proofs.Difference.{natAbs-add}
-use Rattle.arithmetic.proofs.Rounding.{round-abs}
-use Rattle.arithmetic.proofs.Machine.{sfits-abs, abs-fits, got}
+use Rattle.arithmetic.proofs.Rounding.{floor-abs}
+use Rattle.arithmetic.proofs.Machine.{sfits-abs, back, got}
+use Rattle.arithmetic.proofs.Remainders.{mixed}
 use Rattle.component.specs.Component.{slopeOf}
-use Rattle.component.proofs.Size.{excess-abs, slope-abs, square, cube, most, weighted-abs, component-before, component-after}
+use Rattle.component.proofs.Size.{excess-abs, slope-abs, square, cube, divisor, divisor-proper, most, weighted-abs}
+use Rattle.component.proofs.Parts.{component-before, component-after}
 use Rattle.component.proofs.converging.Statement.{statement}
 use Rattle.component.proofs.converging.Tie as tie
 
--- the definition's dividend and divisor, at the place where the code has them
+-- the definition's dividend, at the place where the code has it
 module _ (s : tie.Start) where
   slope-at : ℤ
   slope-at = slopeOf (s .args .period) (s .args .remaining) (s .args .years)
@@ -27,9 +31,6 @@ module _ (s : tie.Start) where
       let a = s .args in
       let left = a .period - a .years in
       (a .initial -ℤ a .long) *ℤ (pos (left * left) *ℤ slopeOf (a .period) (a .remaining) (a .years))
-
-  divisor : ℕ
-  divisor = let T = s .args .period in 100 * (T * T * T)
 
   excess-small : natAbs (s .args .initial -ℤ s .args .long) ≤ 400_000_000
   excess-small = excess-abs (s .args .initial) (s .args .long) (s .pre .initial) (s .pre .long)
@@ -44,13 +45,10 @@ module _ (s : tie.Start) where
       let a = s .args in
       weighted-abs (a .initial -ℤ a .long) (a .period - a .years) slope-at excess-small (omega (arith, s .pre .period-high)) (slope-small l)
 
-  sum-fits : s .args .years < s .args .period → SFits w64 (s .args .long +ℤ roundDiv dividend divisor)
-  unfolding divisor
+  sum-fits : s .args .years < s .args .period → SFits w64 (s .args .long +ℤ floorDiv dividend (divisor (s .args .period)))
   sum-fits l =
       let a = s .args in
-      let sum = natAbs-add (a .long) (roundDiv dividend divisor) in
-      let rounded = round-abs dividend divisor in
-      sfits-abs (omega (arith, sum, rounded, dividend-small l, cube (a .period) (s .pre .period-high), abs-fits (s .fits .long)))
+      sfits-abs (omega (arith, natAbs-add (a .long) (floorDiv dividend (divisor (s .args .period))), floor-abs dividend (divisor (s .args .period)), dividend-small l, s .pre .long))
 
 -- what the calls gave, read back
 excess-is : (c : tie.After-excess) → let a = c .before .before .args in toZ w64 (ofZ w64 (c .excess .result)) ≡ a .initial -ℤ a .long
@@ -66,13 +64,30 @@ dividend-is : (c : tie.After-weighted) → toZ w64 (ofZ w64 (c .weighted .result
 unfolding dividend slope-at
 dividend-is c = got w64 (c .weighted .ok) (rw (excess-is (c .before .before), slope-is (c .before)) at (c .weighted .ensures))
 
-long-is : (c : tie.After-round-div) → toZ w64 (ofZ w64 (c .before .wide .result)) ≡ c .before .before .before .before .before .before .args .long
-long-is c = got w64 (c .before .wide .ok) (c .before .wide .ensures ∙ toZ-ofZ (c .before .before .before .before .before .before .fits .long))
+share-is : (c : tie.After-divide) → let s = c .before .before .before .before .before in
+    c .divide .result ≡ mixedOf (dividend s over divisor (s .args .period))
+share-is c = rw (dividend-is (c .before)) at (c .divide .ensures)
 
-rounded-is : (c : tie.After-round-div) → let s = c .before .before .before .before .before .before in
-    toZ w64 (ofZ w64 (c .round-div .result)) ≡ roundDiv (dividend s) (divisor s)
-unfolding divisor
-rounded-is c = got w64 (c .round-div .ok) (rw (dividend-is (c .before .before)) at (c .round-div .ensures))
+-- the whole part before it is built in
+long-is : (c : tie.After-struct-told) → toZ w64 (ofZ w64 (c .before .before .wide .result)) ≡ c .before .before .before .before .before .before .before .before .args .long
+long-is c =
+    let w = c .before .before in
+    got w64 (w .wide .ok) (w .wide .ensures ∙ toZ-ofZ (w .before .before .before .before .before .before .fits .long))
+
+quotient-is : (c : tie.After-struct-told) → let s = c .before .before .before .before .before .before .before .before in
+    toZ w64 (ofZ w64 (c .before .before .before .divide .result .whole)) ≡ floorDiv (dividend s) (divisor (s .args .period))
+quotient-is c =
+    let d = c .before .before .before in
+    back w64 (d .divide .result .whole) (c .struct-told .given .0 .1) ∙ ap (λ (m : Mixed). m .whole) (share-is d)
+
+mul-divisor : tie.Need-mul-divisor
+mul-divisor c = let s = c .before in record { fits = omega (arith, square (s .args .period) (s .pre .period-high)) }
+
+mul-divisor-2 : tie.Need-mul-divisor-2
+mul-divisor-2 c = let s = c .before in record { fits = omega (arith, cube (s .args .period) (s .pre .period-high)) }
+
+mul-divisor-3 : tie.Need-mul-divisor-3
+mul-divisor-3 c = let s = c .before in record { fits = omega (arith, cube (s .args .period) (s .pre .period-high)) }
 
 excess-requires : tie.Need-excess-requires
 excess-requires c κs = search needs
@@ -88,63 +103,53 @@ weighted-requires c κs =
     let s = c .before .before .before in
     rw (excess-is (c .before), slope-is c) (excess-small s, omega arith, slope-small s (omega arith))
 
+divide-requires : tie.Need-divide-requires
+divide-requires c κs = let s = c .before .before .before .before in divisor-proper (s .args .period) (s .pre .period-low)
+
 wide-requires : tie.Need-wide-requires
 wide-requires c κs = search needs
 
-mul-round-div : tie.Need-mul-round-div
-mul-round-div c = let s = c .before .before .before .before .before in omega (arith, square (s .args .period) (s .pre .period-high))
-
-mul-round-div-2 : tie.Need-mul-round-div-2
-mul-round-div-2 c = let s = c .before .before .before .before .before in omega (arith, cube (s .args .period) (s .pre .period-high))
-
-mul-round-div-3 : tie.Need-mul-round-div-3
-mul-round-div-3 c = let s = c .before .before .before .before .before in omega (arith, cube (s .args .period) (s .pre .period-high))
-
-round-div-requires : tie.Need-round-div-requires
-round-div-requires c κs =
-    let s = c .before .before .before .before .before in
-    let T = s .args .period in
-    let h : 0 < T = omega arith in
-    let small = dividend-small s (omega arith) in
-    rw (dividend-is (c .before)) (omega (arith, mul-pos (mul-pos h h) h), omega (arith, small, cube T (s .pre .period-high)))
-
-add-result : tie.Need-add-result
-add-result c =
-    let s = c .before .before .before .before .before .before in
-    rw (long-is c, rounded-is c) (sum-fits s (omega arith))
+add-whole : tie.Need-add-whole
+add-whole c =
+    let s = c .before .before .before .before .before .before .before .before in
+    rw (long-is c, quotient-is c) (sum-fits s (omega arith))
 
 wide-requires-2 : tie.Need-wide-requires-2
 wide-requires-2 c κs = search needs
 
 returns : tie.Need-returns
-unfolding dividend divisor
+unfolding dividend
 returns c =
-    let s = c .before .before .before .before .before .before in
+    let d = c .before .before .before in
+    let s = d .before .before .before .before .before in
     let a = s .args in
-    let before = component-before (a .initial) (a .long) (a .period) (a .remaining) (a .years) (omega arith) in
-    rw (long-is c, rounded-is c) (toZ-ofZ (sum-fits s (omega arith)) ∙ sym before)
+    let q = floorDiv (dividend s) (divisor (s .args .period)) in
+    let whole : toZ w64 (ofZ w64 (toZ w64 (ofZ w64 (c .before .before .wide .result)) +ℤ toZ w64 (ofZ w64 (d .divide .result .whole)))) ≡ a .long +ℤ q = rw (long-is c, quotient-is c) (toZ-ofZ (sum-fits s (omega arith))) in
+    ap (λ (z : ℤ). mixed z (d .divide .result .remainder) (divisor (s .args .period))) whole
+    ∙ ap (λ (m : Mixed). mixed (a .long +ℤ q) (m .remainder) (divisor (s .args .period))) (share-is d)
+    ∙ sym (component-before (a .initial) (a .long) (a .period) (a .remaining) (a .years) (omega arith))
 
 returns-2 : tie.Need-returns-2
 returns-2 c =
     let s = c .before .before in
     let a = s .args in
-    got w64 (c .wide2 .ok) (c .wide2 .ensures ∙ toZ-ofZ (s .fits .long))
+    ap (λ (z : ℤ). mixed z 0 1) (got w64 (c .wide2 .ok) (c .wide2 .ensures ∙ toZ-ofZ (s .fits .long)))
     ∙ sym (component-after (a .initial) (a .long) (a .period) (a .remaining) (a .years) (omega arith))
 
 pub converging-spec : {M : Type 1} → statement M
 converging-spec =
     tie.close
     (tie.spec
+    mul-divisor
+    mul-divisor-2
+    mul-divisor-3
     excess-requires
     sub-weighted
     slope-requires
     weighted-requires
+    divide-requires
     wide-requires
-    mul-round-div
-    mul-round-div-2
-    mul-round-div-3
-    round-div-requires
-    add-result
+    add-whole
     wide-requires-2
     returns
     returns-2)
