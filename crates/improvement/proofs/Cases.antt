@@ -1,7 +1,7 @@
 -- The definitions of the improvement case by case: actual and projected, before and after F, within and beyond ±500,000,000. Assumes
 -- nothing.
 use mathlib.Core.Path.{_≡_, _∙_, sym, refl}
-use mathlib.Core.Bool.{Bool, true, false, _&&_}
+use mathlib.Core.Bool.{Bool, true, false, cond, _&&_}
 use mathlib.Core.List.{List}
 use Prim.Native.Nat.{ℕ, suc, _+_, _-_, _≤_, _<_}
 use native.Mathlib.Decide.{decLt}
@@ -10,12 +10,13 @@ use lib.Dec.{ltb, leb}
 use lib.IntN.{ℤ, pos, negsuc, natAbs, _+ℤ_}
 use lib.Signed.{leZ}
 use borrow.Author.Tests.{lt-ltb, le-ltb, leb-true, leb-false, le-leb, lt-leb}
+use Rattle.arithmetic.specs.Fraction.{_over_, _+ᶠ_, round}
 use Rattle.basis.specs.Basis.{Basis, basisOf, ConvergenceLimits}
 use Rattle.history.specs.History.{actualOf, basisWith, AcceptedWith}
 use Rattle.basis.specs.Outcome.{value, refused, refusal}
 use Rattle.basis.specs.declared.Convergence.{Convergence}
 use Rattle.component.specs.Component.{componentOf}
-use Rattle.improvement.specs.Improvement.{additionOf, projectedOf, isActual, improvementOf, firstYear, usable, improvementNeeded}
+use Rattle.improvement.specs.Improvement.{additionOf, componentsOf, projectedOf, isActual, improvementOf, firstYear, usable, improvementNeeded}
 
 -- ---- the addition and the improvement
 pub addition-after : (b : Basis) (year : ℕ) → b .foundation < year → additionOf b year ≡ b .addition
@@ -31,8 +32,8 @@ limits-of e h = rw e h
 
 pub projected-is : (b : Basis) (age year : ℕ) {attained birth : Convergence} {foundation : ℕ} {addition : ℤ} →
     attained ≡ b .byAge age → birth ≡ b .byBirthYear (year - age) → foundation ≡ b .foundation → addition ≡ additionOf b year →
-    componentOf attained (year - foundation) +ℤ componentOf birth (year - foundation) +ℤ addition ≡ projectedOf b age year
-unfolding projectedOf
+    round (componentOf attained (year - foundation) +ᶠ componentOf birth (year - foundation)) +ℤ addition ≡ projectedOf b age year
+unfolding projectedOf componentsOf
 projected-is b age year e g h k = rw (e, g, h, k) refl
 
 -- ---- the first year that has an improvement
@@ -57,6 +58,14 @@ first-early b = by (decLt (b .base) (b .foundation))
     by (yes l) = rw (first-before b l) (omega arith)
     by (no l) = rw (first-from b (omega arith)) (omega arith)
 
+-- no earlier than 1992 where neither F nor B is
+pub first-late : (b : Basis) → 1992 ≤ b .foundation → 1992 ≤ b .base → 1992 ≤ firstYear b
+first-late b h k = by (decLt (b .base) (b .foundation))
+  where
+    by : Dec (b .base < b .foundation) → 1992 ≤ firstYear b
+    by (yes l) = rw (first-before b l) (omega arith)
+    by (no l) = rw (first-from b (omega arith)) (omega arith)
+
 -- ---- actual and projected years
 with-false : (t : Bool) → (t && false) ≡ false
 with-false true = refl
@@ -64,7 +73,7 @@ with-false false = refl
 
 -- the projection does not look at the history
 pub projected-with : (run history : List ℕ) (age year : ℕ) → projectedOf (basisOf run) age year ≡ projectedOf (basisWith run history) age year
-unfolding projectedOf additionOf
+unfolding projectedOf componentsOf additionOf
 projected-with run history age year = refl
 
 module _ (b : Basis) (year : ℕ) where
@@ -123,6 +132,10 @@ pub usable-low : (i : ℤ) → leZ (negsuc 499_999_999) i ≡ false → leZ (neg
 usable-low (pos n) h = let z : _≡_ {A = ℕ} 0 1 = cc in absurd (omega arith)
 usable-low (negsuc n) h = h ∙ sym (lt-leb (suc n) 500_000_000 (omega (arith, leb-false n 499_999_999 h)))
 
+-- its edges: an exact 500,000,000.4 stands, −500,000,000.5 goes up and stands, 500,000,000.5 goes up and beyond
+pub edges : (usable (round (pos 2_500_000_002 over 5)) ≡ true) × (usable (round (negsuc 1_000_000_000 over 2)) ≡ true) × (usable (round (pos 1_000_000_001 over 2)) ≡ false)
+edges = (refl, refl, refl)
+
 pub usable-abs : (i : ℤ) → usable i ≡ true → natAbs i ≤ 500_000_000
 usable-abs i h = leb-true (natAbs i) 500_000_000 h
 
@@ -134,6 +147,15 @@ module _ (age year : ℕ) (i : ℤ) where
   pub needed-beyond : usable i ≡ false → improvementNeeded age year i ≡ refused (refusal 9 age year)
   unfolding improvementNeeded
   needed-beyond h = rw h refl
+
+  -- one that is not refused is the improvement itself
+  pub needed-value : (v : ℤ) → improvementNeeded age year i ≡ value v → i ≡ v
+  unfolding improvementNeeded
+  needed-value v h = by (usable i) h
+    where
+      by : (s : Bool) → cond s (value i) (refused (refusal 9 age year)) ≡ value v → i ≡ v
+      by true k = cc
+      by false k = let z : _≡_ {A = ℕ} 0 1 = cc in absurd (omega arith)
 
 -- an actual improvement of an accepted history is never refused by 9
 pub actual-answered : (run history : List ℕ) (age year : ℕ) → AcceptedWith run history → 20 ≤ age → age ≤ 150 → basisOf run .base < year → year ≤ basisOf run .foundation

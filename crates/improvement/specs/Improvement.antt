@@ -1,8 +1,9 @@
--- Improvement (01, "The projection"; 02, change 2), with refusal 9.
+-- Improvement (01, "The projection"; 02, changes 2 and 3), with refusal 9.
 use Prim.Native.Nat.{ℕ, _+_, _-_}
 use mathlib.Core.Bool.{Bool, cond, _&&_}
 use lib.Dec.{ltb, leb}
 use lib.IntN.{ℤ, pos, natAbs, _+ℤ_}
+use Rattle.arithmetic.specs.Fraction.{Fraction, _+ᶠ_, round}
 use Rattle.basis.specs.Outcome.{Outcome, value, refused, refusal}
 use Rattle.basis.specs.Basis.{Basis}
 use Rattle.component.specs.Component.{componentOf}
@@ -12,10 +13,14 @@ use Rattle.component.specs.Component.{componentOf}
 unfoldable pub additionOf : Basis → ℕ → ℤ
 additionOf b year = cond (ltb (b .foundation) year) (b .addition) (pos 0)
 
--- the two components added, plus the constant addition; the birth year is the calendar year less the age
+-- the two components' exact sum; the birth year is the calendar year less the age
+unfoldable pub componentsOf : Basis → ℕ → ℕ → Fraction
+componentsOf b age year =
+    componentOf (b .byAge age) (year - b .foundation) +ᶠ componentOf (b .byBirthYear (year - age)) (year - b .foundation)
+
+-- it is rounded once; plus the constant addition
 unfoldable pub projectedOf : Basis → ℕ → ℕ → ℤ
-projectedOf b age year =
-    componentOf (b .byAge age) (year - b .foundation) +ℤ componentOf (b .byBirthYear (year - age)) (year - b .foundation) +ℤ additionOf b year
+projectedOf b age year = round (componentsOf b age year) +ℤ additionOf b year
 
 -- ---- Improvement
 -- where the base table is older than F, the years from B + 1 to F have actual improvements

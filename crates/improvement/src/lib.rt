@@ -1,8 +1,9 @@
-// The improvement at an age in a year: the history's in a year that has an actual one, otherwise two components and the constant
-// addition.
+// The improvement at an age in a year: the history's in a year that has an actual one, otherwise the sum of two components, rounded
+// once, and the constant addition.
 ghost use mathlib.Core.Path.{_≡_};
 ghost use Prim.Native.Nat.{_≤_};
 ghost use lib.IntN.{_+ℤ_};
+ghost use Rattle.arithmetic.specs.Fraction.{_+ᶠ_, round};
 ghost use Rattle.basis.specs.Basis.{basisOf, Accepted, ConvergenceLimits};
 ghost use Rattle.history.specs.History.{basisWith, AcceptedWith};
 ghost use Rattle.basis.specs.Outcome.{signedMeaning};
@@ -24,14 +25,16 @@ fn addition_in(run: &[u8], year: u32) -> i32
     }
 }
 
-// The component by attained age, the component by birth year and an addition, a number of years after F.
+// The component by attained age and the component by birth year, added and rounded once, and an addition, a number of years after F.
 fn improvement_from(attained: Convergence, birth: Convergence, years: u32, addition: i32) -> i64
     requires { ⌜ ConvergenceLimits attained × ConvergenceLimits birth ⌝ }
-    ensures { λ r. ⌜ r ≡ componentOf attained years +ℤ componentOf birth years +ℤ addition ⌝ }
+    ensures { λ r. ⌜ r ≡ round (componentOf attained years +ᶠ componentOf birth years) +ℤ addition ⌝ }
 {
-    component::component(attained, years)
-        + component::component(birth, years)
-        + arithmetic::wide(addition)
+    let rounded = arithmetic::round_sum(
+        component::component(attained, years),
+        component::component(birth, years),
+    );
+    rounded + arithmetic::wide(addition)
 }
 
 // The projection's improvement at an age, whose terms the caller has read, in a year from F to 2130.

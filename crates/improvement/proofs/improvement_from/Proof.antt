@@ -1,53 +1,64 @@
--- A component lies far within 64 bits, so the sums are the integers' own.
-use mathlib.Core.Path.{_≡_, _∙_}
+-- A component's parts give the component back, and the rounded sum lies far within 64 bits, so that the sum with the addition is the
+-- integers' own.
+use mathlib.Core.Path.{_≡_, _∙_, ap}
 use native.Mathlib.Omega.{arith}
 use lib.IntN.{ℤ, _+ℤ_}
 use mir.Syntax.{w64}
 use mir.Val.{SFits, toZ, ofZ}
 use mir.Facts.{toZ-ofZ}
 use borrow.Author.Needs.{needs}
+use Rattle.arithmetic.specs.Fraction.{Fraction, _+ᶠ_, round}
+use Rattle.arithmetic.specs.MixedNumbers.{mixedOf, fractionOf}
+use Rattle.arithmetic.specs.declared.Mixed.{Mixed}
 use Rattle.arithmetic.proofs.Difference.{natAbs-add}
 use Rattle.arithmetic.proofs.Machine.{got, sfits-abs, abs-fits}
+use Rattle.arithmetic.proofs.Remainders.{fraction-of-parts, sum-abs}
 use Rattle.component.specs.Component.{componentOf}
-use Rattle.component.proofs.Size.{component-abs}
+use Rattle.component.proofs.Parts.{SmallParts, component-proper, component-small}
 use Rattle.improvement.proofs.improvement_from.Statement.{statement}
 use Rattle.improvement.proofs.improvement_from.Tie as tie
 
--- the two components, and that the sums fit
+-- the two components, their rounded sum, and that it fits with the addition
 module _ (s : tie.Start) where
-  by-age : ℤ
+  by-age : Fraction
   by-age = componentOf (s .args .attained) (s .args .years)
 
-  by-birth : ℤ
+  by-birth : Fraction
   by-birth = componentOf (s .args .birth) (s .args .years)
 
-  two-fit : SFits w64 (by-age +ℤ by-birth)
-  unfolding by-age by-birth
-  two-fit =
-      let a = s .args in
-      let n = component-abs (a .attained) (a .years) (s .pre .0) in
-      let m = component-abs (a .birth) (a .years) (s .pre .1) in
-      sfits-abs (omega (arith, natAbs-add by-age by-birth, n, m))
+  rounded : ℤ
+  rounded = round (by-age +ᶠ by-birth)
 
-  all-fit : SFits w64 (by-age +ℤ by-birth +ℤ s .args .addition)
-  unfolding by-age by-birth
+  all-fit : SFits w64 (rounded +ℤ s .args .addition)
+  unfolding by-age by-birth rounded
   all-fit =
       let a = s .args in
-      let n = component-abs (a .attained) (a .years) (s .pre .0) in
-      let m = component-abs (a .birth) (a .years) (s .pre .1) in
-      sfits-abs (omega (arith, natAbs-add (by-age +ℤ by-birth) (a .addition), natAbs-add by-age by-birth, abs-fits (s .fits .addition), n, m))
+      let age = component-small (a .attained) (a .years) (s .pre .0) in
+      let birth = component-small (a .birth) (a .years) (s .pre .1) in
+      let sum = sum-abs by-age by-birth (component-proper (a .attained) (a .years) (s .pre .0 .period-low)) (component-proper (a .birth) (a .years) (s .pre .1 .period-low)) in
+      sfits-abs (omega (arith, natAbs-add rounded (a .addition), abs-fits (s .fits .addition), sum, age .whole, birth .whole))
 
--- what the calls gave
-age-is : (c : tie.After-component2) → toZ w64 (ofZ w64 (c .before .component .result)) ≡ by-age (c .before .before)
-unfolding by-age
-age-is c = got w64 (c .before .component .ok) (c .before .component .ensures)
+-- the parts that a call gave are small, and are those of the fraction
+small-of : {m n : Mixed} → m ≡ n → SmallParts n → SmallParts m
+small-of e h = rw e h
 
-birth-is : (c : tie.After-component2) → toZ w64 (ofZ w64 (c .component2 .result)) ≡ by-birth (c .before .before)
-unfolding by-birth
-birth-is c = got w64 (c .component2 .ok) (c .component2 .ensures)
+sum-of : {m n : Mixed} {p q : Fraction} → m ≡ mixedOf p → n ≡ mixedOf q → fractionOf (mixedOf p) ≡ p → fractionOf (mixedOf q) ≡ q →
+    round (fractionOf m +ᶠ fractionOf n) ≡ round (p +ᶠ q)
+sum-of {p = p} {q = q} e f h k =
+    rw (e, f)
+    (ap (λ (x : Fraction). round (x +ᶠ fractionOf (mixedOf q))) h ∙ ap (λ (x : Fraction). round (p +ᶠ x)) k)
 
-addition-is : (c : tie.After-wide) → toZ w64 (ofZ w64 (c .wide .result)) ≡ c .before .before .before .args .addition
-addition-is c = got w64 (c .wide .ok) (c .wide .ensures ∙ toZ-ofZ (c .before .before .before .fits .addition))
+sum-is : (c : tie.After-round-sum) → toZ w64 (ofZ w64 (c .round-sum .result)) ≡ rounded (c .before .before .before)
+unfolding by-age by-birth rounded
+sum-is c =
+    let s = c .before .before .before in
+    let a = s .args in
+    let age = fraction-of-parts (by-age s) (component-proper (a .attained) (a .years) (s .pre .0 .period-low)) in
+    let birth = fraction-of-parts (by-birth s) (component-proper (a .birth) (a .years) (s .pre .1 .period-low)) in
+    got w64 (c .round-sum .ok) (c .round-sum .ensures ∙ sum-of (c .before .before .component .ensures) (c .before .component2 .ensures) age birth)
+
+addition-is : (c : tie.After-wide) → toZ w64 (ofZ w64 (c .wide .result)) ≡ c .before .before .before .before .args .addition
+addition-is c = got w64 (c .wide .ok) (c .wide .ensures ∙ toZ-ofZ (c .before .before .before .before .fits .addition))
 
 component-requires : tie.Need-component-requires
 component-requires c κs = search needs
@@ -55,26 +66,37 @@ component-requires c κs = search needs
 component-requires-2 : tie.Need-component-requires-2
 component-requires-2 c κs = search needs
 
-add-result : tie.Need-add-result
-add-result c = rw (age-is c, birth-is c) (two-fit (c .before .before))
+round-sum-requires : tie.Need-round-sum-requires
+round-sum-requires c κs =
+    let s = c .before .before in
+    let a = s .args in
+    let age = small-of (c .before .component .ensures) (component-small (a .attained) (a .years) (s .pre .0)) in
+    let birth = small-of (c .component2 .ensures) (component-small (a .birth) (a .years) (s .pre .1)) in (
+      age .remainder,
+      omega (arith, age .divisor),
+      omega (arith, age .whole),
+      birth .remainder,
+      omega (arith, birth .divisor),
+      omega (arith, birth .whole),
+    )
 
 wide-requires : tie.Need-wide-requires
 wide-requires c κs = search needs
 
-add-result-2 : tie.Need-add-result-2
-add-result-2 c =
-    let d = c .before in
-    let s = d .before .before in
-    rw (age-is d, birth-is d, toZ-ofZ (two-fit s), addition-is c) (all-fit s)
+add-result : tie.Need-add-result
+add-result c = rw (sum-is (c .before), addition-is c) (all-fit (c .before .before .before .before))
 
 returns : tie.Need-returns
-unfolding by-age by-birth
-returns c =
-    let d = c .before in
-    let s = d .before .before in
-    rw (age-is d, birth-is d, toZ-ofZ (two-fit s), addition-is c) (toZ-ofZ (all-fit s))
+unfolding by-age by-birth rounded
+returns c = rw (sum-is (c .before), addition-is c) (toZ-ofZ (all-fit (c .before .before .before .before)))
 
 pub improvement-from-spec : {M : Type 1} → statement M
 improvement-from-spec =
     tie.close
-    (tie.spec component-requires component-requires-2 add-result wide-requires add-result-2 returns)
+    (tie.spec
+    component-requires
+    component-requires-2
+    round-sum-requires
+    wide-requires
+    add-result
+    returns)
