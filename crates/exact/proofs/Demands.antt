@@ -3,7 +3,6 @@
 use mathlib.Core.Path.{_≡_}
 use mathlib.Core.List.{List}
 use Prim.Native.Nat.{ℕ, _+_, _*_, _-_, _≤_}
-use native.Mathlib.Nat.{one-mul}
 use native.Mathlib.Omega.{arith}
 use lib.IntN.{ℤ}
 use Rattle.arithmetic.proofs.Distance.{within-more}
@@ -12,19 +11,22 @@ use Rattle.history.specs.History.{basisWith, basisCheck}
 use Rattle.history.proofs.With.{limits-with}
 use Rattle.basis.specs.Outcome.{value, firstOf}
 use Rattle.basis.proofs.Outcome.{checked-value}
+use Rattle.improvement.specs.Improvement.{firstYear, improvementOf, improvementNeeded}
+use Rattle.improvement.proofs.Cases.{first-late, needed-value}
 use Rattle.projection.specs.Projection.{factorOf, rateOf}
 use Rattle.survivorship.specs.Survivorship.{yearOn, survivorsOf}
 use Rattle.survivorship.specs.declared.Kind.{Kind}
 use Rattle.valuation.specs.Valuation.{expectationOf, annuityOf}
 use Rattle.question.specs.Question.{cellCheck}
-use Rattle.enquiry.specs.Enquiry.{valuationCheck, factorEnquiry, rateEnquiry, survivorshipEnquiry, expectationEnquiry, annuityEnquiry}
+use Rattle.enquiry.specs.Enquiry.{valuationCheck, improvementEnquiry, factorEnquiry, rateEnquiry, survivorshipEnquiry, expectationEnquiry, annuityEnquiry}
 use Rattle.enquiry.proofs.Passed.{cell-passed, valuation-passed}
 use Rattle.exact.specs.Model.{yearsTo, exactAnnuity}
 use Rattle.exact.specs.Distance.{ImprovingOver, largestYears, WithinQuarters, Demand3}
+use Rattle.exact.proofs.Improvement.{improvement-within}
 use Rattle.exact.proofs.Factor.{factor-within, rate-within}
 use Rattle.exact.proofs.Survivors.{survived}
 use Rattle.exact.proofs.Discount.{Discounted, discounted, discounted-below-zero}
-use Rattle.exact.proofs.Values.{expectation-within, annuity-within}
+use Rattle.exact.proofs.Values.{quarters-more, expectation-within, annuity-within}
 use Rattle.exact.proofs.Largest.{largest-most}
 
 -- an answered annuity, w times the distances
@@ -33,7 +35,7 @@ annuity-answered : (run history : List ℕ) (w : ℕ) → 1 ≤ w → (Limited (
     let N = 150 - age in
     let K = largestYears (basisWith run history) kind year N in
     ImprovingOver (basisWith run history) kind age year N →
-    WithinQuarters a (exactAnnuity (basisWith run history) kind age year deferment) (w * ((N + 1) * (3 * N * (K + 1) + 2)))
+    WithinQuarters a (exactAnnuity (basisWith run history) kind age year deferment) (w * ((N + 1) * (N * (2 * K + 3) + 2)))
 unfolding annuityEnquiry
 annuity-answered run history w once worth kind age deferment year a answered improving =
     let b = basisWith run history in
@@ -44,18 +46,27 @@ annuity-answered run history w once worth kind age deferment year a answered imp
     (largest-most (λ j. yearsTo b (yearOn kind year j)) N) w once (worth (limits-with (p .0))) a (h .1)
 
 pub demand-3 : (run history : List ℕ) → Demand3 run history
-unfolding factorEnquiry rateEnquiry survivorshipEnquiry expectationEnquiry
+unfolding improvementEnquiry factorEnquiry rateEnquiry survivorshipEnquiry expectationEnquiry
 demand-3 run history =
     let b = basisWith run history in
     record {
+      improvement = λ age year i answered.
+          let h = checked-value (firstOf (basisCheck run history) (cellCheck (firstYear b) age year)) (improvementNeeded age year (improvementOf b age year)) i answered in
+          let p = cell-passed run history (firstYear b) age year (h .0) in
+          let limits = limits-with (p .0) in
+          let first = first-late b (limits .foundation-low) (limits .base-low) in
+          let byAge = limits .byAge age (p .1) (p .2) in
+          let byBirthYear = limits .byBirthYear (year - age) (omega (arith, first, p .2, p .3)) (omega (arith, p .1, p .4)) in
+          let near = improvement-within b age year (byAge .period-low) (byBirthYear .period-low) in
+          rw (← needed-value age year (improvementOf b age year) i (h .1)) (within-more near (omega arith));
       factor = λ age year f answered improving.
           let h = checked-value (firstOf (basisCheck run history) (cellCheck (b .base) age year)) (factorOf b age year) f answered in
           let p = cell-passed run history (b .base) age year (h .0) in
-          factor-within b age year (limits-with (p .0)) (p .1) (p .2) improving f (h .1);
+          within-more (factor-within b age year (limits-with (p .0)) (p .1) (p .2) improving f (h .1)) (omega arith);
       rate = λ age year q answered improving.
           let h = checked-value (firstOf (basisCheck run history) (cellCheck (b .base) age year)) (rateOf b age year) q answered in
           let p = cell-passed run history (b .base) age year (h .0) in
-          rate-within b age year (limits-with (p .0)) (p .1) (p .2) improving q (h .1);
+          within-more (rate-within b age year (limits-with (p .0)) (p .1) (p .2) improving q (h .1)) (omega arith);
       survivorship = λ kind age n year s answered improving.
           let h = checked-value (valuationCheck run history age n year) (survivorsOf b kind age year n) s answered in
           let p = valuation-passed run history age n year (h .0) in
@@ -65,10 +76,12 @@ demand-3 run history =
           let h = checked-value (valuationCheck run history age deferment year) (expectationOf b kind age year deferment) e answered in
           let p = valuation-passed run history age deferment year (h .0) in
           let N = 150 - age - deferment in
-          expectation-within b kind age year deferment (largestYears b kind (year + deferment) N) (limits-with (p .0)) (p .1) (p .2) improving
-          (largest-most (λ j. yearsTo b (yearOn kind (year + deferment) j)) N) e (h .1);
+          quarters-more
+          (expectation-within b kind age year deferment (largestYears b kind (year + deferment) N) (limits-with (p .0)) (p .1) (p .2) improving
+          (largest-most (λ j. yearsTo b (yearOn kind (year + deferment) j)) N) e (h .1))
+          (omega arith);
       annuity = λ sign kind age deferment year a answered improving.
-          rw one-mul at (annuity-answered run history 1 (omega arith) (λ limits. discounted b limits sign) kind age deferment year a answered improving);
+          quarters-more (annuity-answered run history 1 (omega arith) (λ limits. discounted b limits sign) kind age deferment year a answered improving) (omega arith);
       annuityBelowZero = λ sign kind age deferment year a answered improving.
-          annuity-answered run history 4 (omega arith) (λ limits. discounted-below-zero b limits sign) kind age deferment year a answered improving;
+          quarters-more (annuity-answered run history 4 (omega arith) (λ limits. discounted-below-zero b limits sign) kind age deferment year a answered improving) (omega arith);
     }

@@ -1,5 +1,5 @@
--- Factor 2d ≤ 3k and rate 2d ≤ 3k + 1: a year's improvement is within one of the exact one, which adds two halves and one for the
--- rounding; the rate adds its own. Assumes nothing.
+-- Factor 2d ≤ 2k and rate 2d ≤ 2k + 1: a year's improvement is within one half of the exact one, and its rounding adds another; the
+-- rate adds its own. Assumes nothing.
 use mathlib.Core.Path.{_≡_}
 use Prim.Native.Nat.{ℕ, suc, _+_, _*_, _-_, _≤_}
 use native.Mathlib.Omega.{arith}
@@ -21,7 +21,7 @@ use Rattle.exact.proofs.Improvement.{improvement-within, improvement-na
 
 -- what is known of a factor k years after B
 abbrev Factored : Basis → ℕ → ℕ → ℤ → Type 0
-Factored b age k f = Chained 2 k f (exactFactorAfter b age k)
+Factored b age k f = Chained 1 k f (exactFactorAfter b age k)
 
 -- one year more, with a usable improvement whose exact one is not below zero
 module _ (b : Basis) (age k : ℕ) (f : ℤ) (byAge : ConvergenceLimits (b .byAge age)) (byBirthYear : ConvergenceLimits (b .byBirthYear (b .base + 1 + k - age)))
@@ -39,7 +39,7 @@ module _ (b : Basis) (age year : ℕ) (limits : Limited b) (low : 20 ≤ age) (h
   factored : (f : ℤ) → factorOf b age year ≡ value f → Factored b age (yearsTo b year) f
   unfolding factorOf exactFactorAfter
   factored f h =
-      along (factorStep b age) (pos U) (Factored b age) (yearsTo b year) (chained-first 2)
+      along (factorStep b age) (pos U) (Factored b age) (yearsTo b year) (chained-first 1)
       (λ k a g less c q.
       let t = b .base + 1 + k in
       let y = year-value age t (improvementOf b age t) a g q in
@@ -50,13 +50,13 @@ module _ (b : Basis) (age year : ℕ) (limits : Limited b) (low : 20 ≤ age) (h
       (improving t (omega arith) (omega arith)) (usable-abs (improvementOf b age t) (y .0)) c))
       f h
 
-  -- factor: 2d ≤ 3k
-  pub factor-within : (f : ℤ) → factorOf b age year ≡ value f → Within f (exactFactor b age year) (3 * yearsTo b year)
+  -- factor: 2d ≤ 2k
+  pub factor-within : (f : ℤ) → factorOf b age year ≡ value f → Within f (exactFactor b age year) (2 * yearsTo b year)
   unfolding exactFactor
   factor-within f h = within-more (factored f h .near) (omega arith)
 
-  -- rate: 2d ≤ 3k + 1
-  pub rate-within : (q : ℤ) → rateOf b age year ≡ value q → Within q (exactRate b age year) (3 * yearsTo b year + 1)
+  -- rate: 2d ≤ 2k + 1
+  pub rate-within : (q : ℤ) → rateOf b age year ≡ value q → Within q (exactRate b age year) (2 * yearsTo b year + 1)
   unfolding rateOf exactRate exactFactor
   rate-within q h =
       let w = came (factorOf b age year) (λ f. value (rateFrom b age f)) q h in

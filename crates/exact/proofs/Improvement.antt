@@ -1,64 +1,43 @@
--- A component is at most one half from the exact one, an improvement at most one; and an improvement is not below zero where the
--- exact one is not, being whole and above it less one. Assumes nothing.
+-- An improvement is at most one half from the exact one, and not below zero where the exact one is not. Assumes nothing.
 use mathlib.Core.Path.{_≡_, _∙_}
 use mathlib.Core.Bool.{Bool, true, false, cond}
 use Prim.Native.Nat.{ℕ, _*_, _-_, _≤_, _<_}
 use native.Mathlib.Omega.{arith}
 use native.Mathlib.Nat.{mul-le-mul-right, mul-pos}
-use lib.Dec.{ltb}
 use lib.IntN.{ℤ, pos, natAbs, _-ℤ_, _*ℤ_}
 use lib.Signed.{_≤ℤ_}
-use Rattle.arithmetic.specs.Fraction.{Fraction, Within, whole, _*ᶠ_, U}
+use Rattle.arithmetic.specs.Fraction.{Fraction, Within, whole, U}
 use Rattle.arithmetic.proofs.Difference.{_⊖_, parts, ring, up, dn, ⊖-eq, ⊖-abs, abs-⊖, ≤-⊖}
+use Rattle.arithmetic.proofs.Rounding.{round-natural}
 use Rattle.arithmetic.proofs.Distance.{within-whole, within-more, within-round, within-sum}
-use Rattle.arithmetic.proofs.Above.{Above, above-round, above-sum, sum-above, above-natural}
 use Rattle.arithmetic.proofs.UnitRange.{InUnit}
 use Rattle.basis.specs.Basis.{Basis}
-use Rattle.basis.specs.declared.Convergence.{Convergence}
-use Rattle.component.specs.Component.{weightOf, componentOf}
-use Rattle.improvement.specs.Improvement.{additionOf, projectedOf, isActual, improvementOf}
-use Rattle.exact.specs.Model.{exactComponent, exactProjected, exactImprovement}
+use Rattle.component.proofs.Parts.{component-proper}
+use Rattle.improvement.specs.Improvement.{additionOf, componentsOf, projectedOf, isActual, improvementOf}
+use Rattle.exact.specs.Model.{exactProjected, exactImprovement}
 use Rattle.exact.specs.Distance.{NotBelowZero}
-
--- ---- the component
-weight-proper : (T P n : ℕ) → 1 ≤ T → 0 < (weightOf T P n) .den
-weight-proper T P n h = by (ltb n T) _ _ (omega (arith, mul-pos (mul-pos h h) h)) (omega arith)
-  where
-    by : (t : Bool) (p q : Fraction) → 0 < p .den → 0 < q .den → 0 < (cond t p q) .den
-    by true p q h k = h
-    by false p q h k = k
-
-module _ (c : Convergence) (n : ℕ) (h : 1 ≤ c .period) where
-  weighted-proper : 0 < (whole (c .initial -ℤ c .long) *ᶠ weightOf (c .period) (c .remaining) n) .den
-  weighted-proper = omega (arith, weight-proper (c .period) (c .remaining) n h)
-
-  pub component-within : Within (componentOf c n) (exactComponent c n) 1
-  unfolding componentOf exactComponent
-  component-within = within-sum (within-whole (c .long)) (within-round (whole (c .initial -ℤ c .long) *ᶠ weightOf (c .period) (c .remaining) n) weighted-proper)
-
-  component-above : Above (componentOf c n) (exactComponent c n) 1
-  unfolding componentOf exactComponent
-  component-above = sum-above (within-whole (c .long)) (above-round (whole (c .initial -ℤ c .long) *ᶠ weightOf (c .period) (c .remaining) n) weighted-proper)
 
 -- ---- the improvement: the projection's, and an actual one, which is exact
 module _ (b : Basis) (age year : ℕ) (h : 1 ≤ b .byAge age .period) (k : 1 ≤ b .byBirthYear (year - age) .period) where
-  projected-within : Within (projectedOf b age year) (exactProjected b age year) 2
-  unfolding projectedOf exactProjected
-  projected-within =
+  sum-proper : 0 < componentsOf b age year .den
+  unfolding componentsOf
+  sum-proper =
       let n = year - b .foundation in
-      within-sum (within-sum (component-within (b .byAge age) n h) (component-within (b .byBirthYear (year - age)) n k)) (within-whole (additionOf b year))
+      mul-pos (component-proper (b .byAge age) n h) (component-proper (b .byBirthYear (year - age)) n k)
 
-  projected-above : Above (projectedOf b age year) (exactProjected b age year) 2
+  projected-within : Within (projectedOf b age year) (exactProjected b age year) 1
   unfolding projectedOf exactProjected
-  projected-above =
-      let n = year - b .foundation in
-      above-sum (above-sum (component-above (b .byAge age) n h) (component-within (b .byBirthYear (year - age)) n k)) (within-whole (additionOf b year))
+  projected-within = within-sum (within-round (componentsOf b age year) sum-proper) (within-whole (additionOf b year))
 
-  pub improvement-within : Within (improvementOf b age year) (exactImprovement b age year) 2
+  projected-natural : NotBelowZero (exactProjected b age year) → pos 0 ≤ℤ projectedOf b age year
+  unfolding projectedOf exactProjected
+  projected-natural e = round-natural (componentsOf b age year) (additionOf b year) sum-proper e
+
+  pub improvement-within : Within (improvementOf b age year) (exactImprovement b age year) 1
   unfolding improvementOf exactImprovement
   improvement-within = by (isActual b year)
     where
-      by : (t : Bool) → Within (cond t (b .actual age year) (projectedOf b age year)) (cond t (whole (b .actual age year)) (exactProjected b age year)) 2
+      by : (t : Bool) → Within (cond t (b .actual age year) (projectedOf b age year)) (cond t (whole (b .actual age year)) (exactProjected b age year)) 1
       by true = within-more (within-whole (b .actual age year)) (omega arith)
       by false = projected-within
 
@@ -69,7 +48,7 @@ module _ (b : Basis) (age year : ℕ) (h : 1 ≤ b .byAge age .period) (k : 1 �
       by : (t : Bool) → NotBelowZero (cond t (whole (b .actual age year)) (exactProjected b age year))
           → pos 0 ≤ℤ cond t (b .actual age year) (projectedOf b age year)
       by true e = e
-      by false e = above-natural projected-above e
+      by false e = projected-natural e
 
 -- ---- what is left of U
 -- after a number from 0 to u
@@ -90,8 +69,8 @@ small i n d u v h less k =
     let l = mul-le-mul-right d (h′ .0) in
     omega arith
 
--- an exact improvement that is not below zero, and within one of a whole number below U, lies from 0 to U
-pub unit-near : (i : ℤ) (E : Fraction) → natAbs i < U → NotBelowZero E → Within i E 2 → InUnit E
+-- an exact improvement that is not below zero, and within one half of a whole number below U, lies from 0 to U
+pub unit-near : (i : ℤ) (E : Fraction) → natAbs i < U → NotBelowZero E → Within i E 1 → InUnit E
 unit-near i E h e k =
     let n = natural (E .num) e in
     let m : natAbs (i *ℤ pos (E .den) -ℤ pos (n .0)) ≤ E .den = rw (← n .1) (omega (arith, k .near)) in

@@ -1,4 +1,4 @@
--- Survivorship 2d ≤ n(3K + 2): each year multiplies by U less a rate within 3K + 1 halves of the exact one. Assumes nothing.
+-- Survivorship 2d ≤ 2n(K + 1): each year multiplies by U less a rate within 2K + 1 halves of the exact one. Assumes nothing.
 use mathlib.Core.Path.{_≡_}
 use Prim.Native.Nat.{ℕ, suc, _+_, _*_, _-_, _≤_, _<_}
 use native.Mathlib.Omega.{arith}
@@ -21,7 +21,7 @@ use Rattle.exact.proofs.Factor.{rate-within, rate-unit}
 
 -- what is known of the survivors after j years, for any K that is no less than the k of each rate used
 abbrev pub Survived : Basis → Kind → ℕ → ℕ → ℕ → ℕ → ℤ → Type 0
-Survived b kind age year K j s = Chained (3 * K + 1) j s (exactSurvivors b kind age year j)
+Survived b kind age year K j s = Chained (2 * K + 1) j s (exactSurvivors b kind age year j)
 
 module _ (b : Basis) (kind : Kind) (age year K n : ℕ) (limits : Limited b) (low : 20 ≤ age) (high : age + n ≤ 150)
     (improving : ImprovingOver b kind age year n) (most : (j : ℕ) → j < n → yearsTo b (yearOn kind year j) ≤ K) where
@@ -37,7 +37,7 @@ module _ (b : Basis) (kind : Kind) (age year K n : ℕ) (limits : Limited b) (lo
   pub survived : (s : ℤ) → survivorsOf b kind age year n ≡ value s → Survived b kind age year K n s
   unfolding survivorsOf survivorsAfterYear exactSurvivors
   survived s h =
-      along (survivorsStep b kind age year) (pos U) (Survived b kind age year K) n (chained-first (3 * K + 1))
+      along (survivorsStep b kind age year) (pos U) (Survived b kind age year K) n (chained-first (2 * K + 1))
       (λ j a g less c q.
       let w = came (rateOf b (age + j) (yearOn kind year j)) (λ r. value (survivorsNext a r)) g q in
       let e : survivorsNext a (w .0) ≡ g = cc in

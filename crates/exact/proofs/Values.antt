@@ -1,5 +1,5 @@
--- Expectation 4d ≤ N(N + 1)(3K + 2) and annuity 4d ≤ (N + 1)(3N(K + 1) + 2), four times that at a rate of discount below zero: the
--- distances of their terms, added. A term of the annuity is j halves from the discount, j(3K + 2) from the survivors and one from
+-- Expectation 4d ≤ 2N(N + 1)(K + 1) and annuity 4d ≤ (N + 1)(N(2K + 3) + 2), four times that at a rate of discount below zero: the
+-- distances of their terms, added. A term of the annuity is j halves from the discount, 2j(K + 1) from the survivors and one from
 -- its rounding, or at most four times each. Assumes nothing.
 use mathlib.Core.Path.{_≡_}
 use Prim.Native.Nat.{ℕ, zero, suc, _+_, _*_, _-_, _/_, _≤_, _<_}
@@ -24,6 +24,9 @@ use Rattle.exact.proofs.Discount.{Discounted}
 quarters : {v : ℤ} {q : Fraction} {m : ℕ} (r : ℕ) → Within v q m → 2 * m ≤ r → WithinQuarters v q r
 quarters {q = q} r h k = record { proper = h .proper; near = omega (arith, h .near, mul-le-mul-right (q .den) k) }
 
+pub quarters-more : {v : ℤ} {q : Fraction} {m n : ℕ} → WithinQuarters v q m → m ≤ n → WithinQuarters v q n
+quarters-more {q = q} h k = record { proper = h .proper; near = omega (arith, h .near, mul-le-mul-right (q .den) k) }
+
 -- a sum of outcomes is as far from the exact sum as its terms are together
 total-within : (term : ℕ → Outcome ℤ) (exact : ℕ → Fraction) (m : ℕ → ℕ) (n : ℕ) → ((k : ℕ) (t : ℤ) → k < n → term k ≡ value t → Within t (exact k) (m k)) →
     (total : ℤ) → sumOf term n ≡ value total → Within total (sumᶠ exact n) (sumℕ m n)
@@ -36,17 +39,17 @@ total-within term exact m n near total h =
     rw (← e) (total-next exact m k c (near k (w .0) l (w .1))))
     total h
 
--- ---- the expectation; j years of survivorship are j(3K + 2) halves
+-- ---- the expectation; j years of survivorship are 2j(K + 1) halves
 module _ (b : Basis) (kind : Kind) (age year deferment K : ℕ) (limits : Limited b) (low : 20 ≤ age) (high : age + deferment ≤ 150)
     (improving : ImprovingOver b kind (age + deferment) (year + deferment) (150 - age - deferment))
     (most : (j : ℕ) → j < 150 - age - deferment → yearsTo b (yearOn kind (year + deferment) j) ≤ K) where
   pub expectation-within : (a : ℤ) → expectationOf b kind age year deferment ≡ value a →
-      WithinQuarters a (exactExpectation b kind age year deferment) ((150 - age - deferment) * (150 - age - deferment + 1) * (3 * K + 2))
+      WithinQuarters a (exactExpectation b kind age year deferment) (2 * (150 - age - deferment) * (150 - age - deferment + 1) * (K + 1))
   unfolding expectationOf curtateOf exactExpectation
   expectation-within a h =
       let n = 150 - age - deferment in
       let from = age + deferment in let start = year + deferment in
-      let m : ℕ → ℕ = λ j. j * (3 * K + 2) + 0 in
+      let m : ℕ → ℕ = λ j. j * (2 * K + 2) + 0 in
       let w = came (sumOf (λ k. survivorsOf b kind from start (suc k)) n) (λ t. value (pos (U / 2) +ℤ t)) a h in
       let lives = total-within (λ k. survivorsOf b kind from start (suc k)) (λ k. exactSurvivors b kind from start (suc k)) (λ k. m (1 + k)) n
       (λ k t l q.
@@ -55,7 +58,7 @@ module _ (b : Basis) (kind : Kind) (age year deferment K : ℕ) (limits : Limite
       (omega arith))
       (w .0) (w .1) in
       let e : pos (U / 2) +ℤ w .0 ≡ a = cc in
-      quarters {m = 0 + sumℕ (λ k. m (1 + k)) n} _ (rw (← e) (within-sum (within-whole (pos (U / 2))) lives)) (omega (arith, rw one-more at (sum-tail m 1 n), sum-linear (3 * K + 2) 0 n))
+      quarters {m = 0 + sumℕ (λ k. m (1 + k)) n} _ (rw (← e) (within-sum (within-whole (pos (U / 2))) lives)) (omega (arith, rw one-more at (sum-tail m 1 n), sum-linear (2 * K + 2) 0 n))
     where
       one-more : 1 + (150 - age - deferment) ≡ suc (150 - age - deferment)
       one-more = omega arith
@@ -64,7 +67,7 @@ module _ (b : Basis) (kind : Kind) (age year deferment K : ℕ) (limits : Limite
 module _ (b : Basis) (kind : Kind) (age year deferment K : ℕ) (limits : Limited b) (low : 20 ≤ age) (high : age + deferment ≤ 150)
     (improving : ImprovingOver b kind age year (150 - age)) (most : (j : ℕ) → j < 150 - age → yearsTo b (yearOn kind year j) ≤ K)
     (w : ℕ) (once : 1 ≤ w) (worth : (j : ℕ) → j ≤ 130 → Discounted b w j) where
-  payment-within : (j : ℕ) (t : ℤ) → j ≤ 150 - age → paymentAfter b kind age year j ≡ value t → Within t (exactPayment b kind age year j) (j * (w * (3 * K + 3)) + w)
+  payment-within : (j : ℕ) (t : ℤ) → j ≤ 150 - age → paymentAfter b kind age year j ≡ value t → Within t (exactPayment b kind age year j) (j * (w * (2 * K + 3)) + w)
   unfolding paymentAfter exactPayment
   payment-within j t l h =
       let c = came (survivorsOf b kind age year j) (λ s. value (payment (discountAfter b j) s)) t h in
@@ -74,12 +77,12 @@ module _ (b : Basis) (kind : Kind) (age year deferment K : ℕ) (limits : Limite
       rw (← e) (within-more (within-product-times w U (omega arith) (v .near) (s .near) (v .size) (unit-abs (s .unit))) (omega arith))
 
   pub annuity-within : (a : ℤ) → annuityOf b kind age year deferment ≡ value a →
-      WithinQuarters a (exactAnnuity b kind age year deferment) (w * ((150 - age + 1) * (3 * (150 - age) * (K + 1) + 2)))
+      WithinQuarters a (exactAnnuity b kind age year deferment) (w * ((150 - age + 1) * ((150 - age) * (2 * K + 3) + 2)))
   unfolding annuityOf exactAnnuity
   annuity-within a h =
       let n = 150 - age - deferment in
-      let m : ℕ → ℕ = λ j. j * (w * (3 * K + 3)) + w in
+      let m : ℕ → ℕ = λ j. j * (w * (2 * K + 3)) + w in
       let paid = total-within (λ k. paymentAfter b kind age year (deferment + k)) (λ k. exactPayment b kind age year (deferment + k)) (λ k. m (deferment + k)) (suc n)
       (λ k t l q. payment-within (deferment + k) t (omega arith) q) a h in
       let e : deferment + suc n ≡ suc (150 - age) = omega arith in
-      quarters _ paid (omega (arith, rw e at (sum-tail m deferment (suc n)), sum-linear (w * (3 * K + 3)) w (150 - age)))
+      quarters _ paid (omega (arith, rw e at (sum-tail m deferment (suc n)), sum-linear (w * (2 * K + 3)) w (150 - age)))

@@ -1,4 +1,4 @@
--- The distances of demand 3 (01, "Distances from the exact model"): for every data run and history, of every enquiry that is answered.
+-- The distances of demand 3 (01, "Distances from the exact model"; 02, change 3): for every data run and history, of every enquiry that is answered.
 use mathlib.Core.Path.{_≡_}
 use mathlib.Core.Bool.{cond}
 use mathlib.Core.List.{List}
@@ -12,7 +12,7 @@ use Rattle.history.specs.History.{basisWith}
 use Rattle.basis.specs.Outcome.{value}
 use Rattle.projection.specs.Projection.{heldYear}
 use Rattle.survivorship.specs.Survivorship.{yearOn}
-use Rattle.enquiry.specs.Enquiry.{factorEnquiry, rateEnquiry, survivorshipEnquiry, expectationEnquiry, annuityEnquiry}
+use Rattle.enquiry.specs.Enquiry.{improvementEnquiry, factorEnquiry, rateEnquiry, survivorshipEnquiry, expectationEnquiry, annuityEnquiry}
 use Rattle.survivorship.specs.declared.Kind.{Kind}
 use Rattle.exact.specs.Model.{exactImprovement, yearsTo, exactFactor, exactRate, exactSurvivors, exactExpectation, exactAnnuity}
 
@@ -42,35 +42,37 @@ pub record WithinQuarters (v : ℤ) (q : Fraction) (m : ℕ) : Type 0 where
   pub proper : 0 < q .den
   pub near : 4 * natAbs (v *ℤ pos (q .den) -ℤ q .num) ≤ m * q .den
 
--- ---- Demand 3: where the engine answers, with no exact improvement taken below zero
+-- ---- Demand 3: where the engine answers; all but the first have the premise
 pub record Demand3 (run history : List ℕ) : Type 0 where
-  -- factor 2d ≤ 3k
+  -- improvement 2d ≤ 1, whatever the exact ones are
+  pub improvement : (age year : ℕ) (i : ℤ) → improvementEnquiry run history age year ≡ value i → Within i (exactImprovement (basisWith run history) age year) 1
+  -- factor 2d ≤ 2k
   pub factor : (age year : ℕ) (f : ℤ) → factorEnquiry run history age year ≡ value f → Improving (basisWith run history) age year →
-      Within f (exactFactor (basisWith run history) age year) (3 * yearsTo (basisWith run history) year)
-  -- rate 2d ≤ 3k + 1
+      Within f (exactFactor (basisWith run history) age year) (2 * yearsTo (basisWith run history) year)
+  -- rate 2d ≤ 2k + 1
   pub rate : (age year : ℕ) (q : ℤ) → rateEnquiry run history age year ≡ value q → Improving (basisWith run history) age year →
-      Within q (exactRate (basisWith run history) age year) (3 * yearsTo (basisWith run history) year + 1)
-  -- survivorship after n years 2d ≤ n(3K + 2)
+      Within q (exactRate (basisWith run history) age year) (2 * yearsTo (basisWith run history) year + 1)
+  -- survivorship after n years 2d ≤ 2n(K + 1)
   pub survivorship : (kind : Kind) (age n year : ℕ) (s : ℤ) → survivorshipEnquiry run history kind age n year ≡ value s → ImprovingOver (basisWith run history) kind age year n →
       let K = largestYears (basisWith run history) kind year n in
-      Within s (exactSurvivors (basisWith run history) kind age year n) (n * (3 * K + 2))
-  -- expectation 4d ≤ N(N + 1)(3K + 2), N = 150 − age − deferment
+      Within s (exactSurvivors (basisWith run history) kind age year n) (2 * n * (K + 1))
+  -- expectation 4d ≤ 2N(N + 1)(K + 1), N = 150 − age − deferment
   pub expectation : (kind : Kind) (age deferment year : ℕ) (e : ℤ) → expectationEnquiry run history kind age deferment year ≡ value e →
       let N = 150 - age - deferment in
       let K = largestYears (basisWith run history) kind (year + deferment) N in
       ImprovingOver (basisWith run history) kind (age + deferment) (year + deferment) N →
-      WithinQuarters e (exactExpectation (basisWith run history) kind age year deferment) (N * (N + 1) * (3 * K + 2))
-  -- annuity 4d ≤ (N + 1)(3N(K + 1) + 2), N = 150 − age, where the rate of discount is not below zero
+      WithinQuarters e (exactExpectation (basisWith run history) kind age year deferment) (2 * N * (N + 1) * (K + 1))
+  -- annuity 4d ≤ (N + 1)(N(2K + 3) + 2), N = 150 − age, where the rate of discount is not below zero
   pub annuity : pos 0 ≤ℤ basisWith run history .discount →
       (kind : Kind) (age deferment year : ℕ) (a : ℤ) → annuityEnquiry run history kind age deferment year ≡ value a →
       let N = 150 - age in
       let K = largestYears (basisWith run history) kind year N in
       ImprovingOver (basisWith run history) kind age year N →
-      WithinQuarters a (exactAnnuity (basisWith run history) kind age year deferment) ((N + 1) * (3 * N * (K + 1) + 2))
+      WithinQuarters a (exactAnnuity (basisWith run history) kind age year deferment) ((N + 1) * (N * (2 * K + 3) + 2))
   -- where it is below zero, at most four times that (02, change 1)
   pub annuityBelowZero : basisWith run history .discount <ℤ pos 0 →
       (kind : Kind) (age deferment year : ℕ) (a : ℤ) → annuityEnquiry run history kind age deferment year ≡ value a →
       let N = 150 - age in
       let K = largestYears (basisWith run history) kind year N in
       ImprovingOver (basisWith run history) kind age year N →
-      WithinQuarters a (exactAnnuity (basisWith run history) kind age year deferment) (4 * ((N + 1) * (3 * N * (K + 1) + 2)))
+      WithinQuarters a (exactAnnuity (basisWith run history) kind age year deferment) (4 * ((N + 1) * (N * (2 * K + 3) + 2)))

@@ -1,24 +1,17 @@
 -- The exact model (01, "Distances from the exact model"): the projection's rules without rounding, in fractions of whole numbers.
 use Prim.Native.Nat.{ℕ, zero, suc, _+_, _-_, _/_}
 use mathlib.Core.Bool.{cond}
-use lib.IntN.{pos, _-ℤ_}
+use lib.IntN.{pos}
 use Rattle.arithmetic.specs.Fraction.{Fraction, _over_, whole, _+ᶠ_, _-ᶠ_, _*ᶠ_, _/ᶠ_, lesser, sumᶠ, U}
 use Rattle.basis.specs.Basis.{Basis, accumulationOf}
-use Rattle.basis.specs.declared.Convergence.{Convergence}
-use Rattle.component.specs.Component.{weightOf}
-use Rattle.improvement.specs.Improvement.{additionOf, isActual}
+use Rattle.improvement.specs.Improvement.{componentsOf, additionOf, isActual}
 use Rattle.projection.specs.Projection.{heldYear}
 use Rattle.survivorship.specs.Survivorship.{yearOn}
 use Rattle.survivorship.specs.declared.Kind.{Kind}
 
--- L + (I − L) × weight
-unfoldable pub exactComponent : Convergence → ℕ → Fraction
-exactComponent c n = whole (c .long) +ᶠ whole (c .initial -ℤ c .long) *ᶠ weightOf (c .period) (c .remaining) n
-
--- the two components' sum, plus the addition after F
+-- the two components' sum, which is not rounded, plus the addition after F
 unfoldable pub exactProjected : Basis → ℕ → ℕ → Fraction
-exactProjected b age year =
-    exactComponent (b .byAge age) (year - b .foundation) +ᶠ exactComponent (b .byBirthYear (year - age)) (year - b .foundation) +ᶠ whole (additionOf b year)
+exactProjected b age year = componentsOf b age year +ᶠ whole (additionOf b year)
 
 -- an actual improvement is exact (02, change 2)
 unfoldable pub exactImprovement : Basis → ℕ → ℕ → Fraction
