@@ -3,12 +3,12 @@ use mathlib.Core.Path.{refl}
 use Rattle.basis.specs.Basis.{accumulationOf}
 use Rattle.basis.specs.Outcome.{steps, sumOf}
 use Rattle.component.specs.Component.{componentOf}
-use Rattle.improvement.specs.Improvement.{additionOf, projectedOf, improvementOf, improvementNeeded}
+use Rattle.improvement.specs.Improvement.{additionOf, componentsOf, projectedOf, improvementOf, improvementNeeded}
 use Rattle.projection.specs.Projection.{factorNeeded, factorFrom, heldYear, factorOf, rateOf}
 use Rattle.survivorship.specs.Survivorship.{survivorsAfterYear, survivorsOf}
 use Rattle.valuation.specs.Valuation.{discountAfter, paymentAfter, annuityOf}
 use Rattle.figures.specs.Figures.{figures, Hold}
 
 pub figures-hold : Hold figures
-unfolding componentOf additionOf projectedOf improvementOf improvementNeeded factorNeeded factorFrom heldYear factorOf rateOf steps sumOf accumulationOf survivorsAfterYear survivorsOf discountAfter paymentAfter annuityOf
+unfolding componentOf additionOf componentsOf projectedOf improvementOf improvementNeeded factorNeeded factorFrom heldYear factorOf rateOf steps sumOf accumulationOf survivorsAfterYear survivorsOf discountAfter paymentAfter annuityOf
 figures-hold = refl

@@ -1,13 +1,13 @@
 -- The figures that 01 marks to be proved ("Figures to prove"), as one table: what the definitions that the contracts cite give,
--- and what 01 states.
-use Prim.Native.Nat.{ℕ}
+-- and what 01 states. Those of a component hold where the other component is zero (02, change 3).
+use Prim.Native.Nat.{ℕ, _+_}
 use mathlib.Core.Path.{_≡_}
-use mathlib.Core.List.{List, [], _∷_, map}
+use mathlib.Core.List.{List, [], _∷_, _++_, map}
 use lib.IntN.{ℤ, pos, negsuc}
 use Rattle.basis.specs.Basis.{Basis}
 use Rattle.basis.specs.Outcome.{Outcome, value, refused, refusal}
 use Rattle.basis.specs.declared.Convergence.{Convergence}
-use Rattle.component.specs.Component.{componentOf, terms}
+use Rattle.component.specs.Component.{terms}
 use Rattle.short_form.specs.ShortForm.{longTermOf}
 use Rattle.improvement.specs.Improvement.{improvementOf, improvementNeeded}
 use Rattle.projection.specs.Projection.{factorOf}
@@ -22,10 +22,7 @@ infix 3 _gives_
 abbrev pub _gives_ : Outcome ℤ → Outcome ℤ → Figure
 w gives s = record { worked = w; stated = s }
 
--- a component of I, L, T, P after n years; the long-term rate of the short form at an age
-abbrev component : ℤ → ℤ → ℕ → ℕ → ℕ → Outcome ℤ
-component I L T P n = value (componentOf (terms I L T P) n)
-
+-- the long-term rate of the short form at an age
 abbrev shortForm : ℕ → Outcome ℤ
 shortForm age = value (longTermOf (pos 10_000_000) age)
 
@@ -47,6 +44,17 @@ level rate discount addition byAge byBirthYear =
 abbrev steady : ℤ → Convergence
 steady rate = terms rate rate 20 50
 
+-- one component, by age or by birth year, the other one zero
+abbrev byAgeAlone : Convergence → Basis
+byAgeAlone c = level 0 (pos 0) (pos 0) c (steady (pos 0))
+
+abbrev byBirthYearAlone : Convergence → Basis
+byBirthYearAlone c = level 0 (pos 0) (pos 0) (steady (pos 0)) c
+
+-- the improvement by a component of I, L, T, P alone, n years after F
+abbrev component : (Convergence → Basis) → ℤ → ℤ → ℕ → ℕ → ℕ → Outcome ℤ
+component alone I L T P n = value (improvementOf (alone (terms I L T P)) 60 (2006 + n))
+
 -- improvement 10,000,000 every year
 abbrev improving : Basis
 improving = level 0 (pos 0) (pos 0) (steady (pos 10_000_000)) (steady (pos 0))
@@ -64,18 +72,22 @@ abbrev tenth : Basis
 tenth = level 100_000_000 (pos 200_000_000) (pos 0) (steady (pos 0)) (steady (pos 0))
 
 -- ---- the table, in 01's order
-abbrev pub figures : List Figure
-figures =
-    (component (pos 20_000_000) (pos 10_000_000) 40 50 0 gives value (pos 20_000_000))
-    ∷ (component (pos 20_000_000) (pos 10_000_000) 40 50 10 gives value (pos 18_437_500))
-    ∷ (component (pos 20_000_000) (pos 10_000_000) 40 50 20 gives value (pos 15_000_000))
-    ∷ (component (pos 20_000_000) (pos 10_000_000) 40 50 40 gives value (pos 10_000_000))
-    ∷ (component (pos 20_000_000) (pos 10_000_000) 40 50 41 gives value (pos 10_000_000))
-    ∷ (component (pos 20_000_000) (pos 10_000_000) 40 125 10 gives value (pos 26_875_000))
-    ∷ (component (pos 10_000_000) (pos 0) 3 50 1 gives value (pos 7_407_407))
-    ∷ (component (pos 1) (pos 0) 2 50 1 gives value (pos 1))
-    ∷ (component (negsuc 0) (pos 0) 2 50 1 gives value (pos 0))
-    ∷ (shortForm 90 gives value (pos 10_000_000))
+abbrev components : (Convergence → Basis) → List Figure
+components alone =
+    (component alone (pos 20_000_000) (pos 10_000_000) 40 50 0 gives value (pos 20_000_000))
+    ∷ (component alone (pos 20_000_000) (pos 10_000_000) 40 50 10 gives value (pos 18_437_500))
+    ∷ (component alone (pos 20_000_000) (pos 10_000_000) 40 50 20 gives value (pos 15_000_000))
+    ∷ (component alone (pos 20_000_000) (pos 10_000_000) 40 50 40 gives value (pos 10_000_000))
+    ∷ (component alone (pos 20_000_000) (pos 10_000_000) 40 50 41 gives value (pos 10_000_000))
+    ∷ (component alone (pos 20_000_000) (pos 10_000_000) 40 125 10 gives value (pos 26_875_000))
+    ∷ (component alone (pos 10_000_000) (pos 0) 3 50 1 gives value (pos 7_407_407))
+    ∷ (component alone (pos 1) (pos 0) 2 50 1 gives value (pos 1))
+    ∷ (component alone (negsuc 0) (pos 0) 2 50 1 gives value (pos 0))
+    ∷ []
+
+abbrev others : List Figure
+others =
+    (shortForm 90 gives value (pos 10_000_000))
     ∷ (shortForm 91 gives value (pos 9_666_667))
     ∷ (shortForm 119 gives value (pos 333_333))
     ∷ (shortForm 120 gives value (pos 0))
@@ -92,6 +104,9 @@ figures =
     ∷ (annuityOf tenth Period 149 2006 0 gives value (pos 1_750_000_000))
     ∷ (annuityOf tenth Cohort 149 2006 0 gives value (pos 1_750_000_000))
     ∷ []
+
+abbrev pub figures : List Figure
+figures = components byAgeAlone ++ components byBirthYearAlone ++ others
 
 -- every row gives what is stated
 abbrev pub Hold : List Figure → Type 0
