@@ -12,13 +12,14 @@ PERIOD, COHORT = "period", "cohort"
 
 
 def component(initial_rate, long_term_rate, convergence_period, proportion_remaining, years):
-    """L + round((I - L) x weight), the weight a fraction over 100 T^3, or 0 from T years on."""
+    """L + (I - L) x weight, unrounded: a numerator and its denominator; L alone from T years on."""
     if years >= convergence_period:
-        return long_term_rate
+        return long_term_rate, 1
     weight_numerator = ((convergence_period - years) ** 2
                         * (100 * convergence_period + (8 * proportion_remaining - 200) * years))
-    return long_term_rate + rounded((initial_rate - long_term_rate) * weight_numerator,
-                                    100 * convergence_period ** 3)
+    denominator = 100 * convergence_period ** 3
+    return (long_term_rate * denominator + (initial_rate - long_term_rate) * weight_numerator,
+            denominator)
 
 
 class Projection:
@@ -44,20 +45,31 @@ class Projection:
         return self.projected_improvement(age, year)
 
     def projected_improvement(self, age, year):
-        """At the attained age, for the birth year that has this age in this year."""
-        basis, years = self.basis, year - self.basis.foundation_year
-        i, j = age - FIRST_AGE, year - age - FIRST_BIRTH_YEAR
-        improvement = component(
-            basis.age_initial_rates[i], basis.age_long_term_rates[i],
-            basis.age_convergence_periods[i], basis.age_proportions_remaining[i], years)
-        improvement += component(
-            basis.cohort_initial_rates[j], basis.cohort_long_term_rates[j],
-            basis.cohort_convergence_periods[j], basis.cohort_proportions_remaining[j], years)
-        if years > 0:
-            improvement += basis.constant_addition
+        """The components joined, and the addition after F; 9 looks at the number so rounded."""
+        improvement = self.joined(*self.components(age, year))
+        if year > self.basis.foundation_year:
+            improvement += self.basis.constant_addition
         if abs(improvement) > IMPROVEMENT_LIMIT:
             raise Refusal(9, age, year)
         return improvement
+
+    def components(self, age, year):
+        """By the attained age, and by the birth year that has this age in this year."""
+        basis, years = self.basis, year - self.basis.foundation_year
+        i, j = age - FIRST_AGE, year - age - FIRST_BIRTH_YEAR
+        by_age = component(
+            basis.age_initial_rates[i], basis.age_long_term_rates[i],
+            basis.age_convergence_periods[i], basis.age_proportions_remaining[i], years)
+        by_birth_year = component(
+            basis.cohort_initial_rates[j], basis.cohort_long_term_rates[j],
+            basis.cohort_convergence_periods[j], basis.cohort_proportions_remaining[j], years)
+        return by_age, by_birth_year
+
+    @staticmethod
+    def joined(by_age, by_birth_year):
+        """The exact sum of the two, brought to one denominator and rounded once."""
+        (first, denominator), (second, other) = by_age, by_birth_year
+        return rounded(first * other + second * denominator, denominator * other)
 
     def _factor_row(self, age):
         """The factors of the years B, B + 1 and so on, as far as they go, and what stops them."""

@@ -8,7 +8,7 @@ from outside.bases import level, named_bases, realistic, sample
 from outside.basis import encode
 from outside.damage import with_number
 from outside.enquiries import KINDS, ask
-from outside.exact import weight
+from outside.exact import component, weight
 from outside.history import NO_HISTORY
 from outside.points import (ENDED, STEPPED, Lifeline, ModelPoint, grid, point, small_set,
                             start_lifeline, step_lifeline)
@@ -122,7 +122,7 @@ class Refusals(unittest.TestCase):
         bases = named_bases()
         both = encode(bases["9 and 10 in one year"])
         # In 2010 the improvement is -533,824,000, and the product would be above 4 U as well.
-        self.assertEqual(engine.component(-200_000_000, 200_000_000, 25, 150, 4), -533_824_000)
+        self.assertEqual(component(-200_000_000, 200_000_000, 25, 150, 4), -533_824_000)
         self.assertGreater(engine.factor(both, NO_HISTORY, 80, 2009) * (UNIT + 533_824_000),
                            4 * UNIT * UNIT)
         self.assertEqual(outcome(engine.factor, both, NO_HISTORY, 80, 2130), Refusal(9, 80, 2010))

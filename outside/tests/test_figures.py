@@ -5,6 +5,7 @@ import unittest
 from outside import engine
 from outside.bases import level, sample
 from outside.basis import decode, encode, encode_file, short_form
+from outside.exact import component
 from outside.history import NO_HISTORY
 from outside.points_program import points_output
 from outside.refusals import Refusal, outcome
@@ -17,20 +18,38 @@ class Rounding(unittest.TestCase):
 
 
 class Components(unittest.TestCase):
+    """A component's figure is the improvement where the other component is zero."""
+
+    def improvements(self, expected, curve, years):
+        """By age and by birth year, without an addition."""
+        nothing = (0, 0, 20, 50)
+        for basis in (level(age=curve, cohort=nothing), level(age=nothing, cohort=curve)):
+            self.assertEqual(
+                engine.improvement(encode(basis), NO_HISTORY, 60, 2006 + years), expected)
+
     def test_half_remaining(self):
         for years, expected in ((0, 20_000_000), (10, 18_437_500), (20, 15_000_000),
                                 (40, 10_000_000), (41, 10_000_000)):
-            self.assertEqual(engine.component(20_000_000, 10_000_000, 40, 50, years), expected)
+            self.improvements(expected, (20_000_000, 10_000_000, 40, 50), years)
 
     def test_more_than_all_remaining(self):
-        self.assertEqual(engine.component(20_000_000, 10_000_000, 40, 125, 10), 26_875_000)
+        self.improvements(26_875_000, (20_000_000, 10_000_000, 40, 125), 10)
 
     def test_a_third(self):
-        self.assertEqual(engine.component(10_000_000, 0, 3, 50, 1), 7_407_407)
+        self.improvements(7_407_407, (10_000_000, 0, 3, 50), 1)
 
     def test_ties(self):
-        self.assertEqual(engine.component(1, 0, 2, 50, 1), 1)
-        self.assertEqual(engine.component(-1, 0, 2, 50, 1), 0)
+        self.improvements(1, (1, 0, 2, 50), 1)
+        self.improvements(0, (-1, 0, 2, 50), 1)
+
+    def test_both(self):
+        """Where neither is zero their sum is rounded: two thirds twice, and ties that cancel."""
+        for age, cohort, expected in (
+                ((10_000_000, 0, 3, 50), (10_000_000, 0, 3, 50), 14_814_815),
+                ((1, 0, 2, 50), (1, 0, 2, 50), 1), ((-1, 0, 2, 50), (-1, 0, 2, 50), -1),
+                ((1, 0, 2, 50), (-1, 0, 2, 50), 0)):
+            run = encode(level(age=age, cohort=cohort))
+            self.assertEqual(engine.improvement(run, NO_HISTORY, 60, 2007), expected)
 
 
 class ShortForm(unittest.TestCase):
@@ -59,7 +78,7 @@ class Factors(unittest.TestCase):
 
     def test_improvement_beyond_its_limit(self):
         curve = (200_000_000, -200_000_000, 4, 150)
-        self.assertEqual(engine.component(*curve, 1), 587_500_000)
+        self.assertEqual(component(*curve, 1), 587_500_000)
         run = encode(level(age=curve))
         self.assertEqual(outcome(engine.improvement, run, NO_HISTORY, 60, 2007),
                          Refusal(9, 60, 2007))
