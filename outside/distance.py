@@ -12,7 +12,7 @@ Distance = namedtuple("Distance", "premise lower upper bound")
 
 
 def exact_answer(model, kind, age, deferment, year):
-    """An enclosure of the model's answer, as a multiple of U."""
+    """An enclosure of the model's answer, as a multiple of U; of any kind but an improvement."""
     name = kind[0]
     if name == "factor":
         return model.factor(age, year)
@@ -44,45 +44,62 @@ def takes_actual(model, kind, age, deferment, year):
 
 
 def premise_holds(model, kind, age, deferment, year):
-    """No exact improvement taken into the answer, actual or projected, is below zero."""
+    """No exact improvement taken into the answer, actual or projected, is below zero.
+
+    An improvement takes none into it: what is claimed of it needs no premise.
+    """
     return all(model.none_below_zero(*each) for each in factors_used(kind, age, deferment, year))
+
+
+def improvement_bound(model, year):
+    """Half a unit for the one rounding of a projected improvement; an actual one is exact."""
+    return Fraction(0) if year in actual_years(model.basis) else Fraction(1, 2)
 
 
 def annuity_bound(n, largest_k, discount_rate):
     """Four times as much where the rate of discount is below zero."""
-    usual = Fraction((n + 1) * (3 * n * (largest_k + 1) + 2), 4)
+    usual = Fraction((n + 1) * (n * (2 * largest_k + 3) + 2), 4)
     return 4 * usual if discount_rate < 0 else usual
 
 
 def bound(model, kind, age, deferment, year):
     """In units, with k of the year or K the largest k among the rates used, 0 if there is none."""
     name = kind[0]
+    if name == "improvement":
+        return improvement_bound(model, year)
     k = model.years_from_base(year)
     if name == "factor":
-        return Fraction(3 * k, 2)
+        return Fraction(k)
     if name == "rate":
-        return Fraction(3 * k + 1, 2)
+        return Fraction(2 * k + 1, 2)
     largest_k = max((model.years_from_base(each) for _, each
                      in rates_used(kind, age, deferment, year)), default=0)
     if name == "survivorship":
-        return Fraction(deferment * (3 * largest_k + 2), 2)
+        return Fraction(deferment * (largest_k + 1))
     if name == "expectation":
         n = LAST_AGE - age - deferment
-        return Fraction(n * (n + 1) * (3 * largest_k + 2), 4)
+        return Fraction(n * (n + 1) * (largest_k + 1), 2)
     return annuity_bound(LAST_AGE - age, largest_k, model.basis.discount_rate)
+
+
+def distance_from(exact, answered):
+    """The two bounds of the distance, in units, of an answered number from an enclosure."""
+    least = answered * SCALE - exact.upper * UNIT
+    most = answered * SCALE - exact.lower * UNIT
+    lower = 0 if least <= 0 <= most else min(abs(least), abs(most))
+    return Fraction(lower, SCALE), Fraction(max(abs(least), abs(most)), SCALE)
 
 
 def distance(model, kind, age, deferment, year, answered):
     """Of an answered number; where the engine refuses there is none to ask for.
 
-    If `upper` is within the bound the distance is; if `lower` is above the bound it is broken.
+    If `upper` is within the bound the distance is; if `lower` is above the bound it is broken. The
+    distance of an improvement is known itself: a tie's is its bound, which no enclosure could tell.
     """
-    exact = exact_answer(model, kind, age, deferment, year)
-    least = answered * SCALE - exact.upper * UNIT
-    most = answered * SCALE - exact.lower * UNIT
-    lower = 0 if least <= 0 <= most else min(abs(least), abs(most))
+    if kind[0] == "improvement":
+        lower = upper = Fraction(abs(answered - model.improvement(age, year)))
+    else:
+        lower, upper = distance_from(exact_answer(model, kind, age, deferment, year), answered)
     return Distance(
-        premise=premise_holds(model, kind, age, deferment, year),
-        lower=Fraction(lower, SCALE),
-        upper=Fraction(max(abs(least), abs(most)), SCALE),
+        premise=premise_holds(model, kind, age, deferment, year), lower=lower, upper=upper,
         bound=bound(model, kind, age, deferment, year))

@@ -2,11 +2,11 @@
 
 Run with `python3 -m outside.distances` from the folder that holds `crates/`. It reads the program's
 input and output, `crates/check_answers/stdin` and `stdout`; that the program writes this output is
-the gate's to say. For each of the five kinds it prints how many answers were checked and how near
-to its bound the worst one came; annuities at a rate of discount below zero, whose bound is four
-times as much, are a kind of their own here. Answers that take actual improvements are counted a
-second time, under a name of their own. It ends with status 1 if a bound is broken or cannot be
-decided, or if fewer answers under a name than `LEAST_CHECKED` says could be checked.
+the gate's to say. For each of the six kinds it prints how many answers were checked and how near to
+its bound the worst one came; annuities at a rate of discount below zero, whose bound is four times
+as much, are a kind of their own here. Answers that take actual improvements into a factor are
+counted a second time, under a name of their own. It ends with status 1 if a bound is broken or
+cannot be decided, or if fewer answers under a name than `LEAST_CHECKED` says could be checked.
 """
 
 import struct
@@ -17,18 +17,19 @@ from pathlib import Path
 
 from outside.basis import decode
 from outside.distance import distance, takes_actual
-from outside.enquiries import ANNUITY, EXPECTATION, FACTOR, KINDS, RATE, SURVIVORSHIP
+from outside.enquiries import (ANNUITY, EXPECTATION, FACTOR, IMPROVEMENT, KINDS, RATE,
+                               SURVIVORSHIP)
 from outside.exact import ExactModel
 from outside.history import decode_history
 from outside.layout import RUN_LENGTH
 
 FOLDER = Path("crates/check_answers")
 BELOW_ZERO = "annuity below 0"  # an annuity whose rate of discount is below zero
-ACTUAL = "actual years"  # an answer of any kind that takes actual improvements
+ACTUAL = "actual years"  # an answer of any kind that takes actual improvements into a factor
 
-# What is judged, and the least number of each; of an improvement nothing is claimed.
-LEAST_CHECKED = {FACTOR: 700, RATE: 700, SURVIVORSHIP: 700, EXPECTATION: 700, ANNUITY: 700,
-                 BELOW_ZERO: 300, ACTUAL: 700}
+# What is judged, and the least number of each; for an improvement no premise can fail.
+LEAST_CHECKED = {IMPROVEMENT: 700, FACTOR: 700, RATE: 700, SURVIVORSHIP: 700, EXPECTATION: 700,
+                 ANNUITY: 700, BELOW_ZERO: 300, ACTUAL: 700}
 
 # Of one case: its kind, the place of its basis, age, deferment and year, its history, and its line
 # of output.
@@ -95,9 +96,7 @@ def judged(asked, answered):
     below_zero = {place for place, run in enumerate(runs) if decode(run).discount_rate < 0}
     tallies = {name: Tally() for name in LEAST_CHECKED}
     for case in cases:
-        tally = tallies.get(judged_as(case, below_zero))
-        if tally is None:
-            continue
+        tally = tallies[judged_as(case, below_zero)]
         word, *numbers = case.line.split()
         if word != "value":
             tally.counts["refused"] += 1

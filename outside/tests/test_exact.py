@@ -15,7 +15,7 @@ from outside.history import NO_HISTORY
 from outside.older_bases import gentle_older_bases, lent, older_bases, table_of_2000, with_history
 from outside.units import LAST_AGE, LAST_YEAR, UNIT
 
-FACTOR, RATE = KINDS[1], KINDS[2]
+IMPROVEMENT, FACTOR, RATE = KINDS[:3]
 PERIOD_ANNUITY, COHORT_ANNUITY = KINDS[7], KINDS[8]
 
 
@@ -79,15 +79,27 @@ class Figures(unittest.TestCase):
         self.assertEqual(component(10_000_000, 0, 3, 50, 1), Fraction(200_000_000, 27))
         self.assertEqual(component(20_000_000, 10_000_000, 40, 125, 10), 26_875_000)
 
-    def test_a_tie_is_one_unit_of_distance(self):
-        """Two components of one half each round up: 1 unit, two thirds of the bound for k = 1."""
-        basis = level(age=(1, 0, 2, 50), cohort=(1, 0, 2, 50))
-        found = distance(ExactModel(basis), FACTOR, 60, 0, 2007,
-                         ask(encode(basis), NO_HISTORY, FACTOR, 60, 0, 2007))
-        self.assertTrue(found.premise)
-        self.assertEqual(found.bound, Fraction(3, 2))
-        self.assertLessEqual(found.lower, 1)
-        self.assertLessEqual(1, found.upper)
+    def test_a_tie_is_half_a_unit_of_distance(self):
+        """0.2 and 0.3 add to one half and round up: all of an improvement's bound, and half of a
+        factor's for k = 1. Two components of one half each are exactly one.
+        """
+        for parts, expected in (((20, 30), Fraction(1, 2)), ((50, 50), 0)):
+            basis = level(age=(1, 0, 2, parts[0]), cohort=(1, 0, 2, parts[1]))
+            for kind, allowed in ((IMPROVEMENT, Fraction(1, 2)), (FACTOR, 1)):
+                found = distance(ExactModel(basis), kind, 60, 0, 2007,
+                                 ask(encode(basis), NO_HISTORY, kind, 60, 0, 2007))
+                self.assertEqual((found.premise, found.bound), (True, allowed))
+                self.assertLessEqual(found.lower, expected)
+                self.assertLessEqual(expected, found.upper)
+                self.assertLess(found.upper - found.lower, Fraction(1, 2 ** 200))
+
+    def test_the_distance_of_an_improvement_is_exact(self):
+        """From -20/9 and from a tie: no enclosure's width is added, whatever is answered."""
+        for curve, exact in (((-5, 0, 3, 25), Fraction(-20, 9)), ((1, 0, 2, 50), Fraction(1, 2))):
+            model = ExactModel(level(age=curve))
+            for answered in (-3, -2, 0, 1):
+                found = distance(model, IMPROVEMENT, 60, 0, 2007, answered)
+                self.assertEqual(found, (True, *[abs(answered - exact)] * 2, Fraction(1, 2)))
 
     def test_improvements_taken(self):
         model = ExactModel(named_bases()["realistic"])
@@ -156,8 +168,19 @@ class ActualYears(unittest.TestCase):
 
     def test_k_counts_from_the_base_year(self):
         model = ExactModel(*table_of_2000())
-        self.assertEqual(bound(model, FACTOR, 60, 0, 2006), Fraction(3 * 6, 2))
-        self.assertEqual(bound(model, RATE, 60, 0, 2010), Fraction(3 * 10 + 1, 2))
+        self.assertEqual(bound(model, FACTOR, 60, 0, 2006), 6)
+        self.assertEqual(bound(model, RATE, 60, 0, 2010), 10 + Fraction(1, 2))
+
+    def test_an_actual_improvement_is_exact(self):
+        """In 2006, which is F, as well; from F + 1 on it may be half a unit away."""
+        model = ExactModel(*table_of_2000())
+        self.assertEqual([bound(model, IMPROVEMENT, 60, 0, year) for year in (2001, 2006, 2007)],
+                         [0, 0, Fraction(1, 2)])
+        self.assertEqual(bound(ExactModel(named_bases()["realistic"]), IMPROVEMENT, 60, 0, 2006),
+                         Fraction(1, 2))
+        question = IMPROVEMENT, 60, 0, 2003
+        found = distance(model, *question, ask(*lent(table_of_2000()), *question))
+        self.assertEqual(found, (True, 0, 0, 0))
 
     def test_half_a_unit(self):
         """25,000 and 20,000 leave the exact factor at U - 45,000 + 1/2, and the engine rounds up.
@@ -165,7 +188,7 @@ class ActualYears(unittest.TestCase):
         older = gentle_older_bases()["ties in actual years"]
         question = FACTOR, 60, 0, 1994
         found = distance(ExactModel(*older), *question, ask(*lent(older), *question))
-        self.assertEqual((found.premise, found.bound), (True, 3))
+        self.assertEqual((found.premise, found.bound), (True, 2))
         self.assertLessEqual(found.lower, Fraction(1, 2))
         self.assertLessEqual(Fraction(1, 2), found.upper)
         self.assertLess(found.upper - found.lower, Fraction(1, 2 ** 200))
@@ -198,15 +221,16 @@ class Bounds(unittest.TestCase):
         basis = level(age=(5_000_000, 1_000_000, 30, 40))
         model, run = ExactModel(basis), encode(basis)
         for kind, question, expected in (
-                (KINDS[1], (60, 0, 2016), Fraction(30, 2)),
-                (KINDS[2], (60, 0, 2016), Fraction(31, 2)),
-                (KINDS[3], (60, 7, 2016), Fraction(7 * 32, 2)),
-                (KINDS[4], (60, 7, 2016), Fraction(7 * (3 * 16 + 2), 2)),
-                (KINDS[5], (140, 4, 2016), Fraction(6 * 7 * (3 * 14 + 2), 4)),
-                (KINDS[6], (140, 4, 2016), Fraction(6 * 7 * (3 * 19 + 2), 4)),
-                (KINDS[7], (140, 4, 2016), Fraction(11 * (30 * 11 + 2), 4)),
-                (KINDS[8], (140, 4, 2016), Fraction(11 * (30 * 20 + 2), 4)),
-                (KINDS[8], (140, 4, 2130), Fraction(11 * (30 * 125 + 2), 4)),
+                (KINDS[0], (60, 0, 2016), Fraction(1, 2)),
+                (KINDS[1], (60, 0, 2016), Fraction(2 * 10, 2)),
+                (KINDS[2], (60, 0, 2016), Fraction(2 * 10 + 1, 2)),
+                (KINDS[3], (60, 7, 2016), Fraction(2 * 7 * 11, 2)),
+                (KINDS[4], (60, 7, 2016), Fraction(2 * 7 * 17, 2)),
+                (KINDS[5], (140, 4, 2016), Fraction(2 * 6 * 7 * 15, 4)),
+                (KINDS[6], (140, 4, 2016), Fraction(2 * 6 * 7 * 20, 4)),
+                (KINDS[7], (140, 4, 2016), Fraction(11 * (10 * 23 + 2), 4)),
+                (KINDS[8], (140, 4, 2016), Fraction(11 * (10 * 41 + 2), 4)),
+                (KINDS[8], (140, 4, 2130), Fraction(11 * (10 * 251 + 2), 4)),
                 (KINDS[8], (150, 0, 2130), Fraction(2, 4)),
                 (KINDS[6], (140, 10, 2016), Fraction(0)),
                 (KINDS[3], (60, 0, 2016), Fraction(0))):
@@ -216,13 +240,13 @@ class Bounds(unittest.TestCase):
 
     def test_four_times_for_annuities_below_zero(self):
         """At -1 already, and for no other kind: with N 10 and K 10, and with N 0."""
-        usual = Fraction(11 * (30 * 11 + 2), 4)
+        usual = Fraction(11 * (10 * 23 + 2), 4)
         for discount, times in ((-10_000_000, 4), (-1, 4), (0, 1), (1, 1), (200_000_000, 1)):
             model = ExactModel(level(discount=discount))
             self.assertEqual(bound(model, PERIOD_ANNUITY, 140, 4, 2016), times * usual)
             self.assertEqual(bound(model, COHORT_ANNUITY, 150, 0, 2130), Fraction(times, 2))
         zero, below = ExactModel(level()), ExactModel(level(discount=-10_000_000))
-        for kind in KINDS[1:7]:
+        for kind in KINDS[:7]:
             self.assertEqual(bound(below, kind, 60, 7, 2016), bound(zero, kind, 60, 7, 2016))
 
     def test_roundings_that_all_go_up(self):
