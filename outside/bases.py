@@ -133,8 +133,6 @@ def gentle_bases():
     gentle["one unit"] = level(1992, 1992, 0, 0, 499_999_999, (1, 1, 50, 50), (0, 0, 50, 50))
     gentle["odd units"] = level(1992, 1992, 0, 333_333_333 // 7, 123_456_789,
                                 (3_333_333, 1_111_111, 47, 61), (7_777_777, 0, 43, 87))
-    # Both components are one half in the first year and both round up: two thirds of the bound.
-    gentle["ties"] = level(1992, 1992, 0, 0, 999_999_999, (1, 0, 2, 50), (1, 0, 2, 50))
     return gentle
 
 

@@ -17,10 +17,11 @@ import struct
 from outside.bases import discounted_bases, gentle_bases, named_bases, realistic
 from outside.basis import decode, encode
 from outside.damage import with_number
-from outside.enquiries import ANNUITY, IMPROVEMENT, KINDS, ask
+from outside.enquiries import ANNUITY, IMPROVEMENT, KINDS, SURVIVORSHIP, ask
 from outside.history import NO_HISTORY
 from outside.history_cases import Group, beyond_the_bytes, groups_with_history, without_history
 from outside.refusals import Refusal, outcome
+from outside.rounding_bases import ONE_WAY_AGE, ONE_WAY_YEARS, celled_bases, rounded_one_way
 from outside.units import LAST_AGE, LAST_YEAR
 from outside.vectors import command, expected_output, write
 
@@ -102,6 +103,20 @@ def whole_lives_and_more(kind, basis, draw):
         yield from answerable(kind, basis, draw)
 
 
+def all_but_reached(kind, basis, draw):
+    """Where the distances are, after few years and after all; each year's improvement is a tie."""
+    years = range(1, ONE_WAY_YEARS + 1) if kind[0] == IMPROVEMENT else (1, 2, 3, 10, ONE_WAY_YEARS)
+    for each in years:
+        yield ONE_WAY_AGE, 1 if kind[0] == SURVIVORSHIP else 0, basis.base_year + each
+    yield from answerable(kind, basis, draw)
+
+
+def at_cells(cells):
+    """Each cell's own age and year, so that its improvement is in the first rate that is used."""
+    return lambda kind, basis, draw: [(age, 1 if kind[0] == SURVIVORSHIP else 0, year)
+                                      for age, year, _ in cells]
+
+
 def refused(kind, basis, draw):
     """The data run's refusal comes before what could be said of the question."""
     yield from [(60, 0, 2020), (19, 0, 2020), (150, 1, 2020), (60, 0, 2131)]
@@ -111,7 +126,8 @@ def refused(kind, basis, draw):
 
 def bases():
     """Each data run with its questions: accepted ones by choice, with the edges on every third; one
-    refused by 4 and one by 5; the gentle ones, for the distances; the rates of discount.
+    refused by 4 and one by 5; the gentle ones, for the distances; the rates of discount; the ways
+    to join two components.
     """
     by_name = named_bases()
     return ([(encode(by_name[name]), stopping_and_edges if place % 3 == 1 else stopping)
@@ -119,8 +135,10 @@ def bases():
             + [(with_number(encode(realistic()), 20, 1, 1), refused),
                (with_number(encode(realistic()), 554 + 4 * 40, 4, 200_000_001), refused)]
             + [(encode(basis), answerable) for basis in gentle_bases().values()]
+            + [(encode(rounded_one_way()), all_but_reached)]
             + [(encode(by_name[name]), whole_lives) for name in DISCOUNTED]
             + [(encode(basis), whole_lives_and_more) for basis in discounted_bases().values()]
+            + [(encode(basis), at_cells(cells)) for basis, cells in celled_bases().values()]
             + [(b"", refused)])
 
 

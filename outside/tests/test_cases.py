@@ -6,10 +6,14 @@ from collections import Counter
 from functools import cache
 
 from outside import make_answer_cases, make_file_cases
-from outside.basis import read_file, short_form, write_file
+from outside.basis import encode, read_file, short_form, write_file
 from outside.blocks import joined_data
+from outside.distances import read_cases
 from outside.enquiries import KINDS, ask
-from outside.refusals import Refusal
+from outside.make_answer_cases import line_of
+from outside.refusals import Refusal, outcome
+from outside.rounding_bases import celled_bases
+from outside.tests.other_joinings import apart, ask_with
 
 
 answer_cases = cache(make_answer_cases.input_and_output)
@@ -69,6 +73,18 @@ def answer_case_lines(text):
     return lines
 
 
+def difference(line, other):
+    """What another engine's line is beside the right one."""
+    (word, number, *_), (other_word, other_number, *_) = line.split(), other.split()
+    if line == other:
+        return "the same"
+    if word != other_word:
+        return "answered" if other_word == "value" else "refused"
+    if word == "refused":
+        return "refused elsewhere"
+    return "more" if int(other_number) > int(number) else "less"
+
+
 def with_last_line(lines):
     return ("\n".join(lines + ["cases %d" % len(lines)]) + "\n").encode("ascii")
 
@@ -104,6 +120,24 @@ class WrittenCases(unittest.TestCase):
             for number in ("2", "3", "4", "5"):
                 self.assertIn((number, False), each)
             self.assertLessEqual({("13", False), ("13", True), "value"}, each)
+
+    def test_two_roundings_are_seen_in_every_kind(self):
+        """They give more and less, answer where a refusal is right, and refuse what stands."""
+        runs, cases = read_cases(*answer_cases())
+        celled = [runs.index(encode(basis)) for basis, _ in celled_bases().values()]
+        found = {kind: Counter() for kind in KINDS}
+        for case in cases:
+            if case.place in celled:
+                two = line_of(outcome(ask_with, apart, runs[case.place], case.history, case.kind,
+                                      *case.question))
+                found[case.kind][difference(case.line, two)] += 1
+        for kind, each in found.items():
+            with self.subTest(kind):
+                self.assertGreater(each["more"], 15)
+                self.assertGreater(each["less"], 15)
+                self.assertGreaterEqual(each["refused"], 4)
+                # What goes on to other ages is refused at one of them, if not at the cell's own.
+                self.assertGreater(each["answered"] + each["refused elsewhere"], 5)
 
 
 if __name__ == "__main__":
