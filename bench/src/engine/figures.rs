@@ -2,7 +2,6 @@
 use super::basis::Basis;
 use super::enquiries::*;
 use super::layout::{AGES, BIRTH_YEARS, FIRST_BIRTH_YEAR};
-use super::projection::Component;
 use super::refusal::Refusal;
 use super::units::UNIT;
 use super::valuation::Kind;
@@ -12,19 +11,38 @@ use crate::bases::draft::Component::{Age, BirthYear};
 /// The history of a basis that needs none.
 const NONE: &[u8] = &[];
 
-fn component(initial_rate: i64, long_term_rate: i64, period: i64, proportion: i64, years: i64) -> i64 {
-    Component { initial_rate, long_term_rate, convergence_period: period, proportion_remaining: proportion }
-        .after(years)
+/// Initial and long-term rate, T and P of a component.
+pub(super) type Terms = ([i32; 2], u8, u8);
+
+const ZERO: Terms = ([0, 0], 20, 50);
+
+/// The improvement at age 60 so many years after F, with these terms by age and by birth year.
+pub(super) fn improvement_of(by_age: Terms, by_birth_year: Terms, addition: i32, years: u32) -> Result<i64, Refusal> {
+    let mut draft = Draft::plain(2006, 2006);
+    draft.set_addition(addition);
+    let (age, year) = (60, 2006 + years);
+    let born = (year - age - FIRST_BIRTH_YEAR) as usize;
+    for (component, index, (rates, period, proportion)) in [(Age, 40, by_age), (BirthYear, born, by_birth_year)] {
+        draft.set_component(component, index, rates, period, proportion);
+    }
+    improvement(&draft.run, NONE, age, year)
+}
+
+/// The improvement where the other component is zero, which is the same for either.
+pub(super) fn component(terms: Terms, years: u32) -> i64 {
+    let by_age = improvement_of(terms, ZERO, 0, years);
+    assert_eq!(by_age, improvement_of(ZERO, terms, 0, years));
+    by_age.expect("within the limits of 9")
 }
 
 #[test]
 fn components() {
-    let at = |years| component(20_000_000, 10_000_000, 40, 50, years);
+    let at = |years| component(([20_000_000, 10_000_000], 40, 50), years);
     assert_eq!([0, 10, 20, 40, 41].map(at), [20_000_000, 18_437_500, 15_000_000, 10_000_000, 10_000_000]);
-    assert_eq!(component(20_000_000, 10_000_000, 40, 125, 10), 26_875_000);
-    assert_eq!(component(10_000_000, 0, 3, 50, 1), 7_407_407);
-    assert_eq!(component(1, 0, 2, 50, 1), 1);
-    assert_eq!(component(-1, 0, 2, 50, 1), 0);
+    assert_eq!(component(([20_000_000, 10_000_000], 40, 125), 10), 26_875_000);
+    assert_eq!(component(([10_000_000, 0], 3, 50), 1), 7_407_407);
+    assert_eq!(component(([1, 0], 2, 50), 1), 1);
+    assert_eq!(component(([-1, 0], 2, 50), 1), 0);
 }
 
 /// Every age's two rates alike, birth years nothing.
@@ -60,7 +78,9 @@ fn a_factor_above_four() {
 fn an_improvement_beyond_its_limits() {
     let mut draft = Draft::plain(2006, 2006);
     draft.set_component(Age, 40, [200_000_000, -200_000_000], 4, 150);
-    assert_eq!(component(200_000_000, -200_000_000, 4, 150, 1), 587_500_000);
+    // 587,500,000, which another component can bring within the limits
+    let by_age = ([200_000_000, -200_000_000], 4, 150);
+    assert_eq!(improvement_of(by_age, ([-200_000_000; 2], 20, 50), 0, 1), Ok(387_500_000));
     assert_eq!(improvement(&draft.run, NONE, 60, 2006), Ok(200_000_000));
     assert_eq!(improvement(&draft.run, NONE, 60, 2007), Err(Refusal::improvement(60, 2007)));
     assert_eq!(factor(&draft.run, NONE, 60, 2008), Err(Refusal::improvement(60, 2007)));

@@ -20,5 +20,7 @@ mod figures;
 mod histories;
 #[cfg(test)]
 mod orders;
+#[cfg(test)]
+mod rounding;
 
 pub use refusal::Refusal;

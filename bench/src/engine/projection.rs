@@ -2,10 +2,10 @@
 use super::basis::Basis;
 use super::layout::*;
 use super::refusal::Refusal;
-use super::units::{UNIT, product, rounded};
+use super::units::{UNIT, product};
 
 /// One component's terms, as they stand in the tables.
-#[derive(Clone, Copy)]
+#[derive(Clone, Copy, Debug)]
 pub struct Component {
     pub initial_rate: i64,
     pub long_term_rate: i64,
@@ -13,18 +13,43 @@ pub struct Component {
     pub proportion_remaining: i64,
 }
 
+/// An exact value: its whole part and, above it, `remainder / divisor` of a unit, which is not below 0 and below 1.
+struct Exact {
+    whole: i64,
+    remainder: i64,
+    divisor: i64,
+}
+
 impl Component {
-    /// The component `years` after the foundation year. The dividend stays below 5.4e16.
+    /// This component and another, `years` after the foundation year: their exact sum, rounded once. That is the floor
+    /// of the sum plus one half, and the half is put to this one.
     #[inline]
-    pub fn after(&self, years: i64) -> i64 {
+    pub fn rounded_sum(&self, other: &Component, years: i64) -> i64 {
+        if years >= self.convergence_period && years >= other.convergence_period {
+            return self.long_term_rate + other.long_term_rate;
+        }
+        let (first, second) = (self.after(years, 1), other.after(years, 0));
+        // whether the second fraction fills what the first leaves of a unit; either side stays below 1.6e14
+        let full = second.remainder * first.divisor >= (first.divisor - first.remainder) * second.divisor;
+        first.whole + second.whole + i64::from(full)
+    }
+
+    /// The component `years` after the foundation year, plus so many halves of a unit, none or one.
+    #[inline]
+    fn after(&self, years: i64, halves: i64) -> Exact {
         let period = self.convergence_period;
         if years >= period {
-            return self.long_term_rate;
+            return Exact { whole: self.long_term_rate, remainder: halves, divisor: 2 };
         }
         let left = period - years;
         let weight = left * left * (100 * period + (8 * self.proportion_remaining - 200) * years);
-        let whole = 100 * period * period * period;
-        self.long_term_rate + rounded((self.initial_rate - self.long_term_rate) * weight, whole)
+        let divisor = 100 * period * period * period;
+        let dividend = (self.initial_rate - self.long_term_rate) * weight + halves * (divisor / 2);
+        // A weight is above -1 and below 2, and the rates differ by 0.4 U at most: raised by U the value is above zero,
+        // where a division takes the floor. The dividend stays below 2.3e16.
+        let raised = (dividend + UNIT as i64 * divisor) as u64;
+        let (quotient, remainder) = (raised / divisor as u64, raised % divisor as u64);
+        Exact { whole: self.long_term_rate + quotient as i64 - UNIT as i64, remainder: remainder as i64, divisor }
     }
 }
 
@@ -42,7 +67,7 @@ impl Basis<'_> {
     }
 
     #[inline]
-    fn age_component(&self, age: u32) -> Component {
+    pub fn age_component(&self, age: u32) -> Component {
         let index = (age - FIRST_AGE) as usize;
         Component {
             initial_rate: i64::from(signed(self.run, AGE_INITIAL + 4 * index)),
@@ -53,7 +78,7 @@ impl Basis<'_> {
     }
 
     #[inline]
-    fn birth_year_component(&self, birth_year: u32) -> Component {
+    pub fn birth_year_component(&self, birth_year: u32) -> Component {
         let index = (birth_year - FIRST_BIRTH_YEAR) as usize;
         Component {
             initial_rate: i64::from(signed(self.run, BIRTH_INITIAL + 4 * index)),
@@ -86,7 +111,8 @@ impl Basis<'_> {
     fn projected_improvement(&self, age_component: &Component, age: u32, year: u32) -> Result<i64, Refusal> {
         let years = i64::from(year - self.foundation_year);
         let addition = if years > 0 { self.constant_addition } else { 0 };
-        let improvement = age_component.after(years) + self.birth_year_component(year - age).after(years) + addition;
+        let birth_year_component = self.birth_year_component(year - age);
+        let improvement = age_component.rounded_sum(&birth_year_component, years) + addition;
         if IMPROVEMENTS.contains(&improvement) { Ok(improvement) } else { Err(Refusal::improvement(age, year)) }
     }
 
