@@ -116,6 +116,21 @@ pub fn brink(random: &mut Random) -> Draft {
     draft
 }
 
+/// Improvements within two units of ±500,000,000 in every year after the foundation year: a unit lies between the two
+/// rates of a component, and the remainders decide whether 9 refuses.
+pub fn edge(random: &mut Random) -> Draft {
+    let (foundation, base) = years(random);
+    let mut draft = Draft::plain(foundation, base);
+    let sign = random.pick(&[-1, 1]);
+    draft.set_addition(100_000_000 * sign);
+    (0..AGES).for_each(|index| draft.set_base_rate(index, random.between(0, 1_000_000_000) as i32));
+    components(random, &mut draft, |random| {
+        let rates = [200_000_000 * sign, 199_999_999 * sign];
+        (rates, random.between(1, 50) as u8, random.between(50, 150) as u8)
+    });
+    draft
+}
+
 /// Factors that double every three years, to exactly 4 U after six, or to a little beside it.
 pub fn fourfold(random: &mut Random) -> Draft {
     let foundation = random.between(1992, 2080) as u16;
@@ -158,7 +173,9 @@ mod tests {
             let below = rates.filter(|&rate| rate < 0).count();
             assert!((1..200).contains(&below), "{below} of 200");
         }
-        assert!(accept_run(&fourfold(&mut random).run).is_ok());
+        for kind in [edge, fourfold] {
+            assert!(accept_run(&kind(&mut random).run).is_ok());
+        }
     }
 
     #[test]

@@ -55,6 +55,7 @@ fn accepted(random: &mut Random, kind: &'static str) -> Basis {
         "anywhere" => valid::anywhere(random),
         "extreme" => valid::extreme(random),
         _ if random.one_in(4) => valid::fourfold(random),
+        _ if random.one_in(3) => valid::edge(random),
         _ => valid::brink(random),
     };
     let mut improvements = match kind {
@@ -95,6 +96,11 @@ pub fn year(random: &mut Random, run: &[u8]) -> u32 {
         2 => random.pick(&[foundation.wrapping_sub(1), base.wrapping_sub(1), 2129, 2131]),
         3 => random.between(1980, 2140) as u32,
         4..=6 if base < foundation => random.between(i64::from(base), i64::from(foundation) + 2) as u32,
+        7..=11 => {
+            // mostly while both components converge, so that each has a remainder
+            let years = random.below(50) + 1;
+            (foundation.max(base) + random.below(years) as u32).min(LAST_YEAR)
+        }
         _ => random.between(i64::from(base.min(2130)), 2130) as u32,
     }
 }
@@ -163,5 +169,66 @@ pub fn fill(random: &mut Random, bytes: &mut [u8]) {
     for part in bytes.chunks_mut(8) {
         let drawn = random.word().to_le_bytes();
         part.copy_from_slice(&drawn[..part.len()]);
+    }
+}
+
+#[cfg(test)]
+mod tests {
+    use super::*;
+    use crate::engine::basis::Basis as Accepted;
+    use crate::engine::projection::Component;
+
+    /// Improvements that are asked, and those of which one rounding and two make something else.
+    #[derive(Default, Debug)]
+    struct Counts {
+        asked: u32,
+        differing: u32,
+        /// Of these, 9 refuses what two roundings make and not what one makes, and the other way round.
+        only_two_refused: u32,
+        only_one_refused: u32,
+    }
+
+    const NOTHING: Component =
+        Component { initial_rate: 0, long_term_rate: 0, convergence_period: 1, proportion_remaining: 0 };
+
+    /// A projected improvement by two roundings, where 9 does not refuse it.
+    fn by_two_roundings(basis: &Accepted, age: u32, year: u32) -> Option<i64> {
+        let years = i64::from(year - basis.foundation_year);
+        let components = [basis.age_component(age), basis.birth_year_component(year - age)];
+        let [by_age, by_birth_year] = components.map(|component| component.rounded_sum(&NOTHING, years));
+        let addition = if years > 0 { basis.constant_addition } else { 0 };
+        Some(by_age + by_birth_year + addition).filter(|improvement| IMPROVEMENTS.contains(improvement))
+    }
+
+    fn compare(counts: &mut Counts, basis: &Accepted, age: u32, year: u32) {
+        let actual = basis.base_year < year && year <= basis.foundation_year;
+        let known =
+            (FIRST_AGE..=LAST_AGE).contains(&age) && (basis.first_improvement_year()..=LAST_YEAR).contains(&year);
+        if actual || !known {
+            return;
+        }
+        let (once, apart) = (basis.improvement(age, year).ok(), by_two_roundings(basis, age, year));
+        counts.differing += u32::from(once != apart);
+        counts.only_two_refused += u32::from(once.is_some() && apart.is_none());
+        counts.only_one_refused += u32::from(once.is_none() && apart.is_some());
+    }
+
+    #[test]
+    fn an_engine_that_rounds_each_component_would_soon_be_found() {
+        let mut counts = Counts::default();
+        for index in 0..2000 {
+            let mut random = Random::case(1, index);
+            let Basis { run, history, .. } = basis(&mut random);
+            let accepted = Accepted::accept(&run, &history);
+            for _ in 0..30 {
+                let (age, year) = (age(&mut random), year(&mut random, &run));
+                counts.asked += 1;
+                if let Ok(basis) = &accepted {
+                    compare(&mut counts, basis, age, year);
+                }
+            }
+        }
+        assert!(counts.differing * 100 > counts.asked, "{counts:?}");
+        assert!(counts.only_two_refused > 0 && counts.only_one_refused > 0, "{counts:?}");
     }
 }
