@@ -256,6 +256,18 @@ static void check_cells(void) {
     HOLDS(is(parvusek_factor(run, RUN, NO_HISTORY, 60, 2009), 3375000000));
     HOLDS(declined(parvusek_factor(run, RUN, NO_HISTORY, 60, 2011), 10, 60, 2010));
 
+    /* T 2 in the year after F: half a unit by age and half by birth year, whose sum is rounded once */
+    sample(run);
+    memset(run + 1602, 2, 131);
+    memset(run + 4016, 2, 269);
+    fill4(run + 554, 131, 1);
+    fill4(run + 1864, 269, 1);
+    HOLDS(is_signed(parvusek_improvement(run, RUN, NO_HISTORY, 60, 2007), 1));
+    fill4(run + 554, 131, -1);
+    HOLDS(is_signed(parvusek_improvement(run, RUN, NO_HISTORY, 60, 2007), 0));
+    fill4(run + 1864, 269, -1);
+    HOLDS(is_signed(parvusek_improvement(run, RUN, NO_HISTORY, 60, 2007), -1));
+
     sample_beyond(run);
     parvusek_signed_answer_t beyond = parvusek_improvement(run, RUN, NO_HISTORY, 60, 2007);
     HOLDS(refused(beyond.refusal, 9, 60, 2007) && beyond.value == 0);

@@ -17,7 +17,7 @@ from .history import history_file, improvements_of
 from .refusals import Refusal
 from .decimals import UNIT, decimal, units
 
-__version__ = "0.2.0"
+__version__ = "0.3.0"
 
 __all__ = [
     "Answer", "Basis", "FILE_LENGTH", "Kind", "LibraryNotFound", "Lifeline", "Question", "RUN_LENGTH",

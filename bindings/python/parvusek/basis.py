@@ -168,7 +168,8 @@ class Basis:
     def improvement(self, age: int, year: int) -> int:
         """The mortality improvement at an age in a year; it may be below zero.
 
-        The first year is F, and where B is before F it is B + 1: up to F it is then the history's.
+        The first year is F, and where B is before F it is B + 1: up to F it is then the history's. A projected one
+        is within half a unit of the exact one.
         """
         return self._answer("improvement", age=age, year=year)
 

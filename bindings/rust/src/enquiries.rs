@@ -5,7 +5,8 @@ use crate::{Basis, Kind, Lifeline, Refusal};
 
 impl Basis {
     /// The mortality improvement at an age in a year, in units; below zero where mortality worsens. The first year is F,
-    /// and where B is before F it is B + 1: up to F an improvement is then the history's.
+    /// and where B is before F it is B + 1: up to F an improvement is then the history's. A projected one is within
+    /// half a unit of the exact one.
     ///
     /// ```
     /// # let basis = parvusek::Basis::open("../../samples/basis.bin")?;
