@@ -74,8 +74,9 @@ parvusek_refusal_t parvusek_short_form(const uint8_t *run, size_t run_len, int32
    be asked: B, and for an improvement the earlier of F and B + 1), 9 (an improvement needed is beyond 500,000,000
    either way), and for a factor and a rate 10 (a factor needed is above 4 U). */
 
-/* The rate of improvement; below zero where mortality worsens. From B + 1 to F it is the history's, without the
-   constant addition. */
+/* The rate of improvement; below zero where mortality worsens. A projected one is the exact sum of its two components
+   rounded once, ties up, so within half a unit of the exact one, plus the constant addition after F. From B + 1 to F it
+   is the history's, without the constant addition. */
 parvusek_signed_answer_t parvusek_improvement(const uint8_t *run, size_t run_len, const uint8_t *history,
                                               size_t history_len, uint32_t age, uint32_t year);
 /* The reduction factor, U in year B. */
