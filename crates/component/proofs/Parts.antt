@@ -16,7 +16,7 @@ use Rattle.arithmetic.proofs.Difference.{natAbs-add}
 use Rattle.arithmetic.proofs.Rounding.{floor-abs}
 use Rattle.arithmetic.proofs.Remainders.{mixed, remainder-small, parts-are, parts-more}
 use Rattle.component.specs.Component.{slopeOf, weightOf, componentOf, terms}
-use Rattle.component.proofs.Size.{most, excess-abs, slope-abs, weighted-abs, divisor, divisor-proper, divisor-small}
+use Rattle.component.proofs.Size.{most, divisor, divisor-proper, divisor-small, dividend, dividend-abs}
 use Rattle.basis.specs.Basis.{ConvergenceLimits}
 use Rattle.basis.specs.declared.Convergence.{Convergence}
 
@@ -48,8 +48,7 @@ component-is I L T P n w e = ap (λ (q : Fraction). whole L +ᶠ whole (I -ℤ L
 
 -- before T
 pub component-before : (I L : ℤ) (T P n : ℕ) → n < T →
-    let dividend = (I -ℤ L) *ℤ (pos ((T - n) * (T - n)) *ℤ slopeOf T P n) in
-    mixedOf (componentOf (terms I L T P) n) ≡ mixed (L +ℤ floorDiv dividend (divisor T)) (remainderDiv dividend (divisor T)) (divisor T)
+    mixedOf (componentOf (terms I L T P) n) ≡ mixed (L +ℤ floorDiv (dividend I L T P n) (divisor T)) (remainderDiv (dividend I L T P n) (divisor T)) (divisor T)
 component-before I L T P n h =
     let W = pos ((T - n) * (T - n)) *ℤ slopeOf T P n in
     rw (component-is I L T P n (W over divisor T) (simp (lt-ltb n T h) refl)) (parts-more L ((I -ℤ L) *ℤ W) (divisor T) (divisor-proper T (omega arith)))
@@ -71,18 +70,13 @@ component-small c n h = by (decLt n (c .period))
   where
     by : Dec (n < c .period) → SmallParts (mixedOf (componentOf c n))
     by (yes l) =
-        let excess = c .initial -ℤ c .long in
-        let slope = slopeOf (c .period) (c .remaining) n in
-        let left = c .period - n in
-        let dividend = excess *ℤ (pos (left * left) *ℤ slope) in
-        let excess-small = excess-abs (c .initial) (c .long) (h .initial) (h .long) in
-        let slope-small = slope-abs (c .period) (c .remaining) n (h .period-high) (h .remaining) (omega arith) in
-        let dividend-small = weighted-abs excess left slope excess-small (omega (arith, h .period-high)) slope-small in
-        let q = floorDiv dividend (divisor (c .period)) in
+        let a = dividend (c .initial) (c .long) (c .period) (c .remaining) n in
+        let q = floorDiv a (divisor (c .period)) in
+        let small = dividend-abs (c .initial) (c .long) (c .period) (c .remaining) n h (omega arith) in
         rw (component-before (c .initial) (c .long) (c .period) (c .remaining) n l)
         record {
-          whole = omega (arith, natAbs-add (c .long) q, floor-abs dividend (divisor (c .period)), h .long, dividend-small);
-          remainder = remainder-small dividend (divisor (c .period)) (divisor-proper (c .period) (h .period-low));
+          whole = omega (arith, natAbs-add (c .long) q, floor-abs a (divisor (c .period)), h .long, small);
+          remainder = remainder-small a (divisor (c .period)) (divisor-proper (c .period) (h .period-low));
           divisor = divisor-small (c .period) (h .period-high);
         }
     by (no l) =

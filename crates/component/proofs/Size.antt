@@ -1,11 +1,12 @@
 -- How large what goes into a component is: nothing passes 64 bits. Assumes nothing.
 use mathlib.Core.Path.{_≡_}
-use Prim.Native.Nat.{ℕ, _+_, _*_, _≤_, _<_}
+use Prim.Native.Nat.{ℕ, _+_, _*_, _-_, _≤_, _<_}
 use native.Mathlib.Omega.{arith}
 use native.Mathlib.Nat.{mul-le-mul, mul-pos}
 use lib.IntN.{ℤ, pos, natAbs, negℤ, _-ℤ_, _*ℤ_}
 use Rattle.arithmetic.proofs.Difference.{ring, ⊖-eq, ⊖-abs, natAbs-mul, natAbs-add, natAbs-neg}
-use Rattle.component.specs.Component.{slopeOf}
+use Rattle.component.specs.Component.{slopeOf, terms}
+use Rattle.basis.specs.Basis.{ConvergenceLimits}
 
 -- 400,000,000 × 2,500 × 55,000: no dividend of a component is larger
 abbrev pub most : ℕ
@@ -45,3 +46,11 @@ inner-abs k s h l = omega (arith, natAbs-mul (pos (k * k)) s, mul-le-mul {n₂ =
 pub weighted-abs : (d : ℤ) (k : ℕ) (s : ℤ) → natAbs d ≤ 400_000_000 → k ≤ 50 → natAbs s ≤ 55_000 → natAbs (d *ℤ (pos (k * k) *ℤ s)) ≤ most
 weighted-abs d k s f g h =
     omega (arith, natAbs-mul d (pos (k * k) *ℤ s), mul-le-mul {n₂ = 400_000_000} {m₂ = 137_500_000} f (inner-abs k s g h))
+
+-- ---- the dividend over 100T³
+abbrev pub dividend : ℤ → ℤ → ℕ → ℕ → ℕ → ℤ
+dividend I L T P n = (I -ℤ L) *ℤ (pos ((T - n) * (T - n)) *ℤ slopeOf T P n)
+
+pub dividend-abs : (I L : ℤ) (T P n : ℕ) → ConvergenceLimits (terms I L T P) → n ≤ T → natAbs (dividend I L T P n) ≤ most
+dividend-abs I L T P n h l =
+    weighted-abs (I -ℤ L) (T - n) (slopeOf T P n) (excess-abs I L (h .initial) (h .long)) (omega (arith, h .period-high)) (slope-abs T P n (h .period-high) (h .remaining) l)

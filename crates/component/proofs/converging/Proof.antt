@@ -1,8 +1,8 @@
 -- Before T the code divides the definition's dividend by its divisor, and both fit; from T on both give L and no remainder.
 use mathlib.Core.Path.{_≡_, _∙_, ap, sym}
-use Prim.Native.Nat.{_*_, _-_, _≤_, _<_}
+use Prim.Native.Nat.{_≤_, _<_}
 use native.Mathlib.Omega.{arith}
-use lib.IntN.{ℤ, pos, natAbs, _+ℤ_, _-ℤ_, _*ℤ_}
+use lib.IntN.{ℤ, natAbs, _+ℤ_, _-ℤ_}
 use mir.Syntax.{w64}
 use mir.Val.{toZ, ofZ, SFits}
 use mir.Facts.{toZ-ofZ}
@@ -16,21 +16,18 @@ use Rattle.arithmetic.proofs.Rounding.{floor-abs}
 use Rattle.arithmetic.proofs.Machine.{sfits-abs, back, got}
 use Rattle.arithmetic.proofs.Remainders.{mixed}
 use Rattle.component.specs.Component.{slopeOf}
-use Rattle.component.proofs.Size.{excess-abs, slope-abs, square, cube, divisor, divisor-proper, most, weighted-abs}
+use Rattle.component.proofs.Size.{excess-abs, slope-abs, square, cube, divisor, divisor-proper, dividend, dividend-abs}
 use Rattle.component.proofs.Parts.{component-before, component-after}
 use Rattle.component.proofs.converging.Statement.{statement}
 use Rattle.component.proofs.converging.Tie as tie
 
--- the definition's dividend, at the place where the code has it
+-- the definition's slope and dividend, at the place where the code has them
 module _ (s : tie.Start) where
   slope-at : ℤ
   slope-at = slopeOf (s .args .period) (s .args .remaining) (s .args .years)
 
-  dividend : ℤ
-  dividend =
-      let a = s .args in
-      let left = a .period - a .years in
-      (a .initial -ℤ a .long) *ℤ (pos (left * left) *ℤ slopeOf (a .period) (a .remaining) (a .years))
+  dividend-at : ℤ
+  dividend-at = dividend (s .args .initial) (s .args .long) (s .args .period) (s .args .remaining) (s .args .years)
 
   excess-small : natAbs (s .args .initial -ℤ s .args .long) ≤ 400_000_000
   excess-small = excess-abs (s .args .initial) (s .args .long) (s .pre .initial) (s .pre .long)
@@ -39,16 +36,12 @@ module _ (s : tie.Start) where
   unfolding slope-at
   slope-small l = slope-abs (s .args .period) (s .args .remaining) (s .args .years) (s .pre .period-high) (s .pre .remaining) (omega arith)
 
-  dividend-small : s .args .years < s .args .period → natAbs dividend ≤ most
-  unfolding dividend slope-at
-  dividend-small l =
-      let a = s .args in
-      weighted-abs (a .initial -ℤ a .long) (a .period - a .years) slope-at excess-small (omega (arith, s .pre .period-high)) (slope-small l)
-
-  sum-fits : s .args .years < s .args .period → SFits w64 (s .args .long +ℤ floorDiv dividend (divisor (s .args .period)))
+  sum-fits : s .args .years < s .args .period → SFits w64 (s .args .long +ℤ floorDiv dividend-at (divisor (s .args .period)))
+  unfolding dividend-at
   sum-fits l =
       let a = s .args in
-      sfits-abs (omega (arith, natAbs-add (a .long) (floorDiv dividend (divisor (s .args .period))), floor-abs dividend (divisor (s .args .period)), dividend-small l, s .pre .long))
+      let small = dividend-abs (a .initial) (a .long) (a .period) (a .remaining) (a .years) (s .pre) (omega arith) in
+      sfits-abs (omega (arith, natAbs-add (a .long) (floorDiv dividend-at (divisor (a .period))), floor-abs dividend-at (divisor (a .period)), small, s .pre .long))
 
 -- what the calls gave, read back
 excess-is : (c : tie.After-excess) → let a = c .before .before .args in toZ w64 (ofZ w64 (c .excess .result)) ≡ a .initial -ℤ a .long
@@ -60,12 +53,12 @@ slope-is : (c : tie.After-slope) → toZ w64 (ofZ w64 (c .slope .result)) ≡ sl
 unfolding slope-at
 slope-is c = got w64 (c .slope .ok) (c .slope .ensures)
 
-dividend-is : (c : tie.After-weighted) → toZ w64 (ofZ w64 (c .weighted .result)) ≡ dividend (c .before .before .before .before)
-unfolding dividend slope-at
+dividend-is : (c : tie.After-weighted) → toZ w64 (ofZ w64 (c .weighted .result)) ≡ dividend-at (c .before .before .before .before)
+unfolding dividend-at slope-at
 dividend-is c = got w64 (c .weighted .ok) (rw (excess-is (c .before .before), slope-is (c .before)) at (c .weighted .ensures))
 
 share-is : (c : tie.After-divide) → let s = c .before .before .before .before .before in
-    c .divide .result ≡ mixedOf (dividend s over divisor (s .args .period))
+    c .divide .result ≡ mixedOf (dividend-at s over divisor (s .args .period))
 share-is c = rw (dividend-is (c .before)) at (c .divide .ensures)
 
 -- the whole part before it is built in
@@ -75,7 +68,7 @@ long-is c =
     got w64 (w .wide .ok) (w .wide .ensures ∙ toZ-ofZ (w .before .before .before .before .before .before .fits .long))
 
 quotient-is : (c : tie.After-struct-told) → let s = c .before .before .before .before .before .before .before .before in
-    toZ w64 (ofZ w64 (c .before .before .before .divide .result .whole)) ≡ floorDiv (dividend s) (divisor (s .args .period))
+    toZ w64 (ofZ w64 (c .before .before .before .divide .result .whole)) ≡ floorDiv (dividend-at s) (divisor (s .args .period))
 quotient-is c =
     let d = c .before .before .before in
     back w64 (d .divide .result .whole) (c .struct-told .given .0 .1) ∙ ap (λ (m : Mixed). m .whole) (share-is d)
@@ -118,12 +111,12 @@ wide-requires-2 : tie.Need-wide-requires-2
 wide-requires-2 c κs = search needs
 
 returns : tie.Need-returns
-unfolding dividend
+unfolding dividend-at
 returns c =
     let d = c .before .before .before in
     let s = d .before .before .before .before .before in
     let a = s .args in
-    let q = floorDiv (dividend s) (divisor (s .args .period)) in
+    let q = floorDiv (dividend-at s) (divisor (s .args .period)) in
     let whole : toZ w64 (ofZ w64 (toZ w64 (ofZ w64 (c .before .before .wide .result)) +ℤ toZ w64 (ofZ w64 (d .divide .result .whole)))) ≡ a .long +ℤ q = rw (long-is c, quotient-is c) (toZ-ofZ (sum-fits s (omega arith))) in
     ap (λ (z : ℤ). mixed z (d .divide .result .remainder) (divisor (s .args .period))) whole
     ∙ ap (λ (m : Mixed). mixed (a .long +ℤ q) (m .remainder) (divisor (s .args .period))) (share-is d)
