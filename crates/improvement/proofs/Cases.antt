@@ -10,7 +10,7 @@ use lib.Dec.{ltb, leb}
 use lib.IntN.{ℤ, pos, negsuc, natAbs, _+ℤ_}
 use lib.Signed.{leZ}
 use borrow.Author.Tests.{lt-ltb, le-ltb, leb-true, leb-false, le-leb, lt-leb}
-use Rattle.arithmetic.specs.Fraction.{_over_, _+ᶠ_, round}
+use Rattle.arithmetic.specs.Fraction.{_+ᶠ_, round}
 use Rattle.basis.specs.Basis.{Basis, basisOf, ConvergenceLimits}
 use Rattle.history.specs.History.{actualOf, basisWith, AcceptedWith}
 use Rattle.basis.specs.Outcome.{value, refused, refusal}
@@ -50,21 +50,21 @@ pub first-from : (b : Basis) → b .foundation ≤ b .base → firstYear b ≡ b
 unfolding firstYear
 first-from b h = rw (le-ltb (b .base) (b .foundation) h)
 
+-- what holds of it in either case holds of it
+first-case : (b : Basis) (P : ℕ → Type 0) → (b .base < b .foundation → P (b .base + 1)) → (b .foundation ≤ b .base → P (b .foundation)) → P (firstYear b)
+first-case b P h k = by (decLt (b .base) (b .foundation))
+  where
+    by : Dec (b .base < b .foundation) → P (firstYear b)
+    by (yes l) = rw (first-before b l) (h l)
+    by (no l) = rw (first-from b (omega arith)) (k (omega arith))
+
 -- no later than B + 1
 pub first-early : (b : Basis) → firstYear b ≤ b .base + 1
-first-early b = by (decLt (b .base) (b .foundation))
-  where
-    by : Dec (b .base < b .foundation) → firstYear b ≤ b .base + 1
-    by (yes l) = rw (first-before b l) (omega arith)
-    by (no l) = rw (first-from b (omega arith)) (omega arith)
+first-early b = first-case b (λ n. n ≤ b .base + 1) (λ l. omega arith) (λ l. omega arith)
 
 -- no earlier than 1992 where neither F nor B is
 pub first-late : (b : Basis) → 1992 ≤ b .foundation → 1992 ≤ b .base → 1992 ≤ firstYear b
-first-late b h k = by (decLt (b .base) (b .foundation))
-  where
-    by : Dec (b .base < b .foundation) → 1992 ≤ firstYear b
-    by (yes l) = rw (first-before b l) (omega arith)
-    by (no l) = rw (first-from b (omega arith)) (omega arith)
+first-late b h k = first-case b (λ n. 1992 ≤ n) (λ l. omega arith) (λ l. h)
 
 -- ---- actual and projected years
 with-false : (t : Bool) → (t && false) ≡ false
@@ -131,10 +131,6 @@ usable-high (negsuc n) h = sym (le-leb (suc n) 500_000_000 (omega (arith, leb-tr
 pub usable-low : (i : ℤ) → leZ (negsuc 499_999_999) i ≡ false → leZ (negsuc 499_999_999) i ≡ usable i
 usable-low (pos n) h = let z : _≡_ {A = ℕ} 0 1 = cc in absurd (omega arith)
 usable-low (negsuc n) h = h ∙ sym (lt-leb (suc n) 500_000_000 (omega (arith, leb-false n 499_999_999 h)))
-
--- its edges: an exact 500,000,000.4 stands, −500,000,000.5 goes up and stands, 500,000,000.5 goes up and beyond
-pub edges : (usable (round (pos 2_500_000_002 over 5)) ≡ true) × (usable (round (negsuc 1_000_000_000 over 2)) ≡ true) × (usable (round (pos 1_000_000_001 over 2)) ≡ false)
-edges = (refl, refl, refl)
 
 pub usable-abs : (i : ℤ) → usable i ≡ true → natAbs i ≤ 500_000_000
 usable-abs i h = leb-true (natAbs i) 500_000_000 h

@@ -1,6 +1,7 @@
 -- A component's parts give the component back, and the rounded sum lies far within 64 bits, so that the sum with the addition is the
 -- integers' own.
-use mathlib.Core.Path.{_≡_, _∙_, ap}
+use mathlib.Core.Path.{_≡_, _∙_}
+use Prim.Native.Nat.{_<_}
 use native.Mathlib.Omega.{arith}
 use lib.IntN.{ℤ, _+ℤ_}
 use mir.Syntax.{w64}
@@ -12,7 +13,7 @@ use Rattle.arithmetic.specs.MixedNumbers.{mixedOf, fractionOf}
 use Rattle.arithmetic.specs.declared.Mixed.{Mixed}
 use Rattle.arithmetic.proofs.Difference.{natAbs-add}
 use Rattle.arithmetic.proofs.Machine.{got, sfits-abs, abs-fits}
-use Rattle.arithmetic.proofs.Remainders.{fraction-of-parts, sum-abs}
+use Rattle.arithmetic.proofs.Remainders.{sum-of-parts, sum-abs}
 use Rattle.component.specs.Component.{componentOf}
 use Rattle.component.proofs.Parts.{SmallParts, component-proper, component-small}
 use Rattle.improvement.proofs.improvement_from.Statement.{statement}
@@ -26,6 +27,14 @@ module _ (s : tie.Start) where
   by-birth : Fraction
   by-birth = componentOf (s .args .birth) (s .args .years)
 
+  age-proper : 0 < by-age .den
+  unfolding by-age
+  age-proper = component-proper (s .args .attained) (s .args .years) (s .pre .0 .period-low)
+
+  birth-proper : 0 < by-birth .den
+  unfolding by-birth
+  birth-proper = component-proper (s .args .birth) (s .args .years) (s .pre .1 .period-low)
+
   rounded : ℤ
   rounded = round (by-age +ᶠ by-birth)
 
@@ -35,27 +44,21 @@ module _ (s : tie.Start) where
       let a = s .args in
       let age = component-small (a .attained) (a .years) (s .pre .0) in
       let birth = component-small (a .birth) (a .years) (s .pre .1) in
-      let sum = sum-abs by-age by-birth (component-proper (a .attained) (a .years) (s .pre .0 .period-low)) (component-proper (a .birth) (a .years) (s .pre .1 .period-low)) in
+      let sum = sum-abs by-age by-birth age-proper birth-proper in
       sfits-abs (omega (arith, natAbs-add rounded (a .addition), abs-fits (s .fits .addition), sum, age .whole, birth .whole))
 
 -- the parts that a call gave are small, and are those of the fraction
 small-of : {m n : Mixed} → m ≡ n → SmallParts n → SmallParts m
 small-of e h = rw e h
 
-sum-of : {m n : Mixed} {p q : Fraction} → m ≡ mixedOf p → n ≡ mixedOf q → fractionOf (mixedOf p) ≡ p → fractionOf (mixedOf q) ≡ q →
-    round (fractionOf m +ᶠ fractionOf n) ≡ round (p +ᶠ q)
-sum-of {p = p} {q = q} e f h k =
-    rw (e, f)
-    (ap (λ (x : Fraction). round (x +ᶠ fractionOf (mixedOf q))) h ∙ ap (λ (x : Fraction). round (p +ᶠ x)) k)
+sum-of : {m n : Mixed} (p q : Fraction) → m ≡ mixedOf p → n ≡ mixedOf q → 0 < p .den → 0 < q .den → round (fractionOf m +ᶠ fractionOf n) ≡ round (p +ᶠ q)
+sum-of p q e f h k = rw (e, f) (sum-of-parts p q h k)
 
 sum-is : (c : tie.After-round-sum) → toZ w64 (ofZ w64 (c .round-sum .result)) ≡ rounded (c .before .before .before)
 unfolding by-age by-birth rounded
 sum-is c =
     let s = c .before .before .before in
-    let a = s .args in
-    let age = fraction-of-parts (by-age s) (component-proper (a .attained) (a .years) (s .pre .0 .period-low)) in
-    let birth = fraction-of-parts (by-birth s) (component-proper (a .birth) (a .years) (s .pre .1 .period-low)) in
-    got w64 (c .round-sum .ok) (c .round-sum .ensures ∙ sum-of (c .before .before .component .ensures) (c .before .component2 .ensures) age birth)
+    got w64 (c .round-sum .ok) (c .round-sum .ensures ∙ sum-of (by-age s) (by-birth s) (c .before .before .component .ensures) (c .before .component2 .ensures) (age-proper s) (birth-proper s))
 
 addition-is : (c : tie.After-wide) → toZ w64 (ofZ w64 (c .wide .result)) ≡ c .before .before .before .before .args .addition
 addition-is c = got w64 (c .wide .ok) (c .wide .ensures ∙ toZ-ofZ (c .before .before .before .before .fits .addition))
