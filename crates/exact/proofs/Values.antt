@@ -21,8 +21,9 @@ use Rattle.exact.specs.Distance.{ImprovingOver, WithinQuarters}
 use Rattle.exact.proofs.Survivors.{survived}
 use Rattle.exact.proofs.Discount.{Discounted}
 
-quarters : {v : ℤ} {q : Fraction} {m : ℕ} (r : ℕ) → Within v q m → 2 * m ≤ r → WithinQuarters v q r
-quarters {q = q} r h k = record { proper = h .proper; near = omega (arith, h .near, mul-le-mul-right (q .den) k) }
+-- halves are two quarters each
+in-quarters : {v : ℤ} {q : Fraction} {m : ℕ} → Within v q m → WithinQuarters v q (2 * m)
+in-quarters {q = q} h = record { proper = h .proper; near = omega (arith, h .near) }
 
 pub quarters-more : {v : ℤ} {q : Fraction} {m n : ℕ} → WithinQuarters v q m → m ≤ n → WithinQuarters v q n
 quarters-more {q = q} h k = record { proper = h .proper; near = omega (arith, h .near, mul-le-mul-right (q .den) k) }
@@ -58,7 +59,8 @@ module _ (b : Basis) (kind : Kind) (age year deferment K : ℕ) (limits : Limite
       (omega arith))
       (w .0) (w .1) in
       let e : pos (U / 2) +ℤ w .0 ≡ a = cc in
-      quarters {m = 0 + sumℕ (λ k. m (1 + k)) n} _ (rw (← e) (within-sum (within-whole (pos (U / 2))) lives)) (omega (arith, rw one-more at (sum-tail m 1 n), sum-linear (2 * K + 2) 0 n))
+      quarters-more (in-quarters {m = 0 + sumℕ (λ k. m (1 + k)) n} (rw (← e) (within-sum (within-whole (pos (U / 2))) lives)))
+      (omega (arith, rw one-more at (sum-tail m 1 n), sum-linear (2 * K + 2) 0 n))
     where
       one-more : 1 + (150 - age - deferment) ≡ suc (150 - age - deferment)
       one-more = omega arith
@@ -85,4 +87,4 @@ module _ (b : Basis) (kind : Kind) (age year deferment K : ℕ) (limits : Limite
       let paid = total-within (λ k. paymentAfter b kind age year (deferment + k)) (λ k. exactPayment b kind age year (deferment + k)) (λ k. m (deferment + k)) (suc n)
       (λ k t l q. payment-within (deferment + k) t (omega arith) q) a h in
       let e : deferment + suc n ≡ suc (150 - age) = omega arith in
-      quarters _ paid (omega (arith, rw e at (sum-tail m deferment (suc n)), sum-linear (w * (2 * K + 3)) w (150 - age)))
+      quarters-more (in-quarters paid) (omega (arith, rw e at (sum-tail m deferment (suc n)), sum-linear (w * (2 * K + 3)) w (150 - age)))
