@@ -1,4 +1,3 @@
-mod Shares
 pub mod LongTerm
 mod Placing
 mod Checking

@@ -1,6 +1,6 @@
 -- The short form (01, "Short form"): a data run with one long-term rate S in place of its own long-term rates, periods and
 -- proportions.
-use Prim.Native.Nat.{ℕ, zero, suc, _+_, _*_, _-_, _≤_, min}
+use Prim.Native.Nat.{ℕ, zero, suc, _+_, _*_, _-_, _≤_}
 use mathlib.Core.Path.{_≡_}
 use mathlib.Core.List.{List, [], _++_}
 use lib.ListN.{take, drop, replicate}
@@ -19,9 +19,10 @@ unfoldable pub shortFormCheck : List ℕ → ℤ → Check
 shortFormCheck run rate = firstOf (runCheck run) (unless (between (negℤ (pos 200_000_000)) (pos 200_000_000) rate) (refusal 5 1078 0))
 
 -- ---- the rates by age
--- the share of S at an age, in thirtieths: max(0, min(30, 120 − age)), since a difference of natural numbers is 0 at the least
+-- the share of S at an age, in thirtieths: 30 less what the age exceeds 90 (02, change 4). A difference of natural numbers is 0 at
+-- the least, so that it is never below 0 nor above 30
 abbrev pub shareOf : ℕ → ℕ
-shareOf age = min 30 (120 - age)
+shareOf age = 30 - (age - 90)
 
 abbrev pub longTermOf : ℤ → ℕ → ℤ
 longTermOf rate age = roundDiv (rate *ℤ pos (shareOf age)) 30

@@ -1,149 +1,24 @@
 // The long-term rates by age: S to age 90, then a thirtieth of it less for each year, and 0 from 120 on.
 ghost use mathlib.Core.Path.{_≡_};
-ghost use Prim.Native.Nat.{_≤_};
+ghost use Prim.Native.Nat.{_-_, _≤_};
 ghost use lib.IntN.{natAbs};
 ghost use Rattle.short_form.specs.ShortForm.{shareOf, longTermOf};
 
-// The share of S at each age from 20 to 150, in thirtieths.
-const SHARES: [u8; 131] = [
-    30,
-    30,
-    30,
-    30,
-    30,
-    30,
-    30,
-    30,
-    30,
-    30,
-    30,
-    30,
-    30,
-    30,
-    30,
-    30,
-    30,
-    30,
-    30,
-    30,
-    30,
-    30,
-    30,
-    30,
-    30,
-    30,
-    30,
-    30,
-    30,
-    30,
-    30,
-    30,
-    30,
-    30,
-    30,
-    30,
-    30,
-    30,
-    30,
-    30,
-    30,
-    30,
-    30,
-    30,
-    30,
-    30,
-    30,
-    30,
-    30,
-    30,
-    30,
-    30,
-    30,
-    30,
-    30,
-    30,
-    30,
-    30,
-    30,
-    30,
-    30,
-    30,
-    30,
-    30,
-    30,
-    30,
-    30,
-    30,
-    30,
-    30,
-    30,
-    29,
-    28,
-    27,
-    26,
-    25,
-    24,
-    23,
-    22,
-    21,
-    20,
-    19,
-    18,
-    17,
-    16,
-    15,
-    14,
-    13,
-    12,
-    11,
-    10,
-    9,
-    8,
-    7,
-    6,
-    5,
-    4,
-    3,
-    2,
-    1,
-    0,
-    0,
-    0,
-    0,
-    0,
-    0,
-    0,
-    0,
-    0,
-    0,
-    0,
-    0,
-    0,
-    0,
-    0,
-    0,
-    0,
-    0,
-    0,
-    0,
-    0,
-    0,
-    0,
-    0,
-    0,
-    0,
-    0,
-    0,
-    0,
-    0,
-    0,
-];
+// The last age with all of S.
+const RUN_OFF_AGE: usize = 90;
 
-fn share(age: usize) -> u8
-    requires { ⌜ (20 ≤ age) × (age ≤ 150) ⌝ }
+// What one number exceeds another by, and 0 where it does not.
+fn saturating_sub(number: usize, other: usize) -> usize
+    ensures { λ r. ⌜ r ≡ number - other ⌝ }
+{
+    if number < other { 0 } else { number - other }
+}
+
+// The share of S at an age, in thirtieths: 30 less what the age exceeds 90, never below 0 nor above 30.
+fn share(age: usize) -> usize
     ensures { λ r. ⌜ r ≡ shareOf age ⌝ }
 {
-    SHARES[age - 20]
+    saturating_sub(30, saturating_sub(age, RUN_OFF_AGE))
 }
 
 // The long-term rate at an age.
