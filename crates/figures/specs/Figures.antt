@@ -1,5 +1,6 @@
 -- The figures that 01 marks to be proved ("Figures to prove"), as one table: what the definitions that the contracts cite give,
--- and what 01 states. Those of a component hold where the other component is zero (02, change 3).
+-- and what 01 states. Those of a component hold where the other component is zero (02, change 3). Last, what the CMI itself says of
+-- the run-off at high ages.
 use Prim.Native.Nat.{ℕ, _+_}
 use mathlib.Core.Path.{_≡_}
 use mathlib.Core.List.{List, [], _∷_, _++_, map}
@@ -22,9 +23,9 @@ infix 3 _gives_
 abbrev pub _gives_ : Outcome ℤ → Outcome ℤ → Figure
 w gives s = record { worked = w; stated = s }
 
--- the long-term rate of the short form at an age
-abbrev shortForm : ℕ → Outcome ℤ
-shortForm age = value (longTermOf (pos 10_000_000) age)
+-- the long-term rate of the short form at an age, from one rate S
+abbrev shortForm : ℤ → ℕ → Outcome ℤ
+shortForm S age = value (longTermOf S age)
 
 -- ---- the bases of the figures: F and B 2006, one base rate at every age, the same terms at every age and at every birth year
 abbrev level : ℕ → ℤ → ℤ → Convergence → Convergence → Basis
@@ -87,10 +88,10 @@ components alone =
 
 abbrev others : List Figure
 others =
-    (shortForm 90 gives value (pos 10_000_000))
-    ∷ (shortForm 91 gives value (pos 9_666_667))
-    ∷ (shortForm 119 gives value (pos 333_333))
-    ∷ (shortForm 120 gives value (pos 0))
+    (shortForm (pos 10_000_000) 90 gives value (pos 10_000_000))
+    ∷ (shortForm (pos 10_000_000) 91 gives value (pos 9_666_667))
+    ∷ (shortForm (pos 10_000_000) 119 gives value (pos 333_333))
+    ∷ (shortForm (pos 10_000_000) 120 gives value (pos 0))
     ∷ (factorOf improving 60 2007 gives value (pos 990_000_000))
     ∷ (factorOf improving 60 2008 gives value (pos 980_100_000))
     ∷ (factorOf improving 60 2009 gives value (pos 970_299_000))
@@ -105,8 +106,15 @@ others =
     ∷ (annuityOf tenth Cohort 149 2006 0 gives value (pos 1_750_000_000))
     ∷ []
 
+-- a long-term rate of 1.5 per cent, with the pattern of 003, A.2.1, is 1 per cent at age 100 (001, 5.2)
+abbrev highAges : List Figure
+highAges =
+    (shortForm (pos 15_000_000) 90 gives value (pos 15_000_000))
+    ∷ (shortForm (pos 15_000_000) 100 gives value (pos 10_000_000))
+    ∷ []
+
 abbrev pub figures : List Figure
-figures = components byAgeAlone ++ components byBirthYearAlone ++ others
+figures = components byAgeAlone ++ components byBirthYearAlone ++ others ++ highAges
 
 -- every row gives what is stated
 abbrev pub Hold : List Figure → Type 0
