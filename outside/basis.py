@@ -123,7 +123,11 @@ def write_file(run, output_length=FILE_LENGTH):
 
 # ---- the short form and the tables
 
-SHARES = tuple(max(0, min(30, 120 - age)) for age in AGES)  # thirtieths of S, one for each age
+def long_term_rate_at(age, long_term_rate):
+    """S to age 90, running off by thirtieths from 91 to 119, and 0 from 120."""
+    if age <= 90:
+        return long_term_rate
+    return rounded(long_term_rate * (120 - age), 30) if age < 120 else 0
 
 
 def short_form(run, long_term_rate, output_length=RUN_LENGTH):
@@ -133,7 +137,7 @@ def short_form(run, long_term_rate, output_length=RUN_LENGTH):
     if not -RATE_LIMIT <= long_term_rate <= RATE_LIMIT:
         raise Refusal(5, LONG_TERM_OFFSET)
     fields = dict(vars(decode(run)))
-    fields["age_long_term_rates"] = tuple(rounded(long_term_rate * share, 30) for share in SHARES)
+    fields["age_long_term_rates"] = tuple(long_term_rate_at(age, long_term_rate) for age in AGES)
     fields["cohort_long_term_rates"] = (0,) * len(BIRTH_YEARS)
     for kind, count in (("age", len(AGES)), ("cohort", len(BIRTH_YEARS))):
         fields[kind + "_convergence_periods"] = (20,) * count

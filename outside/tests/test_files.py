@@ -3,14 +3,14 @@
 import unittest
 
 from outside.bases import limits_basis, named_bases, random_basis, realistic
-from outside.basis import (SHARES, check_file, check_run, decode, encode, encode_file, read_file,
-                           short_form, table, write_file)
+from outside.basis import (check_file, check_run, decode, encode, encode_file, long_term_rate_at,
+                           read_file, short_form, table, write_file)
 from outside.blocks import joined_data
 from outside.damage import damaged_runs, with_number
 from outside.damaged_files import damaged_files
 from outside.layout import FILE_LENGTH, RUN_LENGTH, TABLES
 from outside.refusals import Refusal, outcome
-from outside.units import AGES
+from outside.units import AGES, rounded
 
 RUN = encode(realistic())
 FILE = encode_file(RUN)
@@ -65,10 +65,14 @@ class Damages(unittest.TestCase):
 
 
 class ShortForm(unittest.TestCase):
-    def test_shares_are_a_table_of_131(self):
-        self.assertEqual(len(SHARES), 131)
-        self.assertEqual([SHARES[age - 20] for age in (20, 90, 91, 119, 120, 150)],
+    def test_shares_by_their_formula(self):
+        """02, change 4: 30 less what the age exceeds 90, never below 0 nor above 30."""
+        shares = [min(30, max(0, 30 - (age - 90))) for age in AGES]
+        self.assertEqual([shares[age - 20] for age in (20, 90, 91, 119, 120, 150)],
                          [30, 30, 29, 1, 0, 0])
+        for rate in (1, -1, 15, -15, 10_000_000, -7_777_777, 200_000_000, -200_000_000):
+            self.assertEqual([long_term_rate_at(age, rate) for age in AGES],
+                             [rounded(rate * share, 30) for share in shares])
 
     def test_only_long_term_rates_and_courses_differ(self):
         before, after = decode(RUN), decode(short_form(RUN, -7_000_001))

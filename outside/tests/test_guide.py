@@ -1,6 +1,7 @@
 """Statements of the CMI_2009 User Guide (003) that can be reproduced.
 
-Its cubic (5.2.5, B.3.4) and its high-age run-off (A.2.1) are held exactly.
+Its cubic (5.2.5, B.3.4) and its high-age run-off (A.2.1) are held exactly, the latter also at what
+a later paper of the CMI's (001) says of it.
 Appendix B speaks of the guide's own tables for males, which are no part of this project. Its
 statements of direction and size are held here as loose bounds on the realistic synthetic basis of
 `outside.bases`, at the guide's discount of 5 per cent.
@@ -58,6 +59,12 @@ class HighAges(unittest.TestCase):
         shortened = decode(short_form(encode(realistic()), 3 * ONE_PER_CENT))
         for age, rate in zip(AGES, shortened.age_long_term_rates):
             self.assertEqual(rate, 3 * ONE_PER_CENT * min(30, max(0, 120 - age)) // 30)
+
+    def test_centenarians(self):
+        """001, 5.2, of the same pattern: 1.5 per cent is 1 per cent at age 100."""
+        shortened = decode(short_form(encode(realistic()), 3 * ONE_PER_CENT // 2))
+        rates = dict(zip(AGES, shortened.age_long_term_rates))
+        self.assertEqual((rates[90], rates[100]), (3 * ONE_PER_CENT // 2, ONE_PER_CENT))
 
 
 # ---- Appendix B
