@@ -220,6 +220,8 @@ static void check_short_forms(void) {
     HOLDS(all(out + 2940, 1076, 0));
     HOLDS(all(out + 4016, 269, 20) && all(out + 4285, 269, 50));
 
+    HOLDS(passed(parvusek_short_form(run, RUN, 15000000, out, RUN)));
+    HOLDS(long_term(out, 90) == 15000000 && long_term(out, 100) == 10000000);
     HOLDS(passed(parvusek_short_form(run, RUN, -1, out, RUN)));
     HOLDS(long_term(out, 91) == -1 && long_term(out, 105) == 0);
 }
