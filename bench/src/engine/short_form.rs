@@ -4,30 +4,12 @@ use super::layout::*;
 use super::refusal::Refusal;
 use super::units::rounded;
 
-/// Thirtieths of the long-term rate at each age: 30 to age 90, none from 120.
-const SHARES: [u8; AGES] = shares();
-
-const fn shares() -> [u8; AGES] {
-    let mut shares = [0; AGES];
-    let mut index = 0;
-    while index < AGES {
-        let age = FIRST_AGE as usize + index;
-        shares[index] = if age <= 90 {
-            30
-        } else if age < 120 {
-            120 - age as u8
-        } else {
-            0
-        };
-        index += 1;
-    }
-    shares
-}
-
 const PERIOD: u8 = 20;
 const PROPORTION: u8 = 50;
 
-fn long_term_rate_at(share: u8, long_term_rate: i32) -> i32 {
+/// All of the long-term rate to age 90, a thirtieth of it less for each year after, nothing from 120.
+fn long_term_rate_at(age: u32, long_term_rate: i32) -> i32 {
+    let share = 120 - age.clamp(90, 120);
     // no larger than the long-term rate itself, so it fits
     rounded(i64::from(long_term_rate) * i64::from(share), 30) as i32
 }
@@ -41,8 +23,8 @@ pub fn short_form(run: &[u8], long_term_rate: i32, out: &mut [u8]) -> Result<(),
         return Err(Refusal::field(AGE_LONG_TERM));
     }
     out.copy_from_slice(run);
-    for (entry, &share) in out[AGE_LONG_TERM..AGE_PERIODS].chunks_exact_mut(4).zip(&SHARES) {
-        entry.copy_from_slice(&long_term_rate_at(share, long_term_rate).to_le_bytes());
+    for (entry, age) in out[AGE_LONG_TERM..AGE_PERIODS].chunks_exact_mut(4).zip(FIRST_AGE..) {
+        entry.copy_from_slice(&long_term_rate_at(age, long_term_rate).to_le_bytes());
     }
     out[AGE_PERIODS..AGE_PROPORTIONS].fill(PERIOD);
     out[AGE_PROPORTIONS..BIRTH_INITIAL].fill(PROPORTION);
@@ -58,8 +40,9 @@ mod tests {
 
     #[test]
     fn the_rates_of_01() {
-        let at = |age: u32| long_term_rate_at(SHARES[(age - FIRST_AGE) as usize], 10_000_000);
+        let at = |age| long_term_rate_at(age, 10_000_000);
         assert_eq!([20, 90, 91, 119, 120, 150].map(at), [10_000_000, 10_000_000, 9_666_667, 333_333, 0, 0]);
-        assert_eq!(long_term_rate_at(15, -1), 0); // a tie goes up
+        assert_eq!(long_term_rate_at(100, 15_000_000), 10_000_000);
+        assert_eq!(long_term_rate_at(105, -1), 0); // a tie goes up
     }
 }
