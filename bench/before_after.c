@@ -23,6 +23,12 @@ static parvusek_answer_t check(uint32_t age)
     parvusek_answer_t answer = { parvusek_check_basis(run, RUN), age };
     return answer;
 }
+static parvusek_answer_t short_form(uint32_t age)
+{
+    static uint8_t out[RUN];
+    parvusek_answer_t answer = { parvusek_short_form(run, RUN, 200000 * (int32_t)age, out, RUN), age };
+    return answer;
+}
 static parvusek_answer_t factor_40(uint32_t age) { return parvusek_factor(run, RUN, NULL, 0, age, base_year + 40); }
 static parvusek_answer_t factor_last(uint32_t age) { return parvusek_factor(run, RUN, NULL, 0, age, 2130); }
 static parvusek_answer_t period(uint32_t age) { return parvusek_period_annuity(run, RUN, NULL, 0, age, 0, base_year + 4); }
@@ -30,6 +36,7 @@ static parvusek_answer_t cohort(uint32_t age) { return parvusek_cohort_annuity(r
 
 static const struct { const char *name; parvusek_answer_t (*call)(uint32_t age); } works[] = {
     { "checking a basis", check },
+    { "short form", short_form },
     { "factor, 40 years on", factor_40 },
     { "factor, to 2130", factor_last },
     { "period annuity, ages 60 to 79", period },

@@ -4,7 +4,7 @@ use parvusek_bench::bases::{Draft, draft::Component, files, histories};
 use parvusek_bench::engine::layout::*;
 use parvusek_bench::engine::sets::{self, GRID, Record};
 use parvusek_bench::engine::valuation::Kind;
-use parvusek_bench::engine::{enquiries, file};
+use parvusek_bench::engine::{enquiries, file, short_form};
 use parvusek_bench::ffi::{self, Question, Questions};
 use parvusek_bench::timing::{Timing, race, race_cold};
 use std::env;
@@ -143,6 +143,15 @@ fn read<'a>(file: &'a [u8]) -> Case<'a> {
     )
 }
 
+fn shorten<'a>(run: &'a [u8]) -> Case<'a> {
+    let (mut lent, mut own) = ([0; RUN_LENGTH], [0; RUN_LENGTH]);
+    case(
+        "short form",
+        move || done(ffi::short_form(black_box(run), black_box(15_000_000), black_box(&mut lent))),
+        move || done(short_form::short_form(black_box(run), black_box(15_000_000), black_box(&mut own))),
+    )
+}
+
 fn cases<'a>(lent: Lent<'a>, file: &'a [u8]) -> Vec<Case<'a>> {
     let run = lent.run;
     let mut cases = vec![
@@ -152,6 +161,7 @@ fn cases<'a>(lent: Lent<'a>, file: &'a [u8]) -> Vec<Case<'a>> {
             move || done(enquiries::check_basis(black_box(run))),
         ),
         read(file),
+        shorten(run),
         cell(lent, "factor", 40, ffi::factor, enquiries::factor),
         cell(lent, "factor", 124, ffi::factor, enquiries::factor),
         cell(lent, "rate", 40, ffi::rate, enquiries::rate),
@@ -259,7 +269,7 @@ fn cold(settings: &Settings) {
         black_box(sum);
     };
     title(settings, "Data caches cleared before each call (64 MiB of other data read):");
-    for mut case in cases(Lent::new(&draft, &[]), &file).into_iter().take(5) {
+    for mut case in cases(Lent::new(&draft, &[]), &file).into_iter().take(6) {
         let timing = race_cold(settings.rounds.min(60), &clear, &mut *case.proved, &mut *case.rust);
         print(settings, &case.name, &timing);
     }
