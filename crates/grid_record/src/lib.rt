@@ -18,7 +18,7 @@ pub struct Point {
 }
 
 // The record with its question unchanged, and an answer in place of what it held.
-fn recorded(p: Point, a: PointAnswer) -> Point
+pub fn recorded(p: Point, a: PointAnswer) -> Point
     ensures { λ r. ⌜ r ≡ recordOf p a ⌝ }
 {
     let results = a.results;

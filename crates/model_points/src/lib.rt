@@ -25,7 +25,7 @@ pub struct PointAnswer {
     pub refusal: Refusal,
 }
 
-fn refused_point(refusal: Refusal) -> PointAnswer
+pub fn refused_point(refusal: Refusal) -> PointAnswer
     ensures { λ r. ⌜ r ≡ pointAnswerOf (refused refusal) ⌝ }
 {
     PointAnswer {
@@ -35,7 +35,7 @@ fn refused_point(refusal: Refusal) -> PointAnswer
 }
 
 // The four results in their order: the first refusal of the four decides.
-fn four(first: Answer, second: Answer, third: Answer, fourth: Answer) -> PointAnswer
+pub fn four(first: Answer, second: Answer, third: Answer, fourth: Answer) -> PointAnswer
     ensures { λ r. ⌜ r ≡ pointAnswerOf (fourOf (meaning first) (meaning second) (meaning third) (meaning fourth)) ⌝ }
 {
     match first {

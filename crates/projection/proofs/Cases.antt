@@ -7,6 +7,7 @@ use native.Mathlib.Decide.{decLt}
 use lib.IntN.{ℤ, pos}
 use lib.Signed.{leZ}
 use borrow.Author.Tests.{lt-ltb, le-ltb, le-leb, lt-leb}
+use Rattle.basis.specs.declared.Refusal.{Refusal}
 use Rattle.basis.specs.Outcome.{value, refused, andThen, refusal}
 use Rattle.improvement.specs.Improvement.{usable, improvementNeeded}
 use Rattle.improvement.proofs.Cases.{needed-usable, needed-beyond}
@@ -43,6 +44,19 @@ module _ (age year : ℕ) (i f : ℤ) where
       by true p false q k = let z : _≡_ {A = ℕ} 0 1 = cc in absurd (omega arith)
       by false p t q k = let z : _≡_ {A = ℕ} 0 1 = cc in absurd (omega arith)
 
+  -- a year that is refused: its number is 9 or 10, and its places are the age and the year
+  pub year-refused : (r : Refusal) → factorFrom age year i f ≡ refused r → (n : ℕ) × (r ≡ refusal n age year) × (0 < n) × (n ≤ 10)
+  unfolding factorFrom improvementNeeded factorNeeded
+  year-refused r h = by (usable i) (leZ (factorNext f i) (pos 4_000_000_000)) refl h
+    where
+      by : (s t : Bool) → leZ (factorNext f i) (pos 4_000_000_000) ≡ t →
+          andThen (cond s (value i) (refused (refusal 9 age year)))
+          (λ j. cond (leZ (factorNext f j) (pos 4_000_000_000)) (value (factorNext f j)) (refused (refusal 10 age year))) ≡ refused r →
+          (n : ℕ) × (r ≡ refusal n age year) × (0 < n) × (n ≤ 10)
+      by true true q k = let z : _≡_ {A = ℕ} 0 1 = cc in absurd (omega arith)
+      by true false q k = let e : r ≡ refusal 10 age year = cc in (10, e, omega arith, omega arith)
+      by false t q k = let e : r ≡ refusal 9 age year = cc in (9, e, omega arith, omega arith)
+
 -- ---- the held year
 pub held-before : (year : ℕ) → year < 2130 → heldYear year ≡ year
 unfolding heldYear
@@ -51,6 +65,13 @@ held-before year h = rw (lt-ltb year 2130 h)
 pub held-after : (year : ℕ) → 2130 ≤ year → heldYear year ≡ 2130
 unfolding heldYear
 held-after year h = rw (le-ltb year 2130 h)
+
+pub held-until : (year : ℕ) → year ≤ 2130 → heldYear year ≡ year
+held-until year h = by (decLt year 2130)
+  where
+    by : Dec (year < 2130) → heldYear year ≡ year
+    by (yes l) = held-before year l
+    by (no l) = held-after year (omega arith) ∙ omega arith
 
 pub held-late : (year : ℕ) → heldYear year ≤ 2130
 held-late year = by (decLt year 2130)

@@ -45,7 +45,7 @@ fn factor_from(age: u32, year: u32, improvement: i64, factor: u64) -> Answer
 }
 
 // The same at an age whose terms the caller has read.
-fn factor_in(
+pub fn factor_in(
     run: &[u8],
     history: &[u8],
     terms: Convergence,
@@ -65,7 +65,7 @@ fn factor_in(
 }
 
 // After 2130 the factor of 2130 is held.
-fn held_year(year: u32) -> u32
+pub fn held_year(year: u32) -> u32
     ensures { λ r. ⌜ r ≡ heldYear year ⌝ }
 {
     if year < 2130 { year } else { 2130 }

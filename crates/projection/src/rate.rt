@@ -12,7 +12,7 @@ use basis::Answer;
 const UNIT: u64 = 1_000_000_000;
 
 // The lesser of U and the base rate times the factor.
-fn rate_from(run: &[u8], age: u32, factor: u64) -> u64
+pub fn rate_from(run: &[u8], age: u32, factor: u64) -> u64
     requires { ⌜ Accepted (now run) × (20 ≤ age) × (age ≤ 150) × (factor ≤ 4_000_000_000) ⌝ }
     ensures { λ r. ⌜ pos r ≡ rateFrom (basisOf (now (run .entry))) age (pos factor) ⌝ }
 {

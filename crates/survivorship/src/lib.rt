@@ -27,7 +27,7 @@ pub fn year_on(kind: Kind, year: u32, j: u32) -> u32
 }
 
 // The survivors after a year from those before it and the rate.
-fn survivors_next(s: u64, q: u64) -> u64
+pub fn survivors_next(s: u64, q: u64) -> u64
     requires { ⌜ (s ≤ 1_000_000_000) × (q ≤ 1_000_000_000) ⌝ }
     ensures { λ r. ⌜ (pos r ≡ survivorsNext (pos s) (pos q)) × (r ≤ 1_000_000_000) ⌝ }
 {

@@ -13,7 +13,7 @@ use survivorship::Kind;
 const UNIT: u64 = 1_000_000_000;
 
 // The discount a year later. At a rate below zero it grows, and stays below 4 × U for the 130 years that there are.
-fn discount_next(v: u64, accumulation: u64) -> u64
+pub fn discount_next(v: u64, accumulation: u64) -> u64
     requires { ⌜ (v ≤ 4_000_000_000) × (990_000_000 ≤ accumulation) × (accumulation ≤ 1_200_000_000) ⌝ }
     ensures { λ r. ⌜ pos r ≡ discountNext (pos v) accumulation ⌝ }
 {
@@ -36,7 +36,7 @@ fn discount_after(run: &[u8], n: u32) -> u64
 }
 
 // One year's payment to the survivors, discounted.
-fn payment(v: u64, s: u64) -> u64
+pub fn payment(v: u64, s: u64) -> u64
     requires { ⌜ (v ≤ 4_000_000_000) × (s ≤ 1_000_000_000) ⌝ }
     ensures { λ r. ⌜ (pos r ≡ payment (pos v) (pos s)) × (r ≤ 4_000_000_000) ⌝ }
 {

@@ -1,0 +1,4 @@
+pub mod Direct
+mod Moving
+pub mod Numbers
+mod Stepping

@@ -1,0 +1,68 @@
+// The year sweep (02, change 5): the factors of all ages, moved on one year per step.
+// The state is lent: 131 numbers of 4 bytes, one for each age from 20 to 150, each a factor or a refusal.
+ghost use mathlib.Core.Path.{_≡_};
+ghost use Prim.Native.Nat.{_+_, _-_, _≤_, _<_};
+ghost use lib.Dec.{ltb};
+ghost use lib.ListN.{length};
+ghost use Rattle.basis.specs.Outcome.{meaning};
+ghost use Rattle.history.specs.History.{basisWith, AcceptedWith};
+ghost use Rattle.sweep.specs.Sweep.{movedOn, sweepStep};
+ghost use Rattle.sweep.specs.Held.{refusedNumber, heldIn, stateIn, Holds};
+use basis::Answer;
+use basis::Refusal;
+
+// The number of a refusal that is given in a year.
+fn refused_number(number: u32, year: u32) -> u32
+    requires { ⌜ (number ≤ 10) × (year ≤ 2130) ⌝ }
+    ensures { λ r. ⌜ r ≡ refusedNumber number year ⌝ }
+{
+    4_000_000_000 + (10_000 * number + year)
+}
+
+// What a number of the state stands for at an age.
+pub fn held(age: u32, n: u32) -> Answer
+    ensures { λ r. ⌜ meaning r ≡ heldIn age n ⌝ }
+{
+    if n <= 4_000_000_000 {
+        return Answer::Value(n as u64);
+    }
+    let refused = n - 4_000_000_000;
+    Answer::Refused(Refusal {
+        number: refused / 10_000,
+        first: age as u64,
+        second: (refused % 10_000) as u64,
+    })
+}
+
+// One age from a year before 2130 to the next.
+fn moved_on(run: &[u8], history: &[u8], age: u32, year: u32, n: u32) -> u32
+    requires { ⌜ AcceptedWith (now run) (now history) × (20 ≤ age) × (age ≤ 150) × (basisWith (now run) (now history) .base ≤ year) × (year < 2130) ⌝ }
+    ensures { λ r. ⌜ heldIn age r ≡ movedOn (basisWith (now (run .entry)) (now (history .entry))) age year (heldIn age n) ⌝ }
+{
+    if 4_000_000_000 < n {
+        return n;
+    }
+    let terms = basis::fields::age_terms(run, age);
+    match projection::factor::factor_in(run, history, terms, age, year + 1, n as u64) {
+        Answer::Value(factor) => factor as u32,
+        Answer::Refused(r) => refused_number(r.number, year + 1),
+    }
+}
+
+// One step: every age by itself. After 2130 the factors stand, and a step from 2260 on is none, which the answer says.
+pub fn step(run: &[u8], history: &[u8], year: u32, state: &mut [u32]) -> bool
+    requires { ⌜ AcceptedWith (now run) (now history) × (length (now state) ≡ 131) × (basisWith (now run) (now history) .base ≤ year) ⌝ }
+    ensures { λ r. ⌜ r ≡ ltb year 2260 ⌝ }
+    ensures { λ _. ⌜ Holds (now (state .exit)) (sweepStep (basisWith (now (run .entry)) (now (history .entry))) year (stateIn (now (state .entry)))) ⌝ }
+{
+    if 2130 <= year {
+        return year < 2260;
+    }
+    let mut age: u32 = 20;
+    while age <= 150 {
+        let i = (age - 20) as usize;
+        state[i] = moved_on(run, history, age, year, state[i]);
+        age += 1;
+    }
+    true
+}
