@@ -6,7 +6,7 @@ ghost use lib.Dec.{ltb};
 ghost use lib.ListN.{length};
 ghost use Rattle.basis.specs.Outcome.{meaning};
 ghost use Rattle.history.specs.History.{basisWith, AcceptedWith};
-ghost use Rattle.sweep.specs.Sweep.{movedOn, sweepStep};
+ghost use Rattle.sweep.specs.Sweep.{sweepStart, movedOn, sweepStep};
 ghost use Rattle.sweep.specs.Held.{refusedNumber, heldIn, stateIn, Holds};
 use basis::Answer;
 use basis::Refusal;
@@ -32,6 +32,13 @@ pub fn held(age: u32, n: u32) -> Answer
         first: age as u64,
         second: (refused % 10_000) as u64,
     })
+}
+
+// The state in year B: U at every age.
+pub fn start() -> [u32; 131]
+    ensures { λ r. ⌜ Holds r sweepStart ⌝ }
+{
+    [1_000_000_000; 131]
 }
 
 // One age from a year before 2130 to the next.

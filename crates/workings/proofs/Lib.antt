@@ -1,0 +1,4 @@
+mod Copying
+mod Discounting
+pub mod Reading
+mod Sweeping

@@ -1,0 +1,27 @@
+-- The years are noted, then the discounts behind them, which keeps the years.
+use borrow.Author.Needs.{needs}
+use Rattle.history.specs.History.{basisWith}
+use Rattle.workings.proofs.Discounting.{noted-behind}
+use Rattle.workings.proofs.work_out.Statement.{statement}
+use Rattle.workings.proofs.work_out.Tie as tie
+
+note-years-requires : tie.Need-note-years-requires
+note-years-requires c κs = search needs
+
+note-discounts-requires : tie.Need-note-discounts-requires
+note-discounts-requires c κs = search needs
+
+same-length : tie.Need-same-length
+same-length c = search needs
+
+returns : tie.Need-returns
+returns c =
+    let d = c .before .before in
+    let y = d .before .before .before .before in
+    let s = y .before .before .before .before .before in
+    noted-behind (basisWith (s .args .run .now) (s .args .history .now)) (y .note-years .last .1 .1 .0) (d .note-discounts .last .1 .1 .0) (s .pre .0 .basis .limits .base-low)
+    (search needs) (y .note-years .ensures) (d .note-discounts .ensures .0) (d .note-discounts .ensures .1)
+
+pub work-out-spec : {M : Type 1} → statement M
+work-out-spec =
+    tie.close (tie.spec note-years-requires note-discounts-requires same-length returns)
