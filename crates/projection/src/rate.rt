@@ -5,14 +5,14 @@ ghost use lib.IntN.{pos};
 ghost use Rattle.basis.specs.Basis.{basisOf, Accepted};
 ghost use Rattle.basis.specs.Outcome.{meaning};
 ghost use Rattle.history.specs.History.{basisWith, AcceptedWith};
-ghost use Rattle.projection.specs.Projection.{rateFrom, rateOf};
+ghost use Rattle.projection.specs.Projection.{factorOf, rateFrom, rateOf};
 use crate::factor;
 use basis::Answer;
 
 const UNIT: u64 = 1_000_000_000;
 
 // The lesser of U and the base rate times the factor.
-pub fn rate_from(run: &[u8], age: u32, factor: u64) -> u64
+fn rate_from(run: &[u8], age: u32, factor: u64) -> u64
     requires { ⌜ Accepted (now run) × (20 ≤ age) × (age ≤ 150) × (factor ≤ 4_000_000_000) ⌝ }
     ensures { λ r. ⌜ pos r ≡ rateFrom (basisOf (now (run .entry))) age (pos factor) ⌝ }
 {
@@ -23,13 +23,22 @@ pub fn rate_from(run: &[u8], age: u32, factor: u64) -> u64
     if rate < UNIT { rate } else { UNIT }
 }
 
+// The mortality rate at an age in a year from what its factor is, wherever that was worked out.
+pub fn rate_by(run: &[u8], history: &[u8], age: u32, year: u32, factor: Answer) -> Answer
+    requires { ⌜ AcceptedWith (now run) (now history) × (20 ≤ age) × (age ≤ 150) × (meaning factor ≡ factorOf (basisWith (now run) (now history)) age year) ⌝ }
+    ensures { λ r. ⌜ meaning r ≡ rateOf (basisWith (now (run .entry)) (now (history .entry))) age year ⌝ }
+{
+    match factor {
+        Answer::Value(f) => Answer::Value(rate_from(run, age, f)),
+        Answer::Refused(r) => Answer::Refused(r),
+    }
+}
+
 // The mortality rate at an age in a year from B on.
 pub fn rate_at(run: &[u8], history: &[u8], age: u32, year: u32) -> Answer
     requires { ⌜ AcceptedWith (now run) (now history) × (20 ≤ age) × (age ≤ 150) × (basisWith (now run) (now history) .base ≤ year) ⌝ }
     ensures { λ r. ⌜ meaning r ≡ rateOf (basisWith (now (run .entry)) (now (history .entry))) age year ⌝ }
 {
-    match factor::factor_at(run, history, age, year) {
-        Answer::Value(f) => Answer::Value(rate_from(run, age, f)),
-        Answer::Refused(r) => Answer::Refused(r),
-    }
+    let factor = factor::factor_at(run, history, age, year);
+    rate_by(run, history, age, year, factor)
 }

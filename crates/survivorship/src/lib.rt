@@ -4,6 +4,7 @@ ghost use Prim.Native.Nat.{_+_, _≤_};
 ghost use lib.IntN.{pos};
 ghost use Rattle.history.specs.History.{basisWith, AcceptedWith};
 ghost use Rattle.basis.specs.Outcome.{meaning};
+ghost use Rattle.projection.specs.Projection.{rateOf};
 ghost use Rattle.survivorship.specs.Survivorship.{yearOn, survivorsNext, survivorsAfterYear, survivorsOf};
 use basis::Answer;
 
@@ -27,22 +28,38 @@ pub fn year_on(kind: Kind, year: u32, j: u32) -> u32
 }
 
 // The survivors after a year from those before it and the rate.
-pub fn survivors_next(s: u64, q: u64) -> u64
+fn survivors_next(s: u64, q: u64) -> u64
     requires { ⌜ (s ≤ 1_000_000_000) × (q ≤ 1_000_000_000) ⌝ }
     ensures { λ r. ⌜ (pos r ≡ survivorsNext (pos s) (pos q)) × (r ≤ 1_000_000_000) ⌝ }
 {
     arithmetic::round_div_unsigned(s * (UNIT - q), UNIT)
 }
 
-// The same with the rate of an age and a year from B on, or its refusal.
+// The same with what the rate of an age and a year is, wherever that was worked out, or its refusal.
+pub fn survivors_by(
+    run: &[u8],
+    history: &[u8],
+    age: u32,
+    year: u32,
+    rate: Answer,
+    s: u64,
+) -> Answer
+    requires { ⌜ (s ≤ 1_000_000_000) × (meaning rate ≡ rateOf (basisWith (now run) (now history)) age year) ⌝ }
+    ensures { λ r. ⌜ meaning r ≡ survivorsAfterYear (basisWith (now (run .entry)) (now (history .entry))) age year (pos s) ⌝ }
+{
+    match rate {
+        Answer::Value(q) => Answer::Value(survivors_next(s, q)),
+        Answer::Refused(r) => Answer::Refused(r),
+    }
+}
+
+// The same at an age in a year from B on.
 pub fn survivors_after_year(run: &[u8], history: &[u8], age: u32, year: u32, s: u64) -> Answer
     requires { ⌜ AcceptedWith (now run) (now history) × (20 ≤ age) × (age ≤ 150) × (basisWith (now run) (now history) .base ≤ year) × (s ≤ 1_000_000_000) ⌝ }
     ensures { λ r. ⌜ meaning r ≡ survivorsAfterYear (basisWith (now (run .entry)) (now (history .entry))) age year (pos s) ⌝ }
 {
-    match projection::rate::rate_at(run, history, age, year) {
-        Answer::Value(q) => Answer::Value(survivors_next(s, q)),
-        Answer::Refused(r) => Answer::Refused(r),
-    }
+    let rate = projection::rate::rate_at(run, history, age, year);
+    survivors_by(run, history, age, year, rate, s)
 }
 
 // The survivors after n years.

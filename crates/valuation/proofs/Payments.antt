@@ -21,7 +21,7 @@ zero-left x = rw (parts x) (simp ring (⊖-eq _ _ _ _ (omega arith)))
 
 -- ---- the payments from a deferment on
 module _ (b : Basis) (kind : Kind) (age year from : ℕ) where
-  payment-value : (j : ℕ) (s v : ℤ) → survivorsOf b kind age year j ≡ value s → discountAfter b j ≡ v → paymentAfter b kind age year j ≡ value (payment v s)
+  pub payment-value : (j : ℕ) (s v : ℤ) → survivorsOf b kind age year j ≡ value s → discountAfter b j ≡ v → paymentAfter b kind age year j ≡ value (payment v s)
   unfolding paymentAfter
   payment-value j s v h k = rw (h, k) refl
 

@@ -1,0 +1,147 @@
+-- After j turns of the loop the survivors and both sums are those of `Passing`; at age 150 the sums are whole.
+use mathlib.Core.Path.{_∙_, ap, sym}
+use Prim.Native.Nat.{_+_, _-_, _≤_}
+use native.Mathlib.Omega.{arith}
+use borrow.Author.Needs.{needs}
+use Rattle.basis.specs.Outcome.{meaning}
+use Rattle.history.specs.History.{basisWith}
+use Rattle.survivorship.proofs.Survivors.{year-small, year-late}
+use Rattle.swept_points.proofs.Passing.{Passing, passing-first, passing-next, expectation-refused, annuity-refused, expectation-last, annuity-last}
+use Rattle.swept_points.proofs.passage.passage_from.Statement.{statement}
+use Rattle.swept_points.proofs.passage.passage_from.Tie as tie
+
+abbrev Inv-loop : tie.InvT-loop
+Inv-loop run history workings kind age year deferment last s₀ j₀ lives₀ payments₀ s j lives payments =
+    (j ≤ last) × Passing (basisWith run history) kind age year deferment j s lives payments
+
+abbrev μ-loop : tie.MeasureT-loop
+μ-loop run history workings kind age year deferment last s₀ j₀ lives₀ payments₀ s j lives payments = last - j
+
+sub-last : tie.Need-sub-last Inv-loop μ-loop
+sub-last c = search needs
+
+due-requires : tie.Need-due-requires Inv-loop μ-loop
+due-requires c κs = search needs
+
+loop-holds : tie.Need-loop-holds Inv-loop μ-loop
+loop-holds c =
+    let a = c .before .before .before .before .args in
+    (omega arith, passing-first (basisWith (a .run .now) (a .history .now)) (a .kind) (a .age) (a .year) (a .deferment) (c .due .result) (c .due .ensures))
+
+add-survivors-after-year : tie.Need-add-survivors-after-year Inv-loop μ-loop
+add-survivors-after-year c = search needs
+
+year-on-requires : tie.Need-year-on-requires Inv-loop μ-loop
+year-on-requires c κs = search needs
+
+survivors-after-year-requires : tie.Need-survivors-after-year-requires Inv-loop μ-loop
+survivors-after-year-requires c κs =
+    let l = c .before .before in
+    let s = l .before .before .before .before .before in
+    let a = s .args in
+    (s .pre .0, s .pre .1, omega (arith, s .pre .2), omega arith, omega (arith, s .pre .4, c .year-on .ensures, year-late (a .kind) (a .year) (l .loop .j)), l .loop .inv .1 .living .people)
+
+enum-known-x : tie.Need-enum-known-x Inv-loop μ-loop
+enum-known-x c = search needs
+
+enum-known-r : tie.Need-enum-known-r Inv-loop μ-loop
+enum-known-r c = search needs
+
+returns : tie.Need-returns Inv-loop μ-loop
+returns c =
+    let y = c .before .before .before in
+    let l = y .before .before .before in
+    let s = l .before .before .before .before .before in
+    let a = s .args in
+    let b = basisWith (a .run .now) (a .history .now) in
+    let r = c .before .r .given .0 .0 in
+    let g = sym (ap meaning (c .before .r .given .1)) ∙ y .survivors-after-year .ensures in
+    let i = l .loop .inv .1 in (
+      expectation-refused b (a .kind) (a .age) (a .year) (a .deferment) (l .loop .j) (l .loop .s) (l .loop .lives) (l .loop .payments) r i (omega arith) (y .before .year-on .ensures) g,
+      annuity-refused b (a .kind) (a .age) (a .year) (a .deferment) (l .loop .j) (l .loop .s) (l .loop .lives) (l .loop .payments) r i (omega arith) (y .before .year-on .ensures) g
+          (omega (arith, s .pre .3)),
+    )
+
+add-j : tie.Need-add-j Inv-loop μ-loop
+add-j c = search needs
+
+add-lives : tie.Need-add-lives Inv-loop μ-loop
+add-lives c =
+    let y = c .before .before .before in
+    let l = y .before .before .before in
+    let s = l .before .before .before .before .before in
+    let a = s .args in
+    let b = basisWith (a .run .now) (a .history .now) in
+    let x = c .before .x .given .0 .0 in
+    let g = sym (ap meaning (c .before .x .given .1)) ∙ y .survivors-after-year .ensures in
+    let small = year-small b (a .age + l .loop .j) (y .before .year-on .result) (l .loop .s) x (l .loop .inv .1 .living .people) (sym g) in
+    omega (arith, l .loop .inv .1 .living .sum, small)
+
+due-requires-2 : tie.Need-due-requires-2 Inv-loop μ-loop
+due-requires-2 c κs =
+    let y = c .before .before .before in
+    let l = y .before .before .before in
+    let s = l .before .before .before .before .before in
+    let a = s .args in
+    let b = basisWith (a .run .now) (a .history .now) in
+    let x = c .before .x .given .0 .0 in
+    let g = sym (ap meaning (c .before .x .given .1)) ∙ y .survivors-after-year .ensures in
+    let small = year-small b (a .age + l .loop .j) (y .before .year-on .result) (l .loop .s) x (l .loop .inv .1 .living .people) (sym g) in
+    (s .pre .0, s .pre .1, omega arith, small)
+
+add-payments : tie.Need-add-payments Inv-loop μ-loop
+add-payments c =
+    let l = c .before .before .before .before .before .before .before in
+    omega (arith, l .loop .inv .1 .sum, c .due2 .ensures .1)
+
+loop-less : tie.Need-loop-less Inv-loop μ-loop
+loop-less c = search needs
+
+loop-again : tie.Need-loop-again Inv-loop μ-loop
+loop-again c =
+    let t = c .before .before in
+    let y = t .before .before in
+    let l = y .before .before .before in
+    let a = l .before .before .before .before .before .args in
+    let g = sym (ap meaning (t .x .given .1)) ∙ y .survivors-after-year .ensures in (
+      omega arith,
+      passing-next (basisWith (a .run .now) (a .history .now)) (a .kind) (a .age) (a .year) (a .deferment) (l .loop .j) (l .loop .s) (l .loop .lives) (l .loop .payments)
+          (t .x .given .0 .0) (c .due2 .result) (l .loop .inv .1) (y .before .year-on .ensures) g (c .due2 .ensures),
+    )
+
+add-t20 : tie.Need-add-t20 Inv-loop μ-loop
+add-t20 c = omega (arith, c .before .loop .inv .1 .living .sum)
+
+returns-2 : tie.Need-returns-2 Inv-loop μ-loop
+returns-2 c =
+    let l = c .before in
+    let s = l .before .before .before .before .before in
+    let a = s .args in
+    let b = basisWith (a .run .now) (a .history .now) in (
+      expectation-last b (a .kind) (a .age) (a .year) (a .deferment) (l .loop .j) (l .loop .s) (l .loop .lives) (l .loop .payments) (omega arith) (l .loop .inv .1),
+      annuity-last b (a .kind) (a .age) (a .year) (a .deferment) (l .loop .j) (l .loop .s) (l .loop .lives) (l .loop .payments) (omega arith) (omega (arith, s .pre .3)) (l .loop .inv .1),
+    )
+
+pub passage-from-spec : {M : Type 1} → statement M
+passage-from-spec =
+    tie.close
+    (tie.spec
+    Inv-loop
+    μ-loop
+    sub-last
+    due-requires
+    loop-holds
+    add-survivors-after-year
+    year-on-requires
+    survivors-after-year-requires
+    enum-known-x
+    enum-known-r
+    returns
+    add-j
+    add-lives
+    due-requires-2
+    add-payments
+    loop-less
+    loop-again
+    add-t20
+    returns-2)

@@ -1,0 +1,19 @@
+-- The record takes the answer to its own question.
+use mathlib.Core.Path.{_∙_, ap}
+use Rattle.grid_record.specs.Record.{recordOf, answeredOf}
+use borrow.Author.Needs.{needs}
+use Rattle.swept_points.proofs.points.answered.Statement.{statement}
+use Rattle.swept_points.proofs.points.answered.Tie as tie
+
+point-at-requires : tie.Need-point-at-requires
+point-at-requires c κs = search needs
+
+recorded-requires : tie.Need-recorded-requires
+recorded-requires c κs = search needs
+
+returns : tie.Need-returns
+unfolding answeredOf
+returns c = c .recorded .ensures ∙ ap (recordOf (c .before .before .before .before .before .args .p)) (c .before .point-at .ensures)
+
+pub answered-spec : {M : Type 1} → statement M
+answered-spec = tie.close (tie.spec point-at-requires recorded-requires returns)

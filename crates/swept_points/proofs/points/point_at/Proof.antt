@@ -1,0 +1,54 @@
+-- The checks decide first; what they let pass is all that the work asks for.
+use mathlib.Core.Path.{_∙_, sym, ap}
+use Rattle.history.specs.History.{basisWith}
+use Rattle.basis.proofs.Outcome.{checked-passed, checked-refused}
+use Rattle.model_points.specs.Point.{pointAnswerOf, pointOf}
+use Rattle.question.proofs.Passed.{question-passed}
+use borrow.Author.Needs.{needs}
+use Rattle.swept_points.proofs.points.point_at.Statement.{statement}
+use Rattle.swept_points.proofs.points.point_at.Tie as tie
+
+check-question-requires : tie.Need-check-question-requires
+check-question-requires c κs = search needs
+
+enum-told : tie.Need-enum-told
+enum-told c = search needs
+
+results-at-requires : tie.Need-results-at-requires
+results-at-requires c κs =
+    let s = c .before .before .before .before .before .before in
+    let q = s .args .q in
+    let passed = sym (c .before .before .check-question .ensures) ∙ c .enum-told .given .1 in
+    let p = question-passed (basisWith (s .args .run .now) (s .args .history .now) .base) (q .age) (q .deferment) (q .year) passed in
+    (s .pre .0, s .pre .1, p .0, p .1, p .2, p .3)
+
+enum-known-r : tie.Need-enum-known-r
+enum-known-r c = search needs
+
+refused-point-requires : tie.Need-refused-point-requires
+refused-point-requires c κs = search needs
+
+returns : tie.Need-returns
+unfolding pointOf
+returns c =
+    let told = c .before in
+    c .results-at .ensures
+    ∙ sym (ap pointAnswerOf (checked-passed _ _ (sym (told .before .before .check-question .ensures) ∙ told .enum-told .given .1)))
+
+returns-2 : tie.Need-returns-2
+unfolding pointOf
+returns-2 c =
+    let r = c .before .before in
+    c .refused-point .ensures ∙ sym (ap pointAnswerOf (checked-refused _ _ _ (sym (r .before .before .check-question .ensures) ∙ r .r .given .1)))
+
+pub point-at-spec : {M : Type 1} → statement M
+point-at-spec =
+    tie.close
+    (tie.spec
+    check-question-requires
+    enum-told
+    results-at-requires
+    enum-known-r
+    refused-point-requires
+    returns
+    returns-2)
