@@ -1,7 +1,10 @@
 // The grid: a lent list of 119 point records whose results are filled in place.
 ghost use mathlib.Core.Path.{_≡_};
+ghost use Prim.Native.Nat.{_<_};
 ghost use lib.ListN.{length};
-ghost use Rattle.grid.specs.Grid.{gridCheck, gridStart, gridOf};
+ghost use Rattle.history.specs.History.{basisWith};
+ghost use Rattle.workings.specs.Workings.{Workings};
+ghost use Rattle.grid.specs.Grid.{gridCheck, recordsOf, gridStart, gridOf};
 use basis::Check;
 use grid_record::Point;
 
@@ -37,17 +40,39 @@ fn start_grid(run: &[u8], history: &[u8], count: usize) -> GridStart
     }
 }
 
+// The same, and the sweep of the factors where the grid is not refused.
+fn begin_grid(run: &[u8], history: &[u8], count: usize, workings: &mut [u32]) -> GridStart
+    requires { ⌜ length (now workings) ≡ 18340 ⌝ }
+    ensures { λ r. ⌜ r ≡ gridStart (gridCheck (now (run .entry)) (now (history .entry)) count) ⌝ }
+    ensures { λ r. ⌜ (0 < r .records → Workings (basisWith (now (run .entry)) (now (history .entry))) (now (workings .exit))) ⌝ }
+{
+    let start = start_grid(run, history, count);
+    let n = start.records;
+    if 0 < n {
+        workings::work_out(run, history, workings);
+    }
+    start
+}
+
+// The first n records answered, each in its place.
+fn fill_records(run: &[u8], history: &[u8], workings: &[u32], n: usize, points: &mut [Point])
+    requires { ⌜ (n ≡ recordsOf (gridCheck (now run) (now history) (length (now points)))) × (0 < n → Workings (basisWith (now run) (now history)) (now workings)) ⌝ }
+    ensures { λ _. ⌜ now (points .exit) ≡ gridOf (now (run .entry)) (now (history .entry)) (now (points .entry)) ⌝ }
+{
+    let mut i: usize = 0;
+    while i < n {
+        points[i] = swept_points::points::answered(run, history, workings, points[i]);
+        i = i + 1;
+    }
+}
+
 // Each record's results or its own refusal, in its place.
 pub fn fill(run: &[u8], history: &[u8], points: &mut [Point]) -> Check
     ensures { λ r. ⌜ r ≡ gridCheck (now (run .entry)) (now (history .entry)) (length (now (points .entry))) ⌝ }
     ensures { λ _. ⌜ now (points .exit) ≡ gridOf (now (run .entry)) (now (history .entry)) (now (points .entry)) ⌝ }
 {
-    let start = start_grid(run, history, points.len());
-    let n = start.records;
-    let mut i: usize = 0;
-    while i < n {
-        points[i] = grid_record::answered(run, history, points[i]);
-        i = i + 1;
-    }
+    let mut workings: [u32; 18340] = [0; 18340];
+    let start = begin_grid(run, history, points.len(), &mut workings);
+    fill_records(run, history, &workings, start.records, points);
     start.check
 }

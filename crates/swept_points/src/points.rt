@@ -78,8 +78,26 @@ fn results_at(
     let period = passage::passage_from(run, history, workings, Kind::Period, age, year, deferment);
     let cohort = passage::passage_from(run, history, workings, Kind::Cohort, age, year, deferment);
     model_points::four(
-        expectation(run, history, workings, Kind::Period, age, year, deferment, period),
-        expectation(run, history, workings, Kind::Cohort, age, year, deferment, cohort),
+        expectation(
+            run,
+            history,
+            workings,
+            Kind::Period,
+            age,
+            year,
+            deferment,
+            period,
+        ),
+        expectation(
+            run,
+            history,
+            workings,
+            Kind::Cohort,
+            age,
+            year,
+            deferment,
+            cohort,
+        ),
         annuity_in(period),
         annuity_in(cohort),
     )

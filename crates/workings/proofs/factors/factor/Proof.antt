@@ -27,7 +27,7 @@ mul-at c =
     let a = s .args in
     let limits = s .pre .0 .basis .limits in
     let here = within (basisWith (a .run .now) (a .history .now)) (a .numbers .now) (s .pre .1) (limits .base-low) (limits .base-high) (a .age) (a .year) (s .pre .2) (s .pre .3)
-        (s .pre .4) _ _ (c .before .held-year .ensures) (c .base-year .ensures) in
+    (s .pre .4) _ _ (c .before .held-year .ensures) (c .base-year .ensures) in
     record { fits = omega (arith, here .1) }
 
 sub-at : tie.Need-sub-at
@@ -39,7 +39,7 @@ add-at c =
     let a = s .args in
     let limits = s .pre .0 .basis .limits in
     let here = within (basisWith (a .run .now) (a .history .now)) (a .numbers .now) (s .pre .1) (limits .base-low) (limits .base-high) (a .age) (a .year) (s .pre .2) (s .pre .3)
-        (s .pre .4) _ _ (c .before .held-year .ensures) (c .base-year .ensures) in
+    (s .pre .4) _ _ (c .before .held-year .ensures) (c .base-year .ensures) in
     record { fits = omega (arith, here .2) }
 
 cast-at : tie.Need-cast-at
@@ -55,7 +55,7 @@ shared-slice-read-held c =
     let a = s .args in
     let limits = s .pre .0 .basis .limits in
     let here = within (basisWith (a .run .now) (a .history .now)) (a .numbers .now) (s .pre .1) (limits .base-low) (limits .base-high) (a .age) (a .year) (s .pre .2) (s .pre .3)
-        (s .pre .4) _ _ (y .before .held-year .ensures) (y .base-year .ensures) in
+    (s .pre .4) _ _ (y .before .held-year .ensures) (y .base-year .ensures) in
     omega (arith, here .2, s .pre .1 .size)
 
 held-requires : tie.Need-held-requires

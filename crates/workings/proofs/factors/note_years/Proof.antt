@@ -66,9 +66,11 @@ loop-again c =
     let y = c .before .before .before .before .before in
     let l = y .before .before .before .before in
     let b = l .before .before in
-    let s = b .before .before .before .before in
-    (omega arith, sweeping-next (basisWith (s .args .run .now) (s .args .history .now)) (l .loop .numbers) (l .loop .state) (y .note-state .last .1 .1 .0) (c .before .step .last .1 .1 .1 .0)
-      (l .loop .k) (131 * l .loop .k) (b .base-year .result + l .loop .k) refl (omega (arith, b .base-year .ensures)) (search needs) (l .loop .inv .1) (y .note-state .ensures .0) (y .note-state .ensures .1) (c .before .step .ensures .1))
+    let s = b .before .before .before .before in (
+      omega arith,
+      sweeping-next (basisWith (s .args .run .now) (s .args .history .now)) (l .loop .numbers) (l .loop .state) (y .note-state .last .1 .1 .0) (c .before .step .last .1 .1 .1 .0)
+          (l .loop .k) (131 * l .loop .k) (b .base-year .result + l .loop .k) refl (omega (arith, b .base-year .ensures)) (search needs) (l .loop .inv .1) (y .note-state .ensures .0) (y .note-state .ensures .1) (c .before .step .ensures .1),
+    )
 
 same-length : tie.Need-same-length Inv-loop μ-loop
 same-length c = c .before .loop .inv .1 .size ∙ sym (c .before .before .before .before .before .before .before .pre .1)

@@ -1,0 +1,32 @@
+-- A grid whose records are answered has passed its checks, and so its basis is accepted; the workings are then those of the basis.
+use mathlib.Core.Path.{ap, subst}
+use Prim.Native.Nat.{ℕ, _<_}
+use native.Mathlib.Omega.{arith}
+use borrow.Author.Needs.{needs}
+use Rattle.grid.specs.declared.GridStart.{GridStart}
+use Rattle.grid.proofs.Filled.{turn-accepted}
+use Rattle.grid.proofs.begin_grid.Statement.{statement}
+use Rattle.grid.proofs.begin_grid.Tie as tie
+
+start-grid-requires : tie.Need-start-grid-requires
+start-grid-requires c κs = search needs
+
+work-out-requires : tie.Need-work-out-requires
+work-out-requires c κs =
+    let g = c .before .before in
+    let s = g .before .before .before .before in
+    let records = ap (λ (f : GridStart). f .records) (g .start-grid .ensures) in
+    let some : 0 < g .start-grid .result .records = omega arith in
+    (turn-accepted (s .args .run .now) (s .args .history .now) (s .args .count) 0 (subst (λ (n : ℕ). 0 < n) records some), s .pre)
+
+same-length : tie.Need-same-length
+same-length c = search needs
+
+returns : tie.Need-returns
+returns c = search needs
+
+returns-2 : tie.Need-returns-2
+returns-2 c = (c .before .start-grid .ensures, λ some. absurd (omega arith))
+
+pub begin-grid-spec : {M : Type 1} → statement M
+begin-grid-spec = tie.close (tie.spec start-grid-requires work-out-requires same-length returns returns-2)
