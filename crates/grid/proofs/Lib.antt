@@ -1,2 +1,2 @@
-mod Filled
+pub mod Filled
 mod LocalRow

@@ -25,7 +25,7 @@ fn check_grid(run: &[u8], history: &[u8], count: usize) -> Check
 }
 
 // The run and its history are checked here, once for the whole list.
-fn start_grid(run: &[u8], history: &[u8], count: usize) -> GridStart
+pub fn start_grid(run: &[u8], history: &[u8], count: usize) -> GridStart
     ensures { λ r. ⌜ r ≡ gridStart (gridCheck (now (run .entry)) (now (history .entry)) count) ⌝ }
 {
     match check_grid(run, history, count) {
