@@ -3,9 +3,9 @@ use mathlib.Core.Path.{_≡_, _∙_, ap, sym, refl}
 use Prim.Native.Nat.{ℕ, zero, suc, _+_, _-_, _≤_, _<_}
 use native.Mathlib.Omega.{arith}
 use native.Mathlib.Decide.{decLt}
-use lib.IntN.{ℤ, pos}
+use lib.IntN.{pos}
 use Rattle.arithmetic.specs.Fraction.{U}
-use Rattle.basis.specs.Outcome.{Outcome, value, andThen, steps}
+use Rattle.basis.specs.Outcome.{andThen, steps}
 use Rattle.basis.specs.Basis.{Basis}
 use Rattle.improvement.specs.Improvement.{improvementOf}
 use Rattle.projection.specs.Projection.{factorFrom, factorStep, heldYear, factorOf}

@@ -23,7 +23,13 @@ same-length : tie.Need-same-length
 same-length c = search needs
 
 returns : tie.Need-returns
-returns c = search needs
+returns c =
+    let g = c .before .before .before .before .before in
+    let s = g .before .before .before .before in
+    let records = ap (λ (f : GridStart). f .records) (g .start-grid .ensures) in (
+      g .start-grid .ensures,
+      λ some. (turn-accepted (s .args .run .now) (s .args .history .now) (s .args .count) 0 (subst (λ (n : ℕ). 0 < n) records some), c .before .before .work-out .ensures),
+    )
 
 returns-2 : tie.Need-returns-2
 returns-2 c = (c .before .start-grid .ensures, λ some. absurd (omega arith))

@@ -2,7 +2,7 @@
 -- each for a lifetime that the walk makes and ends. `fill_records` is called at the list's own lifetime, share and ghost name, so what it says of the last list is said of this one (`gave-slice`).
 -- All that the proof knows of the two is that each meets its contract: what the first says of its result and of the row is what the second asks. Assumes nothing.
 use mathlib.Core.Path.{_≡_, refl, sym, ap, subst, _∙_}
-use Prim.Native.Nat.{ℕ, _<_, _^_}
+use Prim.Native.Nat.{ℕ, _≤_, _<_, _^_}
 use mathlib.Core.List.{List, [], _∷_}
 use lib.Dec.{lit<}
 use lib.ListN.{length, replicate, length-replicate}
@@ -46,14 +46,15 @@ use denote.Triple.Walked.{says, Stays, stay-none-slice, gave-slice, onExit, walk
 use denote.Exit.{yes}
 use denote.Triple.Clauses.{ensured, lasts}
 use Rattle.basis.specs.declared.Check.{Check}
-use Rattle.history.specs.History.{basisWith}
+use Rattle.history.specs.History.{basisWith, AcceptedWith}
 use Rattle.workings.specs.Workings.{Workings}
 use Rattle.grid_record.specs.declared.Point.{Point}
 use Rattle.grid.specs.declared.GridStart.{GridStart}
-use Rattle.grid.specs.Grid.{gridCheck, recordsOf, gridStart, gridOf}
+use Rattle.grid.specs.Grid.{gridCheck, gridStart, answers, gridOf}
 use Rattle.grid_record.proofs.Point as P
 use Rattle.basis.proofs.Check as F
 use Rattle.basis.proofs.Check.Laws as F′
+use Rattle.grid.proofs.Filled.{records-fit, grid-is}
 use Rattle.grid.proofs.LocalRow.{big, array-of, slice-of, Row, enough, zeros-typed, zeros-lie, row-back, row-room}
 use Rattle.grid.proofs.GridStart as G
 use Rattle.grid.proofs.GridStart.Laws as G′
@@ -189,14 +190,14 @@ module _ {M : Type 1} (𝓤 : URA M) (H : Heap 𝓤) (A : Atoms 𝓤) (W : Given
 
     -- what is known of its result f and of the row's last list r
     abbrev Begun : GridStart → List ℕ → Type 0
-    Begun f r = (length r ≡ length l) × (f ≡ found) × (0 < f .records → Workings (basisWith (now s₀) (now s₁)) r)
+    Begun f r = (length r ≡ length l) × (f ≡ found) × (0 < f .records → AcceptedWith (now s₀) (now s₁) × Workings (basisWith (now s₀) (now s₁)) r)
 
     begin-said : (f : GridStart) → ent 𝓤 (ensured 𝓤 H A begin.ended (begin.clauses 𝓤 H A at-mem run) (κ₀, (κ₁, (ν ∷ [], tt))) (s₀, (s₁, (length xs, (y, tt)))) tt f)
         (mean 𝓤 H A (some (λ (r : List ℕ). given (Begun f r) (‵ (finally u32 δ r)))))
     begin-said f =
         qed W (some (λ (rs : Unit {0} × (Unit {0} × (Unit {0} × (List ℕ × Unit {0})))). ‵ (lasts begin.ended (κ₀, (κ₁, (ν ∷ [], tt))) (s₀, (s₁, (length xs, (y, tt)))) rs)
-        ⊛ (raw (fact 𝓤 (f ≡ found)) ⊛ raw (fact 𝓤 (0 < f .records → Workings (basisWith (now s₀) (now s₁)) (rs .1 .1 .1 .0))))) ∷ []) ∵ pick ! (λ rs. split ! $ move ! (1 ∷ []) $ split ! $
-        heard ! (f ≡ found) (λ e. heard ! (0 < f .records → Workings (basisWith (now s₀) (now s₁)) (rs .1 .1 .1 .0)) (λ sw.
+        ⊛ (raw (fact 𝓤 (f ≡ found)) ⊛ raw (fact 𝓤 (0 < f .records → AcceptedWith (now s₀) (now s₁) × Workings (basisWith (now s₀) (now s₁)) (rs .1 .1 .1 .0))))) ∷ []) ∵ pick ! (λ rs. split ! $ move ! (1 ∷ []) $ split ! $
+        heard ! (f ≡ found) (λ e. heard ! (0 < f .records → AcceptedWith (now s₀) (now s₁) × Workings (basisWith (now s₀) (now s₁)) (rs .1 .1 .1 .0)) (λ sw.
         fsplit ! $ drop ! $ fsplit ! $ drop ! $ fsplit ! $ drop ! $ fsplit ! $ fsplit ! $ move ! (1 ∷ []) $ feqL ! (λ same.
         show ! (λ (r : List ℕ). guard 𝓤 (Begun f r) (sem 𝓤 H A (finally u32 δ r))) (rs .1 .1 .1 .0) $ check ! (same, e, sw) $ keep ! (0 ∷ []) $ done !))))
 
@@ -215,7 +216,7 @@ module _ {M : Type 1} (𝓤 : URA M) (H : Heap 𝓤) (A : Atoms 𝓤) (W : Given
         tt,
       )
 
-      goes-records : n < 2 ^ 64 → (n ≡ recordsOf (gridCheck (now s₀) (now s₁) (length xs))) × (0 < n → Workings (basisWith (now s₀) (now s₁)) l)
+      goes-records : n < 2 ^ 64 → (n ≤ length xs) × (0 < n → AcceptedWith (now s₀) (now s₁) × Workings (basisWith (now s₀) (now s₁)) l)
           → ent 𝓤 (⋆ 𝓤 H A ((‵ (Mine ν) ⊛ ‵ (ShrSlice (named 2) (ν ∷ []) u32 .own y (val y ∷ []))) ∷ (Listed ⊛ Two) ∷ Owned ∷ []))
           (⋆ 𝓤 H A (raw (Records 𝓤 H A at-mem run .pre to-records) ∷ Owned ∷ []))
       goes-records fits asked =
@@ -233,13 +234,13 @@ module _ {M : Type 1} (𝓤 : URA M) (H : Heap 𝓤) (A : Atoms 𝓤) (W : Given
 
       -- what is known of the last list
       abbrev Filled : List Point → Type 0
-      Filled zs = (length zs ≡ length xs) × (zs ≡ gridOf (now s₀) (now s₁) xs)
+      Filled zs = (length zs ≡ length xs) × (zs ≡ answers (basisWith (now s₀) (now s₁)) n xs)
 
       records-said : (r : Unit {0}) → ent 𝓤 (ensured 𝓤 H A records.ended (records.clauses 𝓤 H A at-mem run) (κ₀, (κ₁, (ν ∷ [], (κ₂, tt)))) (s₀, (s₁, (y, (n, (x, tt))))) tt r)
           (mean 𝓤 H A (some (λ (zs : List Point). given (Filled zs) (‵ (finally P.the-row γ zs)))))
       records-said r =
           qed W (some (λ (zs : Unit {0} × (Unit {0} × (Unit {0} × (Unit {0} × (List Point × Unit {0}))))). ‵ (lasts records.ended (κ₀, (κ₁, (ν ∷ [], (κ₂, tt)))) (s₀, (s₁, (y, (n, (x, tt))))) zs)
-          ⊛ raw (fact 𝓤 (zs .1 .1 .1 .1 .0 ≡ gridOf (now s₀) (now s₁) xs))) ∷ []) ∵ pick ! (λ zs. split ! $ move ! (1 ∷ []) $ heard ! (zs .1 .1 .1 .1 .0 ≡ gridOf (now s₀) (now s₁) xs) (λ e.
+          ⊛ raw (fact 𝓤 (zs .1 .1 .1 .1 .0 ≡ answers (basisWith (now s₀) (now s₁)) n xs))) ∷ []) ∵ pick ! (λ zs. split ! $ move ! (1 ∷ []) $ heard ! (zs .1 .1 .1 .1 .0 ≡ answers (basisWith (now s₀) (now s₁)) n xs) (λ e.
           fsplit ! $ drop ! $ fsplit ! $ drop ! $ fsplit ! $ drop ! $ fsplit ! $ drop ! $ fsplit ! $ fsplit ! $ move ! (1 ∷ []) $ feqL ! (λ same.
           show ! (λ (r : List Point). guard 𝓤 (Filled r) (sem 𝓤 H A (finally P.the-row γ r))) (zs .1 .1 .1 .1 .0) $ check ! (same, e) $ keep ! (0 ∷ []) $ done !)))
 
@@ -292,10 +293,12 @@ module _ {M : Type 1} (𝓤 : URA M) (H : Heap 𝓤) (A : Atoms 𝓤) (W : Given
           by ! (exits (f .check) _ zs known (ap (λ (g : GridStart). g .check) f-is) e same)
 
       -- ---- `fill_records`, once `begin_grid` has left the row l
-      fills : Triple 𝓤 (C #grid·fill-records) (Records 𝓤 H A at-mem run) → Room P.the-row (length xs) → (l : List ℕ) → length l ≡ 18340 → (0 < f .records → Workings (basisWith (now s₀) (now s₁)) l)
+      fills : Triple 𝓤 (C #grid·fill-records) (Records 𝓤 H A at-mem run) → Room P.the-row (length xs) → (l : List ℕ) → length l ≡ 18340 → (0 < f .records → AcceptedWith (now s₀) (now s₁) × Workings (basisWith (now s₀) (now s₁)) l)
           → ent 𝓤 (⋆ 𝓤 H A (‵ (Row l l₄) ∷ Listed ∷ Two ∷ Owned ∷ Locals (fat fullShare G′.mir l₅ 0 (start-val f)))) (Wp 𝓤 H C Λ En parts.t-6 (atReturn 𝓤 H En Post))
-      fills known room l long swept =
+      fills known room l long ready =
           let fits = LL.owed G.the-type G′.the-laws f _ is .1 .0 .1 in
+          let count = ap (λ (g : GridStart). g .records) f-is in
+          let few = subst (λ (m : ℕ). m ≤ length xs) (sym count) (records-fit (now s₀) (now s₁) (length xs)) in
           qed W (‵ (Row l l₄) ∷ Listed ∷ Two ∷ Owned ∷ Locals (fat fullShare G′.mir l₅ 0 (start-val f))) ∵ exec ! C Λ En parts.t-6 (atRet En Post) $
           assigns ! (addr ! (from ! (stop !))) (from ! (stop !)) (init ! 10 refl (tt, tt)) $
           assigns ! (agg ! (and-then ! (load ! (from ! (stop !)) (look ! 10 refl)) (and-then ! (big ! (record { fits = lit< tt })) (no-more !))))
@@ -310,7 +313,7 @@ module _ {M : Type 1} (𝓤 : URA M) (H : Heap 𝓤) (A : Atoms 𝓤) (W : Given
           (lends-shr-slice 𝓤 H A W u32 (named 2) (ν ∷ []) fullShare l l₄ 0 (enough l long)) $ await ! tt $ pick ! (λ δ. split ! $
           -- [what the row owns; the lender's part; ν's token; the list; the slices' tokens; what they own; _13; …]
           move ! (2 ∷ 0 ∷ []) $ join ! $ move ! (2 ∷ 3 ∷ []) $ join ! $ move ! (1 ∷ 0 ∷ 3 ∷ []) $
-          use3 W (raw (Records 𝓤 H A at-mem run .pre (to-records ν δ l₄ l (f .records))) ⊛ Owned) (goes-records ν δ l₄ l (f .records) fits (ap (λ (g : GridStart). g .records) f-is, swept)) $ split ! $
+          use3 W (raw (Records 𝓤 H A at-mem run .pre (to-records ν δ l₄ l (f .records))) ⊛ Owned) (goes-records ν δ l₄ l (f .records) fits (few, ready)) $ split ! $
           -- [what the call asks; what the slices own; the lender's part; _13; …]
           calls-at ! fm (Records 𝓤 H A at-mem run) known (to-records ν δ l₄ l (f .records)) (and-then ! (load ! (from ! (stop !)) (look ! 26 refl)) (and-then ! (load ! (from ! (stop !)) (look ! 24 refl))
           (and-then ! (load ! (from ! (stop !)) (look ! 7 refl)) (and-then ! (load ! (from ! (fld ! refl (stop !))) (look-in ! 19 (sub ! 1 refl (whole !))))
@@ -323,7 +326,7 @@ module _ {M : Type 1} (𝓤 : URA M) (H : Heap 𝓤) (A : Atoms 𝓤) (W : Given
           land ! (from ! (stop !)) (init ! 12 refl (nothing-lawful 𝓤 H A W .typed r _ isr .0)) $
           move ! (0 ∷ 3 ∷ []) $ use2 W (later (Tokens Last ⊛ ‵ (froom array-ty l₄ 0))) (records-back ν δ l₄ l (f .records) long) $ await ! tt $ split ! $
           -- [the tokens; room for _4; the last list; what the slices own; _13; …]
-          forget ! 4 refl $ forget ! 6 refl $ forget ! 8 refl $ forget ! 10 refl $ forget ! 12 refl $ move ! (1 ∷ 0 ∷ 3 ∷ []) $ by ! (ends zs (said .0) (said .1)))))))))
+          forget ! 4 refl $ forget ! 6 refl $ forget ! 8 refl $ forget ! 10 refl $ forget ! 12 refl $ move ! (1 ∷ 0 ∷ 3 ∷ []) $ by ! (ends zs (said .0) (said .1 ∙ ap (λ (k : ℕ). answers (basisWith (now s₀) (now s₁)) k xs) count ∙ grid-is (now s₀) (now s₁) xs)))))))))
 
     -- ---- `begin_grid`, with the row l
     begins : Triple 𝓤 (C #grid·begin-grid) (Begin 𝓤 H A at-mem run) → Triple 𝓤 (C #grid·fill-records) (Records 𝓤 H A at-mem run) → Room P.the-row (length xs) → (l : List ℕ) → length l ≡ 18340

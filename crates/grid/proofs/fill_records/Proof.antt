@@ -56,8 +56,8 @@ use Rattle.history.specs.History.{basisWith, AcceptedWith}
 use Rattle.grid_record.specs.declared.Point.{Point}
 use Rattle.grid_record.specs.Record.{answeredOf}
 use Rattle.workings.specs.Workings.{Workings}
-use Rattle.grid.specs.Grid.{gridCheck, recordsOf, answers, gridOf}
-use Rattle.grid.proofs.Filled.{answers-none, answers-length, answers-set, records-fit, turn-accepted, grid-is}
+use Rattle.grid.specs.Grid.{answers}
+use Rattle.grid.proofs.Filled.{answers-none, answers-length, answers-set}
 use Rattle.grid_record.proofs.Point as P
 use Rattle.grid_record.proofs.Point.Laws as P′
 use Rattle.swept_points.proofs.points.answered as answered
@@ -196,7 +196,7 @@ module _ {M : Type 1} (𝓤 : URA M) (H : Heap 𝓤) (A : Atoms 𝓤) (W : Given
       exE 𝓤 _ (λ ws. snd∗ 𝓤 (sem 𝓤 H A (lasts answered.ended (κ₀, (κ₁, (κ₂, tt))) (s₀, (s₁, (s₂, (p, tt)))) ws)) (fact 𝓤 (r ≡ answeredOf (basisWith (now s₀) (now s₁)) p)))
 
   -- ---- the exit, at a list zs as long as xs
-  exits : (zs : List Point) → n < 2 ^ 64 → Room P.the-row (length xs) → length zs ≡ length xs → zs ≡ gridOf (now s₀) (now s₁) xs
+  exits : (zs : List Point) → n < 2 ^ 64 → Room P.the-row (length xs) → length zs ≡ length xs → zs ≡ answers (basisWith (now s₀) (now s₁)) n xs
       → ent 𝓤 (⋆ 𝓤 H A (‵ (Obs zs) ∷ ‵ (Bor zs) ∷ ‵ (flft κ₃ q₃) ∷ Tokens ∷ Owned ∷ [])) (Post vunit)
   exits zs n-fits room same e =
       qed W (‵ (Obs zs) ∷ ‵ (Bor zs) ∷ ‵ (flft κ₃ q₃) ∷ Tokens ∷ Owned ∷ []) ∵
@@ -211,7 +211,7 @@ module _ {M : Type 1} (𝓤 : URA M) (H : Heap 𝓤) (A : Atoms 𝓤) (W : Given
 
   -- ---- what the contract asks: the count of records to answer, and the sweep where there is any
   module _ (𝓣 : Tables 𝓤 H) (fm : FmC 𝓤 H (W .laws) (𝓣 .C)) (known : Triple 𝓤 (𝓣 .C #swept-points·points·answered) (Answered 𝓤 H A mem run)) (n-fits : n < 2 ^ 64) (room : Room P.the-row (length xs))
-      (n-is : n ≡ recordsOf (gridCheck (now s₀) (now s₁) (length xs))) (worked-out : 0 < n → Workings (basisWith (now s₀) (now s₁)) (now s₂)) (l₀ l₁ l₂ l₃ l₄ l₅ l₆ l₇ l₈ l₉ l₁₀ l₁₁ l₁₂ l₁₃ : ℕ) where
+      (n-few : n ≤ length xs) (ready : 0 < n → AcceptedWith (now s₀) (now s₁) × Workings (basisWith (now s₀) (now s₁)) (now s₂)) (l₀ l₁ l₂ l₃ l₄ l₅ l₆ l₇ l₈ l₉ l₁₀ l₁₁ l₁₂ l₁₃ : ℕ) where
     abbrev C : Calls 𝓤 H
     C = 𝓣 .C
 
@@ -229,9 +229,6 @@ module _ {M : Type 1} (𝓤 : URA M) (H : Heap 𝓤) (A : Atoms 𝓤) (W : Given
         ∷ ‵ (froom word l₉ 0) ∷ ‵ (fdies word l₉) ∷ ‵ (froom P′.mir l₈ 0) ∷ ‵ (fdies P′.mir l₈) ∷ ‵ (froom tyBool l₇ 0) ∷ ‵ (fdies tyBool l₇) ∷ ‵ at₆ ∷ ‵ (fdies word l₆)
         ∷ ‵ (fat fullShare list-ty l₅ 0 u) ∷ ‵ (fdies list-ty l₅) ∷ ‵ (fat fullShare word l₄ 0 (vint w64 n)) ∷ ‵ (fdies word l₄) ∷ ‵ (fat fullShare workings-ty l₃ 0 v₂) ∷ ‵ (fdies workings-ty l₃)
         ∷ ‵ (fat fullShare history-ty l₂ 0 v₁) ∷ ‵ (fdies history-ty l₂) ∷ ‵ (fat fullShare run-ty l₁ 0 v₀) ∷ ‵ (fdies run-ty l₁) ∷ ‵ (froom tyUnit l₀ 0) ∷ ‵ (fdies tyUnit l₀) ∷ []
-
-    n-few : n ≤ length xs
-    n-few = subst (λ (m : ℕ). m ≤ length xs) (sym n-is) (records-fit (now s₀) (now s₁) (length xs))
 
     abbrev Upto : Type 0
     Upto = (i : ℕ) × (i ≤ n)
@@ -299,7 +296,7 @@ module _ {M : Type 1} (𝓤 : URA M) (H : Heap 𝓤) (A : Atoms 𝓤) (W : Given
         move ! (21 ∷ 22 ∷ []) $ free1 ! $ move ! (19 ∷ 20 ∷ []) $ free1 ! $ move ! (17 ∷ 18 ∷ []) $ free1 ! $ move ! (15 ∷ 16 ∷ []) $ free1 ! $ move ! (13 ∷ 14 ∷ []) $ free1 ! $
         move ! (11 ∷ 12 ∷ []) $ free1 ! $ move ! (9 ∷ 10 ∷ []) $ free1 ! $ move ! (7 ∷ 8 ∷ []) $ free1 ! $ move ! (5 ∷ 6 ∷ []) $ free1 ! $ free0 ! $
         by ! (exits (zs (i .0)) n-fits room (answers-length (basisWith (now s₀) (now s₁)) (i .0) xs)
-        (ap (λ (k : ℕ). answers (basisWith (now s₀) (now s₁)) k xs) (le-antisymm (i .1) (nltb→le (i .0) n over) ∙ n-is) ∙ grid-is (now s₀) (now s₁) xs)))
+        (ap (λ (k : ℕ). answers (basisWith (now s₀) (now s₁)) k xs) (le-antisymm (i .1) (nltb→le (i .0) n over)))))
       where
         fits : (j : Upto) → j .0 < 2 ^ 64
         fits j = lt-of-le-of-lt (j .1) n-fits
@@ -311,7 +308,7 @@ module _ {M : Type 1} (𝓤 : URA M) (H : Heap 𝓤) (A : Atoms 𝓤) (W : Given
         before less = lt-of-lt-of-le (ltb→lt (i .0) n less) n-few
 
         ok : Holds (ltb (i .0) n) → AcceptedWith (now s₀) (now s₁) × Workings (basisWith (now s₀) (now s₁)) (now s₂)
-        ok less = (turn-accepted (now s₀) (now s₁) (length xs) (i .0) (subst (λ (m : ℕ). i .0 < m) n-is (ltb→lt (i .0) n less)), worked-out (lt-of-le-of-lt zero-le (ltb→lt (i .0) n less)))
+        ok less = ready (lt-of-le-of-lt zero-le (ltb→lt (i .0) n less))
 
         within : Holds (ltb (i .0) n) → i .0 < length (zs (i .0))
         within less = subst (λ (m : ℕ). i .0 < m) (sym (answers-length (basisWith (now s₀) (now s₁)) (i .0) xs)) (before less)
@@ -338,7 +335,7 @@ module _ {M : Type 1} (𝓤 : URA M) (H : Heap 𝓤) (A : Atoms 𝓤) (W : Given
   -- ---- the entry
   walk : (𝓣 : Tables 𝓤 H) → FmC 𝓤 H (W .laws) (𝓣 .C) → Triple 𝓤 (𝓣 .C #swept-points·points·answered) (Answered 𝓤 H A mem run)
       → Room u8 (length (s₀ .now)) → Room u8 (length (s₁ .now)) → Room u32 (length (s₂ .now)) → n < 2 ^ 64 → Room P.the-row (length xs)
-      → (n ≡ recordsOf (gridCheck (now s₀) (now s₁) (length xs))) × (0 < n → Workings (basisWith (now s₀) (now s₁)) (now s₂))
+      → (n ≤ length xs) × (0 < n → AcceptedWith (now s₀) (now s₁) × Workings (basisWith (now s₀) (now s₁)) (now s₂))
       → ent 𝓤 (onEntry 𝓤 H A fill.signature (κ₀, (κ₁, (κ₂, (κ₃, tt)))) (q₀, (q₁, (q₂, (q₃, tt)))) (s₀, (s₁, (s₂, (n, (x xs, tt)))))
       (v₀ ∷ [], (v₁ ∷ [], (v₂ ∷ [], (vint w64 n ∷ [], (u ∷ [], tt)))))) (WpFn 𝓤 H (𝓣 .C) (𝓣 .Λ) function (v₀ ∷ v₁ ∷ v₂ ∷ vint w64 n ∷ u ∷ []) Post)
   walk 𝓣 fm known room₀ room₁ room₂ n-fits room asked =
@@ -373,8 +370,8 @@ module _ {M : Type 1} (𝓤 : URA M) (H : Heap 𝓤) (A : Atoms 𝓤) (W : Given
           ),
         ),
       ))
-      (λ κs qs bounds a g are. needs 𝓤 ((a .1 .1 .1 .0 ≡ recordsOf (gridCheck (now (a .0)) (now (a .1 .0)) (length (now (a .1 .1 .1 .1 .0)))))
-      × (0 < a .1 .1 .1 .0 → Workings (basisWith (now (a .0)) (now (a .1 .0))) (now (a .1 .1 .0)))) _ (λ asked.
+      (λ κs qs bounds a g are. needs 𝓤 ((a .1 .1 .1 .0 ≤ length (now (a .1 .1 .1 .1 .0)))
+      × (0 < a .1 .1 .1 .0 → AcceptedWith (now (a .0)) (now (a .1 .0)) × Workings (basisWith (now (a .0)) (now (a .1 .0))) (now (a .1 .1 .0)))) _ (λ asked.
       walk 𝓤 H A W mem run (κs .0) (κs .1 .0) (κs .1 .1 .0) (κs .1 .1 .1 .0) (qs .0) (qs .1 .0) (qs .1 .1 .0) (qs .1 .1 .1 .0) (a .0) (a .1 .0) (a .1 .1 .0) (a .1 .1 .1 .0)
       (a .1 .1 .1 .1 .0 .ptr .0) (a .1 .1 .1 .1 .0 .ptr .1) (a .1 .1 .1 .1 .0 .name) (a .1 .1 .1 .1 .0 .now) 𝓣 (fmOf 𝓤 H (W .laws) 𝓣) known
       (are .0 .0 .1) (are .1 .0 .0 .1) (are .1 .1 .0 .0 .1) (are .1 .1 .1 .0 .1) (are .1 .1 .1 .1 .0 .0 .1) asked))

@@ -1,6 +1,6 @@
 -- After the turn of an age the ages up to it have moved on, and the others are as they were; from 2130 on none moves.
 use mathlib.Core.Path.{_∙_, refl, sym}
-use Prim.Native.Nat.{_+_, _-_, _≤_}
+use Prim.Native.Nat.{_-_, _≤_}
 use native.Mathlib.Omega.{arith}
 use borrow.Author.Needs.{needs}
 use borrow.Author.Tests.{lt-ltb}

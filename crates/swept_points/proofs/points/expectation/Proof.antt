@@ -1,5 +1,5 @@
 -- Without a deferment the passage that is known has it; else it is that from the later age in the later year.
-use mathlib.Core.Path.{_≡_, _∙_, ap, sym}
+use mathlib.Core.Path.{_≡_, _∙_, ap}
 use native.Mathlib.Omega.{arith}
 use Rattle.history.specs.History.{basisWith}
 use Rattle.valuation.specs.Valuation.{expectationOf}

@@ -1,6 +1,6 @@
 -- After j turns the first j discounts are noted, and v is the next one.
 use mathlib.Core.Path.{_≡_, _∙_}
-use Prim.Native.Nat.{_+_, _-_, _≤_}
+use Prim.Native.Nat.{_-_, _≤_}
 use native.Mathlib.Omega.{arith}
 use Rattle.history.specs.History.{basisWith}
 use Rattle.history.proofs.With.{accumulation-with, limits-with}

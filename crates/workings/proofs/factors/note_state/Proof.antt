@@ -1,6 +1,6 @@
 -- After i turns the first i numbers of the state stand at their place, and what was before it is kept.
 use mathlib.Core.Path.{_≡_}
-use Prim.Native.Nat.{_+_, _-_, _≤_}
+use Prim.Native.Nat.{_-_, _≤_}
 use native.Mathlib.Omega.{arith}
 use Rattle.workings.proofs.Copying.{Copied, copied-none, copied-next}
 use borrow.Author.Needs.{needs}
