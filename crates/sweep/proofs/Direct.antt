@@ -1,16 +1,20 @@
--- The sweep is the direct engine: after k steps it has at each age the direct engine's factor of the year B + k, or its refusal. Assumes nothing.
+-- The sweep is the direct engine: after k steps it has at each age the direct engine's factor of the year B + k, or that age's first refusal up
+-- to then; and so has a list of numbers that began as the start and went through k steps. Assumes nothing.
 use mathlib.Core.Path.{_≡_, _∙_, ap, sym, refl}
+use mathlib.Core.List.{List}
 use Prim.Native.Nat.{ℕ, zero, suc, _+_, _-_, _≤_, _<_}
 use native.Mathlib.Omega.{arith}
 use native.Mathlib.Decide.{decLt}
 use lib.IntN.{pos}
+use lib.ListN.{getD}
 use Rattle.arithmetic.specs.Fraction.{U}
 use Rattle.basis.specs.Outcome.{andThen, steps}
 use Rattle.basis.specs.Basis.{Basis}
 use Rattle.improvement.specs.Improvement.{improvementOf}
 use Rattle.projection.specs.Projection.{factorFrom, factorStep, heldYear, factorOf}
 use Rattle.projection.proofs.Cases.{held-until, held-after}
-use Rattle.sweep.specs.Sweep.{movedOn, sweepAfter}
+use Rattle.sweep.specs.Sweep.{sweepStart, movedOn, sweepStep, sweepAfter}
+use Rattle.sweep.specs.Held.{heldIn, stateIn, Holds}
 use Rattle.sweep.proofs.Moving.{moved-early, moved-late}
 
 module _ (b : Basis) (age : ℕ) (early : b .base ≤ 2130) where
@@ -40,3 +44,21 @@ module _ (b : Basis) (age : ℕ) (early : b .base ≤ 2130) where
       by : Dec (b .base + k < 2130) → movedOn b age (b .base + k) (factorOf b age (b .base + k)) ≡ factorOf b age (b .base + suc k)
       by (yes l) = moved-early b age (b .base + k) _ l ∙ sym (goes-on k l)
       by (no l) = moved-late b age (b .base + k) _ (omega arith) ∙ sym (stands k (omega arith))
+
+-- ---- the same of the numbers that hold a state
+module _ (b : Basis) where
+  pub start-after : (numbers : List ℕ) → Holds numbers sweepStart → Holds numbers (sweepAfter b 0)
+  unfolding sweepAfter
+  start-after numbers h = h
+
+  -- a step from what holds the state after k steps holds that after one more
+  pub step-after : (numbers next : List ℕ) (k : ℕ) → Holds numbers (sweepAfter b k) → Holds next (sweepStep b (b .base + k) (stateIn numbers)) → Holds next (sweepAfter b (suc k))
+  unfolding sweepAfter
+  step-after numbers next k h g = record { size = g .size; each = λ i l. g .each i l ∙ ap (movedOn b (20 + i) (b .base + k)) (back i l) }
+    where
+      back : (i : ℕ) → i < 131 → stateIn numbers (20 + i) ≡ sweepAfter b k (20 + i)
+      back i l = let e : 20 + i - 20 ≡ i = omega arith in rw e (h .each i l)
+
+  -- each number is the direct engine's factor of that age and year, or its refusal
+  pub state-direct : (numbers : List ℕ) (k : ℕ) → b .base ≤ 2130 → Holds numbers (sweepAfter b k) → (i : ℕ) → i < 131 → heldIn (20 + i) (getD numbers i 0) ≡ factorOf b (20 + i) (b .base + k)
+  state-direct numbers k early h i l = h .each i l ∙ sweep-direct b (20 + i) early k

@@ -1,14 +1,15 @@
 -- The sweep noted down year by year: what the loop knows after some years. Assumes nothing.
 use mathlib.Core.Path.{_≡_, _∙_, ap}
 use mathlib.Core.List.{List}
-use Prim.Native.Nat.{ℕ, suc, _+_, _*_, _-_, _<_}
+use Prim.Native.Nat.{ℕ, suc, _+_, _*_, _<_}
 use native.Mathlib.Omega.{arith}
 use native.Mathlib.Decide.{decLt}
 use native.Mathlib.Numerals.{add-one}
 use lib.ListN.{length, getD}
 use Rattle.basis.specs.Basis.{Basis}
-use Rattle.sweep.specs.Sweep.{movedOn, sweepStart, sweepStep, sweepAfter}
+use Rattle.sweep.specs.Sweep.{sweepStart, sweepStep, sweepAfter}
 use Rattle.sweep.specs.Held.{heldIn, stateIn, Holds}
+use Rattle.sweep.proofs.Direct.{start-after, step-after}
 use Rattle.workings.specs.Inner.Noting.{StandsAt, KeptBefore}
 use Rattle.workings.specs.Workings.{YearsNoted}
 
@@ -20,22 +21,13 @@ pub record Sweeping (b : Basis) (numbers state : List ℕ) (k : ℕ) : Type 0 wh
 
 module _ (b : Basis) where
   pub sweeping-none : (numbers state : List ℕ) → length numbers ≡ 18340 → Holds state sweepStart → Sweeping b numbers state 0
-  unfolding sweepAfter
-  sweeping-none numbers state h s = record { size = h; years = λ k i l. absurd (omega arith); holds = s }
-
-  -- a step from what holds the state after k steps holds that after one more
-  stepped : (state next : List ℕ) (k : ℕ) → Holds state (sweepAfter b k) → Holds next (sweepStep b (b .base + k) (stateIn state)) → Holds next (sweepAfter b (suc k))
-  unfolding sweepAfter
-  stepped state next k h g = record { size = g .size; each = λ i l. g .each i l ∙ ap (movedOn b (20 + i) (b .base + k)) (back i l) }
-    where
-      back : (i : ℕ) → i < 131 → stateIn state (20 + i) ≡ sweepAfter b k (20 + i)
-      back i l = let e : 20 + i - 20 ≡ i = omega arith in rw e (h .each i l)
+  sweeping-none numbers state h s = record { size = h; years = λ k i l. absurd (omega arith); holds = start-after b state s }
 
   pub sweeping-next : (numbers state after next : List ℕ) (k at year : ℕ) → at ≡ 131 * k → year ≡ b .base + k → length after ≡ length numbers → Sweeping b numbers state k
       → StandsAt at state after → KeptBefore at numbers after → Holds next (sweepStep b year (stateIn state)) → Sweeping b after next (k + 1)
   sweeping-next numbers state after next k at year ea ey same s stands kept g =
       rw add-one
-      (record { size = same ∙ s .size; years = λ j i l m. by j i l m (decLt j k); holds = stepped state next k (s .holds) (rw ey at g) })
+      (record { size = same ∙ s .size; years = λ j i l m. by j i l m (decLt j k); holds = step-after b state next k (s .holds) (rw ey at g) })
     where
       by : (j i : ℕ) → j < suc k → i < 131 → Dec (j < k) → heldIn (20 + i) (getD after (131 * j + i) 0) ≡ sweepAfter b j (20 + i)
       by j i l m (yes q) = ap (heldIn (20 + i)) (kept (131 * j + i) (omega (arith, ea))) ∙ s .years j i q m
