@@ -115,6 +115,42 @@ static void check_records_again(void) {
     HOLDS(list[1].refusal == 0 && list[1].first == 0 && list[1].second == 0);
 }
 
+/* a record's four results are those of the four enquiries */
+static int record_as_asked(const uint8_t *run, parvusek_point_t p) {
+    return !p.refusal && is(parvusek_period_expectation(run, RUN, NO_HISTORY, p.age, p.deferment, p.year), p.results[0])
+        && is(parvusek_cohort_expectation(run, RUN, NO_HISTORY, p.age, p.deferment, p.year), p.results[1])
+        && is(parvusek_period_annuity(run, RUN, NO_HISTORY, p.age, p.deferment, p.year), p.results[2])
+        && is(parvusek_cohort_annuity(run, RUN, NO_HISTORY, p.age, p.deferment, p.year), p.results[3]);
+}
+
+/* two ages are refused by 10 from a year on, 70 from 2014 (1.2 to the 8th) and 80 from 2016 (1.15 to the 10th), and the
+   others go on: a record has the refusal that it meets first on its own way, whatever years and ages stand around it */
+static void check_records_apart(void) {
+    static parvusek_point_t list[LENT];
+    uint8_t run[RUN];
+    const parvusek_question_t asked[10] = {{69, 0, 2130}, {81, 0, 2010}, {69, 0, 2013}, {71, 0, 2014}, {60, 15, 2100},
+                                           {90, 7, 2130}, {70, 0, 2014}, {71, 0, 2016}, {60, 15, 2010}, {81, 69, 2006}};
+    sample(run);
+    for (uint8_t *rates = run + 554; rates <= run + 1078; rates += 524) {
+        put4(rates + 4 * (70 - 20), -200000000);
+        put4(rates + 4 * (80 - 20), -150000000);
+    }
+    ask(list, asked, 10);
+    HOLDS(passed(parvusek_grid(run, RUN, NO_HISTORY, list, LENT)));
+    for (size_t i = 0; i < GRID - 9; i += 10) {
+        HOLDS(record_refused(list[i], 10, 70, 2014));
+        HOLDS(record_as_asked(run, list[i + 1]));
+        HOLDS(record_refused(list[i + 2], 10, 70, 2014));
+        HOLDS(record_refused(list[i + 3], 10, 80, 2016));
+        HOLDS(record_refused(list[i + 4], 10, 80, 2016));
+        HOLDS(record_as_asked(run, list[i + 5]));
+        HOLDS(record_refused(list[i + 6], 10, 70, 2014));
+        HOLDS(record_refused(list[i + 7], 10, 80, 2016));
+        HOLDS(record_refused(list[i + 8], 10, 80, 2016));
+        HOLDS(record_as_asked(run, list[i + 9]));
+    }
+}
+
 static void check_refused_grids(void) {
     static parvusek_point_t list[LENT], before[LENT];
     uint8_t run[RUN];
@@ -137,6 +173,7 @@ static void check_refused_grids(void) {
 void check_grids(void) {
     check_records();
     check_records_again();
+    check_records_apart();
     check_refused_grids();
 }
 
