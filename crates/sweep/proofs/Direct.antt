@@ -7,13 +7,14 @@ use native.Mathlib.Omega.{arith}
 use native.Mathlib.Decide.{decLt}
 use lib.IntN.{pos}
 use lib.ListN.{getD}
+use borrow.Author.Tests.{lt-ltb, le-ltb}
 use Rattle.arithmetic.specs.Fraction.{U}
 use Rattle.basis.specs.Outcome.{andThen, steps}
 use Rattle.basis.specs.Basis.{Basis}
 use Rattle.improvement.specs.Improvement.{improvementOf}
 use Rattle.projection.specs.Projection.{factorFrom, factorStep, heldYear, factorOf}
 use Rattle.projection.proofs.Cases.{held-until, held-after}
-use Rattle.sweep.specs.Sweep.{sweepStart, movedOn, sweepStep, sweepAfter}
+use Rattle.sweep.specs.Sweep.{sweepStart, factorOn, movedOn, sweepStep, sweepAfter}
 use Rattle.sweep.specs.Held.{heldIn, stateIn, Holds}
 use Rattle.sweep.proofs.Moving.{moved-early, moved-late}
 
@@ -30,11 +31,12 @@ module _ (b : Basis) (age : ℕ) (early : b .base ≤ 2130) where
 
   -- before it takes a step
   goes-on : (k : ℕ) → b .base + k < 2130 →
-      factorOf b age (b .base + suc k) ≡ andThen (factorOf b age (b .base + k)) (λ f. factorFrom age (b .base + k + 1) (improvementOf b age (b .base + k + 1)) f)
+      factorOf b age (b .base + suc k) ≡ andThen (factorOf b age (b .base + k)) (factorOn b age (b .base + k))
   unfolding steps
   goes-on k h =
-      let e : b .base + k + 1 ≡ b .base + 1 + k = omega arith in
-      rw (steps-of k (omega arith), steps-of (suc k) (omega arith), e) refl
+      let e : b .base + 1 + k ≡ b .base + k + 1 = omega arith in
+      rw (steps-of k (omega arith), steps-of (suc k) (omega arith))
+      (ap (λ (year : ℕ). andThen (steps (factorStep b age) (pos U) k) (λ f. factorFrom age year (improvementOf b age year) f)) e)
 
   pub sweep-direct : (k : ℕ) → sweepAfter b k age ≡ factorOf b age (b .base + k)
   unfolding sweepAfter steps
@@ -42,8 +44,8 @@ module _ (b : Basis) (age : ℕ) (early : b .base ≤ 2130) where
   sweep-direct (suc k) = ap (movedOn b age (b .base + k)) (sweep-direct k) ∙ by (decLt (b .base + k) 2130)
     where
       by : Dec (b .base + k < 2130) → movedOn b age (b .base + k) (factorOf b age (b .base + k)) ≡ factorOf b age (b .base + suc k)
-      by (yes l) = moved-early b age (b .base + k) _ l ∙ sym (goes-on k l)
-      by (no l) = moved-late b age (b .base + k) _ (omega arith) ∙ sym (stands k (omega arith))
+      by (yes l) = moved-early b age (b .base + k) _ (lt-ltb (b .base + k) 2130 l) ∙ sym (goes-on k l)
+      by (no l) = moved-late b age (b .base + k) _ (le-ltb (b .base + k) 2130 (omega arith)) ∙ sym (stands k (omega arith))
 
 -- ---- the same of the numbers that hold a state
 module _ (b : Basis) where

@@ -6,6 +6,7 @@ use native.Mathlib.Omega.{arith}
 use native.Mathlib.Decide.{decLt}
 use lib.ListN.{length, getD, set, length-set}
 use lib.Seq.{getD-set-same, getD-set-other}
+use borrow.Author.Tests.{le-ltb}
 use Rattle.basis.specs.Basis.{Basis}
 use Rattle.sweep.specs.Sweep.{movedOn, sweepStep}
 use Rattle.sweep.specs.Held.{heldIn, stateIn, Holds}
@@ -53,4 +54,4 @@ module _ (b : Basis) (year : ℕ) (start : List ℕ) where
 
   -- from 2130 on none moves
   pub moved-not : length start ≡ 131 → 2130 ≤ year → Holds start (sweepStep b year (stateIn start))
-  moved-not h l = record { size = h; each = λ i k. sym (step-is i ∙ moved-late b (20 + i) year (heldIn (20 + i) (getD start i 0)) l) }
+  moved-not h l = record { size = h; each = λ i k. sym (step-is i ∙ moved-late b (20 + i) year (heldIn (20 + i) (getD start i 0)) (le-ltb year 2130 l)) }

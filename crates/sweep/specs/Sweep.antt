@@ -1,6 +1,6 @@
 -- The year sweep (02, change 5): the factors of all ages, moved on one year per step.
 use Prim.Native.Nat.{ℕ, zero, suc, _+_}
-use mathlib.Core.Bool.{cond}
+use mathlib.Core.Bool.{Bool, cond}
 use lib.Dec.{ltb}
 use lib.IntN.{ℤ, pos}
 use Rattle.arithmetic.specs.Fraction.{U}
@@ -17,10 +17,17 @@ State = ℕ → Outcome ℤ
 abbrev pub sweepStart : State
 sweepStart age = value (pos U)
 
--- one age from a year to the next: a refusal stays, and after 2130 the factor stands
+-- a factor from a year to the next, by the next year's improvement
+abbrev pub factorOn : Basis → ℕ → ℕ → ℤ → Outcome ℤ
+factorOn b age year factor = factorFrom age (year + 1) (improvementOf b age (year + 1)) factor
+
+-- after 2130 the factors stand
+abbrev pub moves : ℕ → Bool
+moves year = ltb year 2130
+
+-- one age from a year to the next; a refusal stays
 unfoldable pub movedOn : Basis → ℕ → ℕ → Outcome ℤ → Outcome ℤ
-movedOn b age year held =
-    cond (ltb year 2130) (andThen held (λ factor. factorFrom age (year + 1) (improvementOf b age (year + 1)) factor)) held
+movedOn b age year held = cond (moves year) (andThen held (factorOn b age year)) held
 
 -- one step: every age by itself
 abbrev pub sweepStep : Basis → ℕ → State → State

@@ -4,6 +4,7 @@ use Prim.Native.Nat.{_+_}
 use native.Mathlib.Omega.{arith}
 use lib.IntN.{pos}
 use borrow.Author.Needs.{needs}
+use borrow.Author.Tests.{lt-ltb}
 use Rattle.basis.specs.Outcome.{meaning}
 use Rattle.history.specs.History.{basisWith}
 use Rattle.improvement.specs.Improvement.{improvementOf}
@@ -79,7 +80,7 @@ returns-2 c =
     let told = sym (y .factor-in .ensures) ∙ ap meaning (c .before .factor .given .1) in
     let small = year-small b (a .age) (a .year + 1) (improvementOf b (a .age) (a .year + 1)) (pos (a .n)) f told in
     held-factor (a .age) f small
-    ∙ sym (moved-factor b (a .age) (a .year) (heldIn (a .age) (a .n)) (pos (a .n)) (s .pre .4) (held-factor (a .age) (a .n) (omega arith)) ∙ told)
+    ∙ sym (moved-factor b (a .age) (a .year) (heldIn (a .age) (a .n)) (pos (a .n)) (lt-ltb (a .year) 2130 (s .pre .4)) (held-factor (a .age) (a .n) (omega arith)) ∙ told)
 
 returns-3 : tie.Need-returns-3
 returns-3 c =
@@ -93,7 +94,7 @@ returns-3 c =
     let w = year-refused (a .age) (a .year + 1) (improvementOf b (a .age) (a .year + 1)) (pos (a .n)) r told in
     ap (heldIn (a .age)) (c .refused-number .ensures)
     ∙ held-again (a .age) (r .number) (a .year + 1) r w (omega (arith, s .pre .4)) refl
-    ∙ sym (moved-factor b (a .age) (a .year) (heldIn (a .age) (a .n)) (pos (a .n)) (s .pre .4) (held-factor (a .age) (a .n) (omega arith)) ∙ told)
+    ∙ sym (moved-factor b (a .age) (a .year) (heldIn (a .age) (a .n)) (pos (a .n)) (lt-ltb (a .year) 2130 (s .pre .4)) (held-factor (a .age) (a .n) (omega arith)) ∙ told)
 
 pub moved-on-spec : {M : Type 1} → statement M
 moved-on-spec =
