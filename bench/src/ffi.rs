@@ -1,6 +1,7 @@
 //! The proved archive's functions as `include/parvusek.h` declares them, behind safe calls. A slice is a pointer with
-//! its true length, which is all that the archive asks for.
-use crate::engine::sets::Record;
+//! its true length, which is all that the archive asks for. Beside them the direct grid, which has an archive of its own
+//! for tests and is not in the header.
+use crate::engine::sets::{GRID, Record};
 use crate::engine::{Refusal as EngineRefusal, lifeline, sets};
 
 #[derive(Clone, Copy, Debug, PartialEq, Eq, Default)]
@@ -63,6 +64,13 @@ pub struct Lifeline {
     pub ended: u32,
 }
 
+/// What the direct grid is given and gives back by value.
+#[derive(Clone, Copy, Debug, PartialEq, Eq)]
+#[repr(C)]
+pub struct Records {
+    pub points: [Record; GRID],
+}
+
 /// The raw functions, for those who measure or who lend what no slice can express.
 pub mod raw {
     use super::*;
@@ -111,6 +119,11 @@ pub mod raw {
         fn parvusek_grid(points: *mut Record, count: usize) -> Refusal;
         fn parvusek_lifeline_start(age: u32, year: u32) -> Lifeline;
         fn parvusek_lifeline_step(age: u32, year: u32, survivors: u64) -> Lifeline;
+    }
+
+    // of the direct grid's archive
+    lent_a_history! {
+        fn parvusek_direct_grid(records: Records) -> Records;
     }
 
     /// The six enquiries of one shape, by the header's order.
@@ -166,6 +179,11 @@ pub fn small_set(run: &[u8], history: &[u8], questions: Questions) -> SmallSet {
 pub fn grid(run: &[u8], history: &[u8], records: &mut [Record]) -> Refusal {
     let (points, count) = (records.as_mut_ptr(), records.len());
     unsafe { raw::parvusek_grid(run.as_ptr(), run.len(), history.as_ptr(), history.len(), points, count) }
+}
+
+/// The records with the answers of the direct engine, or as they came where the basis is refused.
+pub fn direct_grid(run: &[u8], history: &[u8], records: Records) -> Records {
+    unsafe { raw::parvusek_direct_grid(run.as_ptr(), run.len(), history.as_ptr(), history.len(), records) }
 }
 
 pub fn lifeline_start(run: &[u8], history: &[u8], age: u32, year: u32) -> Lifeline {

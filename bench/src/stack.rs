@@ -2,15 +2,15 @@
 use std::arch::asm;
 use std::ptr;
 
-const ROOM: usize = 64 << 10;
+/// What is painted: the grid notes down some 73 KB there, and what goes deeper than this is found out.
+const ROOM: usize = 192 << 10;
 
-/// What is passed: six numbers or addresses in registers, and nine words on the stack for further ones, or for what goes
-/// by value.
-#[derive(Clone, Copy, Default)]
-#[repr(C)]
+/// What is passed: six numbers or addresses in registers, and words on the stack for further ones, or for what goes by
+/// value.
+#[derive(Clone, Default)]
 pub struct Arguments {
     registers: [u64; 6],
-    on_stack: [u64; 9],
+    on_stack: Vec<u64>,
 }
 
 impl Arguments {
@@ -19,8 +19,7 @@ impl Arguments {
         let mut arguments = Arguments::default();
         let (first, further) = words.split_at(words.len().min(arguments.registers.len()));
         arguments.registers[..first.len()].copy_from_slice(first);
-        arguments.on_stack[..further.len()].copy_from_slice(further);
-        arguments.on_stack[further.len()..][..by_value.len()].copy_from_slice(by_value);
+        arguments.on_stack = [further, by_value].concat();
         arguments
     }
 }
@@ -38,16 +37,17 @@ pub unsafe fn touched(function: *const (), arguments: &Arguments) -> usize {
 #[inline(never)]
 unsafe fn touched_with(function: *const (), arguments: &Arguments, paint: u8) -> usize {
     let top: usize;
+    let Arguments { registers, on_stack } = arguments;
     unsafe {
         asm!(
             "mov r12, rsp",
             // room for what goes there, the stack in line as the convention wants it
-            "lea rsp, [rsp - 80]",
+            "lea rax, [8 * rcx]",
+            "sub rsp, rax",
             "and rsp, -16",
-            "lea rsi, [r14 + 48]",
             "mov rdi, rsp",
-            "mov ecx, 9",
             "rep movsq",
+            "mov eax, r13d",
             "lea rdi, [rsp - {room}]",
             "mov ecx, {room}",
             "rep stosb",
@@ -61,11 +61,12 @@ unsafe fn touched_with(function: *const (), arguments: &Arguments, paint: u8) ->
             "call r15",
             "mov rsp, r12",
             room = const ROOM,
-            in("r14") ptr::from_ref(arguments),
+            in("r14") registers.as_ptr(),
             in("r15") function,
-            inout("al") paint => _,
+            inout("rsi") on_stack.as_ptr() => _,
+            inout("rcx") on_stack.len() => _,
             out("r12") _,
-            out("r13") top,
+            inout("r13") usize::from(paint) => top,
             clobber_abi("C"),
         );
     }

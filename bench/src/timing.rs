@@ -4,9 +4,9 @@ use std::time::{Duration, Instant};
 #[derive(Clone, Copy, Debug)]
 pub struct Timing {
     /// Medians, in nanoseconds for one call.
-    pub proved: f64,
-    pub rust: f64,
-    /// The median and the quartiles of the ratios proved / Rust, each of two neighbouring measurements.
+    pub first: f64,
+    pub second: f64,
+    /// The median and the quartiles of the ratios first / second, each of two neighbouring measurements.
     pub ratio: f64,
     pub lower: f64,
     pub upper: f64,
@@ -35,36 +35,36 @@ fn calls_for(wanted: Duration, work: &mut dyn FnMut()) -> u32 {
 }
 
 /// Times both with warm caches: each measurement is of as many calls as take about `measure`, and nothing is cleared.
-pub fn race(rounds: usize, measure: Duration, proved: &mut dyn FnMut(), rust: &mut dyn FnMut()) -> Timing {
-    let calls = calls_for(measure, rust).min(calls_for(measure, proved));
-    collect(rounds, &mut || elapsed(calls, proved), &mut || elapsed(calls, rust))
+pub fn race(rounds: usize, measure: Duration, first: &mut dyn FnMut(), second: &mut dyn FnMut()) -> Timing {
+    let calls = calls_for(measure, second).min(calls_for(measure, first));
+    collect(rounds, &mut || elapsed(calls, first), &mut || elapsed(calls, second))
 }
 
 /// Times single calls, with `clear` run before each of them.
-pub fn race_cold(rounds: usize, clear: &dyn Fn(), proved: &mut dyn FnMut(), rust: &mut dyn FnMut()) -> Timing {
+pub fn race_cold(rounds: usize, clear: &dyn Fn(), first: &mut dyn FnMut(), second: &mut dyn FnMut()) -> Timing {
     let cold = |work: &mut dyn FnMut()| {
         clear();
         elapsed(1, work)
     };
-    collect(rounds, &mut || cold(proved), &mut || cold(rust))
+    collect(rounds, &mut || cold(first), &mut || cold(second))
 }
 
-/// Takes the two in turn, the first of a round now the one and now the other.
-fn collect(rounds: usize, proved: &mut dyn FnMut() -> f64, rust: &mut dyn FnMut() -> f64) -> Timing {
+/// Takes the two in turn, beginning a round now with the one and now with the other.
+fn collect(rounds: usize, first: &mut dyn FnMut() -> f64, second: &mut dyn FnMut() -> f64) -> Timing {
     let mut taken = (Vec::new(), Vec::new());
     for round in 0..rounds {
         if round % 2 == 0 {
-            taken.0.push(proved());
+            taken.0.push(first());
         }
-        taken.1.push(rust());
+        taken.1.push(second());
         if round % 2 == 1 {
-            taken.0.push(proved());
+            taken.0.push(first());
         }
     }
-    let mut ratios: Vec<f64> = taken.0.iter().zip(&taken.1).map(|(proved, rust)| proved / rust).collect();
+    let mut ratios: Vec<f64> = taken.0.iter().zip(&taken.1).map(|(first, second)| first / second).collect();
     Timing {
-        proved: quantile(&mut taken.0, 0.5),
-        rust: quantile(&mut taken.1, 0.5),
+        first: quantile(&mut taken.0, 0.5),
+        second: quantile(&mut taken.1, 0.5),
         ratio: quantile(&mut ratios, 0.5),
         lower: quantile(&mut ratios, 0.25),
         upper: quantile(&mut ratios, 0.75),

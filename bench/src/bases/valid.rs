@@ -148,6 +148,24 @@ pub fn fourfold(random: &mut Random) -> Draft {
     draft
 }
 
+/// As a real basis, but for a few ages that are refused, each from a year of its own on: their factors come to 4 U after
+/// some 8 to 94 years, or their improvements overshoot.
+pub fn uneven(random: &mut Random) -> Draft {
+    let mut draft = modest(random);
+    for _ in 0..=random.below(6) {
+        let index = random.below(AGES as u64) as usize;
+        if random.one_in(2) {
+            let rate = -random.pick(&[15_000_000, 30_000_000, 60_000_000, 200_000_000]);
+            draft.set_component(Component::Age, index, [rate; 2], 20, 50);
+        } else {
+            // where 135 per cent remain at half way 180 do before it, and 175 make an improvement of 500,000,000
+            let (period, proportion) = (random.between(3, 50) as u8, random.between(135, 150) as u8);
+            draft.set_component(Component::Age, index, [200_000_000, -200_000_000], period, proportion);
+        }
+    }
+    draft
+}
+
 fn components(random: &mut Random, draft: &mut Draft, mut terms: impl FnMut(&mut Random) -> ([i32; 2], u8, u8)) {
     for component in [Component::Age, Component::BirthYear] {
         for index in 0..component.entries() {
@@ -167,7 +185,7 @@ mod tests {
     #[test]
     fn all_are_accepted_and_every_kind_has_discounts_below_zero() {
         let mut random = Random::new(1);
-        for kind in [modest, anywhere, extreme, brink] {
+        for kind in [modest, anywhere, extreme, brink, uneven] {
             let runs: Vec<Vec<u8>> = (0..200).map(|_| kind(&mut random).run).collect();
             let rates = runs.iter().map(|run| signed(accept_run(run).expect("within its limits"), DISCOUNT_RATE));
             let below = rates.filter(|&rate| rate < 0).count();

@@ -1,11 +1,12 @@
-//! How cost grows with the years since the base, the ages up to 150 and the records of the grid that are answered.
-//! Prints lines of CSV: what grows, how much of it, nanoseconds of a call in the archive and in the Rust engine.
-//! growth [SWEEPS]
+//! How cost grows with the years since the base, the ages up to 150 and the records of the grid that are answered, by the
+//! year sweep and point by point. Prints lines of CSV: what grows, how much of it, nanoseconds of a call in the archive
+//! and in the Rust engine.
+//! growth [TURNS]
 use parvusek_bench::bases::Draft;
 use parvusek_bench::engine::enquiries;
 use parvusek_bench::engine::sets::{self, GRID, Record};
 use parvusek_bench::engine::valuation::Kind;
-use parvusek_bench::ffi::{self, Question};
+use parvusek_bench::ffi::{self, Question, Records};
 use parvusek_bench::timing::race;
 use std::env;
 use std::hint::black_box;
@@ -18,7 +19,7 @@ const COHORT_ANNUITY: usize = 5;
 /// The base year is the foundation year, so that no history is needed.
 const NO_HISTORY: &[u8] = &[];
 
-/// An amount of what grows, the work that it makes for both engines, and the least medians of the sweeps so far.
+/// An amount of what grows, the work that it makes for both engines, and the least medians of the turns so far.
 struct Point<'a> {
     what: &'static str,
     amount: u32,
@@ -34,7 +35,7 @@ impl<'a> Point<'a> {
 
     fn measure(&mut self) {
         let timing = race(ROUNDS, MEASURE, &mut *self.proved, &mut *self.rust);
-        self.least = (self.least.0.min(timing.proved), self.least.1.min(timing.rust));
+        self.least = (self.least.0.min(timing.first), self.least.1.min(timing.second));
     }
 }
 
@@ -64,15 +65,29 @@ fn annuity(run: &[u8], ages: u32) -> Point<'_> {
 }
 
 /// The grid has 119 records always; those not counted here ask about age 0 and are refused at once.
-fn grid(run: &[u8], answered: usize) -> Point<'_> {
-    let record = |index| {
+fn records(answered: usize) -> [Record; GRID] {
+    std::array::from_fn(|index| {
         let age = if index < answered { 65 } else { 0 };
         Record { age, deferment: 0, year: BASE_YEAR, refusal: 0, results: [0; 4], first: 0, second: 0 }
-    };
-    let mut lent: Vec<Record> = (0..GRID).map(record).collect();
-    let mut own = lent.clone();
+    })
+}
+
+fn direct_grid(run: &[u8], answered: usize) -> Point<'_> {
+    let points = records(answered);
+    let mut own = points;
     Point::new(
-        "records answered at age 65 (grid)",
+        "records at 65 (grid point by point)",
+        answered as u32,
+        move || done(ffi::direct_grid(black_box(run), NO_HISTORY, black_box(Records { points }))),
+        move || done(sets::direct_grid(black_box(run), NO_HISTORY, black_box(&mut own))),
+    )
+}
+
+fn grid(run: &[u8], answered: usize) -> Point<'_> {
+    let mut lent = records(answered);
+    let mut own = lent;
+    Point::new(
+        "records at 65 (grid by the sweep)",
         answered as u32,
         move || done(ffi::grid(black_box(run), NO_HISTORY, black_box(&mut lent))),
         move || done(sets::grid(black_box(run), NO_HISTORY, black_box(&mut own))),
@@ -80,12 +95,13 @@ fn grid(run: &[u8], answered: usize) -> Point<'_> {
 }
 
 fn main() {
-    let sweeps = env::args().nth(1).and_then(|word| word.parse().ok()).unwrap_or(9);
+    let turns = env::args().nth(1).and_then(|word| word.parse().ok()).unwrap_or(9);
     let run = Draft::benchmark().run;
     let mut points: Vec<Point> = (0..=124).step_by(4).map(|years| factor(&run, years)).collect();
     points.extend((0..=130).step_by(5).map(|ages| annuity(&run, ages)));
     points.extend((0..=GRID).step_by(17).map(|answered| grid(&run, answered)));
-    for _ in 0..sweeps {
+    points.extend((0..=GRID).step_by(17).map(|answered| direct_grid(&run, answered)));
+    for _ in 0..turns {
         points.iter_mut().for_each(Point::measure);
     }
     println!("what,amount,proved,rust");

@@ -1,11 +1,12 @@
 //! The proved archive and the Rust engine on the same enquiries in one run, in turn; prints the ratios proved / Rust.
+//! After them, in the same way, how many times as fast the proved grid is by its year sweep as point by point.
 //! ratios [--rounds N] [--markdown]
 use parvusek_bench::bases::{Draft, draft::Component, files, histories};
 use parvusek_bench::engine::layout::*;
 use parvusek_bench::engine::sets::{self, GRID, Record};
 use parvusek_bench::engine::valuation::Kind;
 use parvusek_bench::engine::{enquiries, file, short_form};
-use parvusek_bench::ffi::{self, Question, Questions};
+use parvusek_bench::ffi::{self, Question, Questions, Records};
 use parvusek_bench::timing::{Timing, race, race_cold};
 use std::env;
 use std::hint::black_box;
@@ -32,15 +33,15 @@ impl<'a> Lent<'a> {
     }
 }
 
-/// A piece of work for both engines, by name.
+/// A piece of work done in two ways, by name: by both engines, the proved one first, unless its table says otherwise.
 struct Case<'a> {
     name: String,
-    proved: Box<dyn FnMut() + 'a>,
-    rust: Box<dyn FnMut() + 'a>,
+    first: Box<dyn FnMut() + 'a>,
+    second: Box<dyn FnMut() + 'a>,
 }
 
-fn case<'a>(name: &str, proved: impl FnMut() + 'a, rust: impl FnMut() + 'a) -> Case<'a> {
-    Case { name: name.into(), proved: Box::new(proved), rust: Box::new(rust) }
+fn case<'a>(name: &str, first: impl FnMut() + 'a, second: impl FnMut() + 'a) -> Case<'a> {
+    Case { name: name.into(), first: Box::new(first), second: Box::new(second) }
 }
 
 /// Keeps the compiler from leaving out work whose answer nobody reads.
@@ -111,18 +112,39 @@ fn small_set(lent: Lent) -> Case {
     )
 }
 
-fn records(year: u32) -> Vec<Record> {
-    let asked = |index: usize| {
-        let age = 20 + index as u32;
-        Record { age, deferment: 0, year, refusal: 0, results: [0; 4], first: 0, second: 0 }
-    };
-    (0..GRID).map(asked).collect()
+fn record(age: u32, deferment: u32, year: u32) -> Record {
+    Record { age, deferment, year, refusal: 0, results: [0; 4], first: 0, second: 0 }
+}
+
+/// What a record asks, by its place in the grid and the first year that the grid asks about.
+type Asked = fn(usize, u32) -> Record;
+
+fn records(lent: Lent, asked: Asked) -> [Record; GRID] {
+    std::array::from_fn(|index| asked(index, lent.base_year + 4))
+}
+
+/// The benchmark's grid, as in the CMI guide (003, 3.7.3): 17 ages from 20 to 100 by 7 years, both in steps of 5.
+fn ages_by_years(index: usize, first_year: u32) -> Record {
+    let (year, age) = (index as u32 / 17, index as u32 % 17);
+    record(20 + 5 * age, 0, first_year + 5 * year)
+}
+
+/// As many ages as there are records, in one year.
+fn one_year(index: usize, year: u32) -> Record {
+    record(20 + index as u32, 0, year)
+}
+
+/// 17 ages from 28 to 60 by the same 7 years, all deferred to 65.
+fn deferred(index: usize, first_year: u32) -> Record {
+    let (year, age) = (index as u32 / 17, 28 + 2 * (index as u32 % 17));
+    record(age, 65 - age, first_year + 5 * year)
 }
 
 fn grid(lent: Lent) -> Case {
-    let (mut proved, mut own) = (records(lent.base_year + 4), records(lent.base_year + 4));
+    let mut proved = records(lent, ages_by_years);
+    let mut own = proved;
     case(
-        "grid, ages 20 to 138",
+        "grid, 17 ages by 7 years",
         move || {
             let (run, history) = lent.bytes();
             done(ffi::grid(run, history, black_box(&mut proved)))
@@ -130,6 +152,23 @@ fn grid(lent: Lent) -> Case {
         move || {
             let (run, history) = lent.bytes();
             done(sets::grid(run, history, black_box(&mut own)))
+        },
+    )
+}
+
+/// A grid point by point and by the year sweep, both by the proved archives.
+fn two_grids<'a>(lent: Lent<'a>, name: &str, asked: Asked) -> Case<'a> {
+    let points = records(lent, asked);
+    let mut filled = points;
+    case(
+        name,
+        move || {
+            let (run, history) = lent.bytes();
+            done(ffi::direct_grid(run, history, black_box(Records { points })))
+        },
+        move || {
+            let (run, history) = lent.bytes();
+            done(ffi::grid(run, history, black_box(&mut filled)))
         },
     )
 }
@@ -209,20 +248,30 @@ fn settings() -> Settings {
     Settings { rounds, markdown: words.iter().any(|word| word == "--markdown") }
 }
 
-fn print(settings: &Settings, name: &str, timing: &Timing) {
-    let Timing { proved, rust, ratio, lower, upper } = timing;
+/// What a table sets against each other: the heading of its ratios, the names of the two, and the digits worth showing.
+struct Sides {
+    ratio: &'static str,
+    names: [&'static str; 2],
+    digits: usize,
+}
+
+const ENGINES: Sides = Sides { ratio: "proved / Rust", names: ["proved", "Rust"], digits: 2 };
+const TWO_GRIDS: Sides = Sides { ratio: "times as fast", names: ["point by point", "sweep"], digits: 1 };
+
+fn print(settings: &Settings, sides: &Sides, name: &str, timing: &Timing) {
+    let Timing { first, second, ratio, lower, upper } = timing;
+    let Sides { names: [one, other], digits, .. } = sides;
     if settings.markdown {
-        println!("| {name} | {ratio:.2} | {lower:.2} to {upper:.2} |");
+        println!("| {name} | {ratio:.digits$} | {lower:.digits$} to {upper:.digits$} |");
     } else {
-        println!(
-            "{name:<28}{ratio:>7.2}  ({lower:.2} to {upper:.2})   proved {proved:>12.0} ns   Rust {rust:>12.0} ns"
-        );
+        let quartiles = format!("({lower:.digits$} to {upper:.digits$})");
+        println!("{name:<30}{ratio:>7.digits$}  {quartiles:<14}  {one} {first:>12.0} ns   {other} {second:>12.0} ns");
     }
 }
 
-fn title(settings: &Settings, text: &str) {
+fn title(settings: &Settings, sides: &Sides, text: &str) {
     if settings.markdown {
-        println!("\n{text}\n\n| work | proved / Rust | quartiles |\n|---|---|---|");
+        println!("\n{text}\n\n| work | {} | quartiles |\n|---|---|---|", sides.ratio);
     } else {
         println!("\n{text}");
     }
@@ -237,26 +286,58 @@ fn main() {
     let mut worst = 0.0f64;
     for (what, draft) in [("convergence over 10 to 40 years", Draft::benchmark()), ("over 50 years", slow_basis())] {
         let file = files::file_of(&draft.run);
-        title(&settings, &format!("Nothing cleared (caches warm), {what}:"));
+        title(&settings, &ENGINES, &format!("Nothing cleared (caches warm), {what}:"));
         worst = worst.max(warm(&settings, cases(Lent::new(&draft, &[]), &file)));
     }
-    for (foundation_year, base_year) in [(2006, 2000), (2080, 1992)] {
-        let draft = Draft::benchmark_from(foundation_year, base_year);
-        let history = histories::benchmark(draft.history_years());
-        title(&settings, &format!("Nothing cleared, with a history of {} years:", draft.history_years()));
+    for (draft, history) in with_histories() {
+        title(&settings, &ENGINES, &format!("Nothing cleared, with a history of {} years:", draft.history_years()));
         worst = worst.max(warm(&settings, cases_with_history(Lent::new(&draft, &history))));
     }
     cold(&settings);
     println!("\nratios: the largest ratio with warm caches is {worst:.2}");
+    grids(&settings);
+}
+
+/// The benchmark's basis where it needs a history of a few years and of the most, each with that history.
+fn with_histories() -> [(Draft, Vec<u8>); 2] {
+    [(2006, 2000), (2080, 1992)].map(|(foundation_year, base_year)| {
+        let draft = Draft::benchmark_from(foundation_year, base_year);
+        let history = histories::benchmark(draft.history_years());
+        (draft, history)
+    })
 }
 
 /// Prints the ratio of each, and hands back the largest.
 fn warm(settings: &Settings, cases: Vec<Case>) -> f64 {
     cases.into_iter().fold(0.0, |worst, mut case| {
-        let timing = race(settings.rounds, MEASURE, &mut *case.proved, &mut *case.rust);
-        print(settings, &case.name, &timing);
+        let timing = race(settings.rounds, MEASURE, &mut *case.first, &mut *case.second);
+        print(settings, &ENGINES, &case.name, &timing);
         timing.ratio.max(worst)
     })
+}
+
+/// How much the year sweep saves: its grid against the proved direct one, which answers point by point.
+fn grids(settings: &Settings) {
+    let (draft, slow, [few, most]) = (Draft::benchmark(), slow_basis(), with_histories());
+    let lent = Lent::new(&draft, &[]);
+    let cases = [
+        two_grids(lent, "17 ages by 7 years", ages_by_years),
+        two_grids(Lent::new(&slow, &[]), "the same over 50 years", ages_by_years),
+        two_grids(Lent::new(&few.0, &few.1), "the same, history of 6 years", ages_by_years),
+        two_grids(Lent::new(&most.0, &most.1), "the same, history of 88 years", ages_by_years),
+        two_grids(lent, "ages 20 to 138 in one year", one_year),
+        two_grids(lent, "ages 28 to 60 deferred to 65", deferred),
+    ];
+    title(
+        settings,
+        &TWO_GRIDS,
+        "The proved grid by its year sweep against the proved grid point by point, nothing cleared, convergence over 10 \
+         to 40 years:",
+    );
+    for mut case in cases {
+        let timing = race(settings.rounds, MEASURE, &mut *case.first, &mut *case.second);
+        print(settings, &TWO_GRIDS, &case.name, &timing);
+    }
 }
 
 /// A single call after the data caches were filled with other data.
@@ -268,9 +349,9 @@ fn cold(settings: &Settings) {
         let sum: u64 = other.iter().step_by(64).map(|&byte| u64::from(byte)).sum();
         black_box(sum);
     };
-    title(settings, "Data caches cleared before each call (64 MiB of other data read):");
+    title(settings, &ENGINES, "Data caches cleared before each call (64 MiB of other data read):");
     for mut case in cases(Lent::new(&draft, &[]), &file).into_iter().take(6) {
-        let timing = race_cold(settings.rounds.min(60), &clear, &mut *case.proved, &mut *case.rust);
-        print(settings, &case.name, &timing);
+        let timing = race_cold(settings.rounds.min(60), &clear, &mut *case.first, &mut *case.second);
+        print(settings, &ENGINES, &case.name, &timing);
     }
 }

@@ -1,9 +1,10 @@
-//! The stack that each call of the archive touches: the most over answered and refused questions, as lines of CSV.
+//! The stack that each call of the archive touches, and the direct grid beside them: the most over answered and refused
+//! questions, as lines of CSV. What goes by value lies above what is counted.
 use parvusek_bench::bases::{Draft, files};
 use parvusek_bench::compare::inputs;
 use parvusek_bench::engine::layout::{FILE_LENGTH, RUN_LENGTH};
 use parvusek_bench::engine::sets::{GRID, Record};
-use parvusek_bench::ffi::{Question, Questions, SmallSet, raw::*};
+use parvusek_bench::ffi::{Question, Questions, Records, raw::*};
 use parvusek_bench::random::Random;
 use parvusek_bench::stack::{Arguments, touched};
 
@@ -16,19 +17,27 @@ struct Lent {
     records: Vec<Record>,
 }
 
-fn lent(run: Vec<u8>, history: Vec<u8>) -> Lent {
-    let record = Record { age: 20, deferment: 0, year: 2010, refusal: 0, results: [0; 4], first: 0, second: 0 };
+fn lent(random: &mut Random, run: Vec<u8>, history: Vec<u8>) -> Lent {
+    let records = (0..GRID).map(|_| inputs::record(random, &run)).collect();
     let mut whole = run.clone();
     whole.resize(RUN_LENGTH, 0);
-    Lent { run, history, file: files::file_of(&whole), output: vec![0; FILE_LENGTH], records: vec![record; GRID] }
+    Lent { run, history, file: files::file_of(&whole), output: vec![0; FILE_LENGTH], records }
+}
+
+/// A record as it is passed by value.
+fn words(record: &Record) -> [u64; 8] {
+    let pair = |low: u32, high: u32| u64::from(low) | u64::from(high) << 32;
+    let Record { age, deferment, year, refusal, results, first, second } = *record;
+    let [one, two, three, four] = results;
+    [pair(age, deferment), pair(year, refusal), one, two, three, four, first, second]
 }
 
 impl Lent {
     /// A call that is lent these bytes, and after them given the rest.
     fn touched(&self, function: *const (), lent: &[&[u8]], rest: &[u64], by_value: &[u64]) -> usize {
-        // the place of an answer, larger than any other
-        let mut answer = SmallSet::default();
-        let mut words = vec![&raw mut answer as u64];
+        // the place of an answer, the largest of which is a whole grid
+        let mut answer = vec![0u64; size_of::<Records>() / size_of::<u64>()];
+        let mut words = vec![answer.as_mut_ptr() as u64];
         words.extend(lent.iter().flat_map(|bytes| [bytes.as_ptr() as u64, bytes.len() as u64]));
         words.extend(rest);
         unsafe { touched(function, &Arguments::new(&words, by_value)) }
@@ -39,16 +48,24 @@ impl Lent {
         self.touched(function, &[&self.run, &self.history], rest, &[])
     }
 
-    fn file_calls(&mut self) -> [(&'static str, usize); 5] {
+    fn file_calls(&mut self) -> [(&'static str, usize); 4] {
         let (out, length) = (self.output.as_mut_ptr() as u64, self.output.len() as u64);
-        let records = self.records.as_mut_ptr() as u64;
         let (run, file): (&[u8], &[u8]) = (&self.run, &self.file);
         [
             ("check_basis", self.touched(parvusek_check_basis as *const (), &[run], &[], &[])),
             ("read_basis", self.touched(parvusek_read_basis as *const (), &[file], &[out, length], &[])),
             ("write_basis", self.touched(parvusek_write_basis as *const (), &[run], &[out, length], &[])),
             ("short_form", self.touched(parvusek_short_form as *const (), &[run], &[10_000_000, out, length], &[])),
+        ]
+    }
+
+    fn grids(&mut self) -> [(&'static str, usize); 2] {
+        let by_value: Vec<u64> = self.records.iter().flat_map(words).collect();
+        let records = self.records.as_mut_ptr() as u64;
+        let lent: [&[u8]; 2] = [&self.run, &self.history];
+        [
             ("grid", self.with(parvusek_grid as *const (), &[records, GRID as u64])),
+            ("direct_grid", self.touched(parvusek_direct_grid as *const (), &lent, &[], &by_value)),
         ]
     }
 
@@ -96,12 +113,13 @@ fn main() {
     let mut random = Random::new(1);
     for base in 0..60 {
         let mut lent = if base == 0 {
-            lent(Draft::benchmark().run, Vec::new())
+            lent(&mut random, Draft::benchmark().run, Vec::new())
         } else {
             let inputs::Basis { run, history, .. } = inputs::basis(&mut random);
-            lent(run, history)
+            lent(&mut random, run, history)
         };
         lent.file_calls().into_iter().for_each(&mut note);
+        lent.grids().into_iter().for_each(&mut note);
         for _ in 0..20 {
             let question = inputs::question(&mut random, &lent.run);
             lent.cells(question).into_iter().for_each(&mut note);

@@ -8,7 +8,7 @@ use crate::engine::lifeline::{self, Stand};
 use crate::engine::sets::{self, GRID, Record};
 use crate::engine::valuation::Kind;
 use crate::engine::{Refusal as EngineRefusal, enquiries, file, short_form};
-use crate::ffi::{self, Answer, Lifeline, Refusal, SignedAnswer, SmallSet};
+use crate::ffi::{self, Answer, Lifeline, Records, Refusal, SignedAnswer, SmallSet};
 use crate::guard::{Edge, Guarded};
 use crate::random::Random;
 use std::fmt::Debug;
@@ -94,7 +94,8 @@ impl Calls {
         if rust == proved {
             return Ok(());
         }
-        Err(Difference { function, asked: asked(), rust: format!("{rust:?}"), proved: format!("{proved:?}") })
+        let answers = [("Rust", format!("{rust:?}")), ("proved", format!("{proved:?}"))];
+        Err(Difference { function, asked: asked(), answers })
     }
 
     pub fn check_basis(&mut self) -> Compared {
@@ -223,10 +224,12 @@ impl Calls {
         let kept = proved.number == 0 || lent == before;
         let differing = lent.iter().zip(&rust_records).position(|(found, wanted)| found != wanted);
         let found = differing.map(|place| (place, before[place], rust_records[place], lent[place]));
+        if let (Some(before), Some(filled)) = (before.first_chunk(), lent.first_chunk()) {
+            same_directly(run, history, before, filled)?;
+            self.tally.direct_grid();
+        }
         if rust.number == 0 {
-            for record in &rust_records[..GRID] {
-                self.tally.outcome(Function::Grid, record.refusal);
-            }
+            self.tally.filled_grid(&rust_records[..GRID]);
         }
         let asked = || format!("{count} records; place, before, Rust, proved of the first that differs: {found:?}");
         self.same(Function::Grid, rust.number, &asked, &(rust, true, true), &(proved, kept, found.is_none()))
@@ -251,6 +254,19 @@ impl Calls {
         let proved = ffi::lifeline_step(run, history, age, year, stand.survivors);
         let rust = Lifeline::of_step(stand, lifeline::step(run, history, stand));
         self.same(Function::LifelineStep, rust.refusal.number, &|| format!("{stand:?}"), &rust, &proved)
+    }
+}
+
+/// The archive against itself: what its grid made of these records, filled or kept, its direct grid makes of them too.
+fn same_directly(run: &[u8], history: &[u8], before: &[Record; GRID], filled: &[Record; GRID]) -> Compared {
+    let direct = ffi::direct_grid(run, history, Records { points: *before }).points;
+    match (0..GRID).find(|&place| direct[place] != filled[place]) {
+        Some(place) => Err(Difference {
+            function: Function::Grid,
+            asked: format!("record {place}, in which the archive's grid and its own direct grid differ"),
+            answers: [("grid", format!("{:?}", filled[place])), ("direct", format!("{:?}", direct[place]))],
+        }),
+        None => Ok(()),
     }
 }
 

@@ -15,12 +15,13 @@ pub struct Basis {
 
 /// A basis of any kind, as it is or damaged in its run, in its history or in both.
 pub fn basis(random: &mut Random) -> Basis {
-    match random.below(14) {
+    match random.below(16) {
         0..=3 => accepted(random, "modest"),
         4 | 5 => accepted(random, "anywhere"),
         6 | 7 => accepted(random, "extreme"),
         8 | 9 => accepted(random, "brink"),
-        10 | 11 => {
+        10 | 11 => accepted(random, "uneven"),
+        12 | 13 => {
             let mut basis = any_accepted(random);
             damaged::damage(random, &mut basis.run);
             if random.one_in(4) {
@@ -54,12 +55,13 @@ fn accepted(random: &mut Random, kind: &'static str) -> Basis {
         "modest" => valid::modest(random),
         "anywhere" => valid::anywhere(random),
         "extreme" => valid::extreme(random),
+        "uneven" => valid::uneven(random),
         _ if random.one_in(4) => valid::fourfold(random),
         _ if random.one_in(3) => valid::edge(random),
         _ => valid::brink(random),
     };
     let mut improvements = match kind {
-        "modest" => histories::modest,
+        "modest" | "uneven" => histories::modest,
         "anywhere" => histories::anywhere,
         "extreme" => histories::extreme,
         _ => histories::brink,

@@ -1,4 +1,5 @@
 //! What was compared, and the first difference.
+use crate::engine::sets::Record;
 use std::fmt;
 
 /// The functions of the header, in its order.
@@ -66,6 +67,36 @@ pub struct Tally {
     outcomes: Counts,
     /// Of these, the answers on a run whose history is needed, and what the history itself refused.
     by_history: Counts,
+    grids: Grids,
+}
+
+/// Grids as a whole.
+#[derive(Clone, Default)]
+struct Grids {
+    /// Filled or refused, and the same in the archive's own direct grid.
+    direct: u64,
+    /// Filled, on an accepted basis.
+    filled: u64,
+    /// Of these, by what is to be met in one grid.
+    mixed: [u64; MIXTURES.len()],
+}
+
+/// Where a year sweep could mistake one record for another, or one age's refusal for another's.
+const MIXTURES: [(&str, fn(&[Record]) -> bool); 4] = [
+    ("answers beside 9", |records| has(records, 0) && has(records, 9)),
+    ("answers beside 10", |records| has(records, 0) && has(records, 10)),
+    ("9 or 10 at several ages and in several years", |records| {
+        let refused: Vec<_> = records.iter().filter(|record| record.refusal > 8).collect();
+        refused.iter().any(|other| other.first != refused[0].first && other.second != refused[0].second)
+    }),
+    ("answers of several years and deferments", |records| {
+        let answered: Vec<_> = records.iter().filter(|record| record.refusal == 0).collect();
+        answered.iter().any(|other| other.year != answered[0].year && other.deferment != answered[0].deferment)
+    }),
+];
+
+fn has(records: &[Record], refusal: u32) -> bool {
+    records.iter().any(|record| record.refusal == refusal)
 }
 
 impl Tally {
@@ -81,6 +112,21 @@ impl Tally {
         self.by_history[function as usize][(refusal as usize).min(OUTCOMES - 1)] += 1;
     }
 
+    /// A grid that the archive's own direct grid has the same.
+    pub fn direct_grid(&mut self) {
+        self.calls += 1;
+        self.grids.direct += 1;
+    }
+
+    /// The records of a grid on an accepted basis, as they were filled.
+    pub fn filled_grid(&mut self, records: &[Record]) {
+        self.grids.filled += 1;
+        for (count, (_, is_met)) in self.grids.mixed.iter_mut().zip(MIXTURES) {
+            *count += u64::from(is_met(records));
+        }
+        records.iter().for_each(|record| self.outcome(Function::Grid, record.refusal));
+    }
+
     pub fn calls(&self) -> u64 {
         self.calls
     }
@@ -90,6 +136,7 @@ impl Tally {
         for (counts, more) in [(&mut self.outcomes, &other.outcomes), (&mut self.by_history, &other.by_history)] {
             counts.as_flattened_mut().iter_mut().zip(more.as_flattened()).for_each(|(sum, count)| *sum += count);
         }
+        self.grids.add(&other.grids);
     }
 
     /// Answers and refusals that can be given and that were never met.
@@ -107,7 +154,33 @@ impl Tally {
                 }
             }
         }
+        missing.extend(self.grids.missing());
         missing
+    }
+}
+
+impl Grids {
+    fn add(&mut self, other: &Grids) {
+        self.direct += other.direct;
+        self.filled += other.filled;
+        self.mixed.iter_mut().zip(other.mixed).for_each(|(sum, count)| *sum += count);
+    }
+
+    fn missing(&self) -> impl Iterator<Item = String> {
+        let never = self.mixed.iter().zip(MIXTURES).filter(|(count, _)| **count == 0);
+        let none_direct = (self.direct == 0).then(|| "the direct grid".to_string());
+        never.map(|(_, (what, _))| format!("a grid with {what}")).chain(none_direct)
+    }
+}
+
+impl fmt::Display for Grids {
+    fn fmt(&self, f: &mut fmt::Formatter) -> fmt::Result {
+        writeln!(f, "{} grids filled or refused as the archive's own direct grid has it", self.direct)?;
+        write!(f, "{} grids filled", self.filled)?;
+        for (count, (what, _)) in self.mixed.iter().zip(MIXTURES) {
+            write!(f, "; {count} with {what}")?;
+        }
+        writeln!(f)
     }
 }
 
@@ -132,7 +205,8 @@ impl fmt::Display for Tally {
     fn fmt(&self, f: &mut fmt::Formatter) -> fmt::Result {
         table(f, "", &FUNCTIONS, &std::array::from_fn::<usize, OUTCOMES, _>(|refusal| refusal), &self.outcomes)?;
         let lending: Vec<Function> = FUNCTIONS.into_iter().filter(|function| function.lends_history()).collect();
-        table(f, "by the history", &lending, &HISTORY_OUTCOMES, &self.by_history)
+        table(f, "by the history", &lending, &HISTORY_OUTCOMES, &self.by_history)?;
+        write!(f, "{}", self.grids)
     }
 }
 
@@ -156,19 +230,18 @@ fn table(f: &mut fmt::Formatter, title: &str, rows: &[Function], columns: &[usiz
     line("all".into(), &|outcome| rows.iter().map(|&function| counts[function as usize][outcome]).sum())
 }
 
-/// A call on which the two engines differ, or that broke the header's promise about a lent output.
+/// A call on which two engines differ, or that broke the header's promise about a lent output.
 #[derive(Debug)]
 pub struct Difference {
     pub function: Function,
     pub asked: String,
-    pub rust: String,
-    pub proved: String,
+    /// Who answered, and what.
+    pub answers: [(&'static str, String); 2],
 }
 
 impl fmt::Display for Difference {
     fn fmt(&self, f: &mut fmt::Formatter) -> fmt::Result {
-        writeln!(f, "{:?} of {}", self.function, self.asked)?;
-        writeln!(f, "  Rust:   {}", self.rust)?;
-        write!(f, "  proved: {}", self.proved)
+        write!(f, "{:?} of {}", self.function, self.asked)?;
+        self.answers.iter().try_for_each(|(who, answer)| write!(f, "\n  {:<8}{answer}", format!("{who}:")))
     }
 }

@@ -58,7 +58,7 @@ fn ask(calls: &mut Calls, random: &mut Random) -> Result<(), Difference> {
     if refused || random.one_in(8) {
         calls.small_set(random)?;
     }
-    if refused || random.one_in(16) {
+    if refused || random.one_in(4) {
         calls.grid(random)?;
     }
     Ok(())

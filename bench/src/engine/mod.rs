@@ -1,6 +1,6 @@
 //! The rules of 01 as the changes leave them, written once more from the papers alone. No call keeps anything for a later
 //! one: the data run and the history are checked once in each call, and the terms of an age are read once where its
-//! factor is worked out.
+//! factor is worked out. The grid is answered from a year sweep; all else, and a second grid, from each factor by itself.
 pub mod basis;
 pub mod enquiries;
 pub mod file;
@@ -11,6 +11,7 @@ pub mod projection;
 pub mod refusal;
 pub mod sets;
 pub mod short_form;
+pub mod sweep;
 pub mod units;
 pub mod valuation;
 
@@ -22,5 +23,7 @@ mod histories;
 mod orders;
 #[cfg(test)]
 mod rounding;
+#[cfg(test)]
+mod sweeps;
 
 pub use refusal::Refusal;

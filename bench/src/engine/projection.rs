@@ -55,14 +55,20 @@ impl Component {
 
 /// The factor a year later, if it is not above 4 U.
 #[inline]
-fn improved(factor: u64, improvement: i64) -> Option<u64> {
+pub(super) fn improved(factor: u64, improvement: i64) -> Option<u64> {
     let factor = product(factor, (UNIT as i64 - improvement) as u64);
     (factor <= 4 * UNIT).then_some(factor)
 }
 
+/// A base rate after its reduction.
+#[inline]
+pub(super) fn reduced(base_rate: u64, factor: u64) -> u64 {
+    product(base_rate, factor).min(UNIT)
+}
+
 impl Basis<'_> {
     #[inline]
-    fn base_rate(&self, age: u32) -> u64 {
+    pub(super) fn base_rate(&self, age: u32) -> u64 {
         signed(self.run, BASE_RATES + 4 * (age - FIRST_AGE) as usize) as u64
     }
 
@@ -103,7 +109,7 @@ impl Basis<'_> {
 
     /// The history's, as it stands there: no addition, and its limits are those of 9.
     #[inline]
-    fn actual_improvement(&self, age: u32, year: u32) -> i64 {
+    pub(super) fn actual_improvement(&self, age: u32, year: u32) -> i64 {
         self.history.improvement(age, year - self.base_year - 1)
     }
 
@@ -132,7 +138,6 @@ impl Basis<'_> {
     }
 
     pub fn rate(&self, age: u32, year: u32) -> Result<u64, Refusal> {
-        let factor = self.factor(age, year)?;
-        Ok(product(self.base_rate(age), factor).min(UNIT))
+        Ok(reduced(self.base_rate(age), self.factor(age, year)?))
     }
 }

@@ -1,7 +1,8 @@
-//! The small set of six model points, and the grid of 119 records filled in place.
+//! The small set of six model points, and the grid of 119 records filled in place: from a year sweep, or point by point.
 use super::basis::Basis;
 use super::enquiries::check_question;
 use super::refusal::Refusal;
+use super::sweep::Swept;
 use super::valuation::Kind;
 
 pub const SMALL_SET: usize = 6;
@@ -50,9 +51,12 @@ pub struct Record {
 }
 
 impl Record {
-    fn answer(&mut self, basis: &Basis) {
-        let question = Question { age: self.age, deferment: self.deferment, year: self.year };
-        match point(basis, question) {
+    fn question(&self) -> Question {
+        Question { age: self.age, deferment: self.deferment, year: self.year }
+    }
+
+    fn answer(&mut self, outcome: Result<Results, Refusal>) {
+        match outcome {
             Ok(results) => {
                 self.results = results;
                 (self.refusal, self.first, self.second) = (0, 0, 0);
@@ -66,10 +70,31 @@ impl Record {
 }
 
 pub fn grid(run: &[u8], history: &[u8], records: &mut [Record]) -> Result<(), Refusal> {
+    let (basis, records) = accept_grid(run, history, records)?;
+    let swept = Swept::new(basis);
+    for record in records {
+        let question = record.question();
+        let Question { age, deferment, year } = question;
+        record.answer(check_question(&basis, age, deferment, year).and_then(|()| swept.point(question)));
+    }
+    Ok(())
+}
+
+/// The same answers, each record's for itself.
+pub fn direct_grid(run: &[u8], history: &[u8], records: &mut [Record]) -> Result<(), Refusal> {
+    let (basis, records) = accept_grid(run, history, records)?;
+    records.iter_mut().for_each(|record| record.answer(point(&basis, record.question())));
+    Ok(())
+}
+
+/// The records that are answered, if there are enough of them and the basis is accepted.
+fn accept_grid<'lent, 'records>(
+    run: &'lent [u8],
+    history: &'lent [u8],
+    records: &'records mut [Record],
+) -> Result<(Basis<'lent>, &'records mut [Record]), Refusal> {
     let Some(records) = records.get_mut(..GRID) else {
         return Err(Refusal::output(GRID));
     };
-    let basis = Basis::accept(run, history)?;
-    records.iter_mut().for_each(|record| record.answer(&basis));
-    Ok(())
+    Ok((Basis::accept(run, history)?, records))
 }

@@ -13,7 +13,7 @@ pub enum Kind {
 impl Kind {
     /// The year whose rate is used `elapsed` years after `year`.
     #[inline]
-    fn year_of_rate(self, year: u32, elapsed: u32) -> u32 {
+    pub(super) fn year_of_rate(self, year: u32, elapsed: u32) -> u32 {
         match self {
             Kind::Period => year,
             Kind::Cohort => year + elapsed,
@@ -67,7 +67,7 @@ impl Basis<'_> {
     /// `discount * U / (U + rate of discount)`, rounded. Even at the lowest rate a discount stays below 4 U for the 130
     /// years from 20 to 150, so that twice the product fits.
     #[inline]
-    fn discounted(&self, discount: u64) -> u64 {
+    pub(super) fn discounted(&self, discount: u64) -> u64 {
         let divisor = (UNIT as i64 + self.discount_rate) as u64;
         (2 * discount * UNIT + divisor) / (2 * divisor)
     }
