@@ -3,7 +3,7 @@ ghost use mathlib.Core.Path.{_≡_};
 ghost use Prim.Native.Nat.{_+_, _≤_};
 ghost use Rattle.basis.specs.Outcome.{meaning};
 ghost use Rattle.history.specs.History.{basisWith, AcceptedWith};
-ghost use Rattle.valuation.specs.Valuation.{expectationOf, annuityOf};
+ghost use Rattle.valuation.specs.Valuation.{expectationOf};
 ghost use Rattle.workings.specs.Workings.{Workings};
 ghost use Rattle.model_points.specs.Point.{resultsOf, pointAnswerOf, pointOf};
 ghost use Rattle.grid_record.specs.Record.{answeredOf};
@@ -16,12 +16,6 @@ use grid_record::Point;
 use model_points::PointAnswer;
 use model_points::Question;
 use survivorship::Kind;
-
-// What one kind gives a point.
-struct Valued {
-    expectation: Answer,
-    annuity: Answer,
-}
 
 fn expectation_in(p: Passage) -> Answer
     ensures { λ r. ⌜ meaning r ≡ expectationIn p ⌝ }
@@ -41,58 +35,43 @@ fn annuity_in(p: Passage) -> Answer
     }
 }
 
-// The expectation and the annuity of one kind. Without a deferment one passage has both.
-fn values_of(
+// The expectation of one kind: without a deferment that of the passage from the age itself, which is known; else that of a
+// passage from the later age.
+fn expectation(
     run: &[u8],
     history: &[u8],
     workings: &[u32],
     kind: Kind,
-    age: u32,
-    year: u32,
-    deferment: u32,
-) -> Valued
-    requires { ⌜ AcceptedWith (now run) (now history) × Workings (basisWith (now run) (now history)) (now workings) × (20 ≤ age) × (age + deferment ≤ 150) × (basisWith (now run) (now history) .base ≤ year) × (year ≤ 2130) ⌝ }
-    ensures { λ r. ⌜ meaning (r .expectation) ≡ expectationOf (basisWith (now (run .entry)) (now (history .entry))) kind age year deferment ⌝ }
-    ensures { λ r. ⌜ meaning (r .annuity) ≡ annuityOf (basisWith (now (run .entry)) (now (history .entry))) kind age year deferment ⌝ }
+    q: Question,
+    known: Passage,
+) -> Answer
+    requires { ⌜ AcceptedWith (now run) (now history) × Workings (basisWith (now run) (now history)) (now workings) × (20 ≤ q .age) × (q .age + q .deferment ≤ 150) × (basisWith (now run) (now history) .base ≤ q .year) × (q .year ≤ 2130) × (expectationIn known ≡ expectationOf (basisWith (now run) (now history)) kind (q .age) (q .year) 0) ⌝ }
+    ensures { λ r. ⌜ meaning r ≡ expectationOf (basisWith (now (run .entry)) (now (history .entry))) kind (q .age) (q .year) (q .deferment) ⌝ }
 {
-    let p = passage::passage_from(run, history, workings, kind, age, year, deferment);
-    let annuity = annuity_in(p);
-    if deferment == 0 {
-        let expectation = expectation_in(p);
-        return Valued {
-            expectation,
-            annuity,
-        };
+    if q.deferment == 0 {
+        return expectation_in(known);
     }
-    let from = age + deferment;
-    let start = year + deferment;
-    let later = passage::passage_from(run, history, workings, kind, from, start, 0);
-    let expectation = expectation_in(later);
-    Valued {
-        expectation,
-        annuity,
-    }
+    let age = q.age + q.deferment;
+    let year = q.year + q.deferment;
+    expectation_in(passage::passage_from(run, history, workings, kind, age, year, 0))
 }
 
 // The results of a question that has been checked.
-fn results_at(
-    run: &[u8],
-    history: &[u8],
-    workings: &[u32],
-    age: u32,
-    deferment: u32,
-    year: u32,
-) -> PointAnswer
-    requires { ⌜ AcceptedWith (now run) (now history) × Workings (basisWith (now run) (now history)) (now workings) × (20 ≤ age) × (age + deferment ≤ 150) × (basisWith (now run) (now history) .base ≤ year) × (year ≤ 2130) ⌝ }
-    ensures { λ r. ⌜ r ≡ pointAnswerOf (resultsOf (basisWith (now (run .entry)) (now (history .entry))) age deferment year) ⌝ }
+fn results_at(run: &[u8], history: &[u8], workings: &[u32], q: Question) -> PointAnswer
+    requires { ⌜ AcceptedWith (now run) (now history) × Workings (basisWith (now run) (now history)) (now workings) × (20 ≤ q .age) × (q .age + q .deferment ≤ 150) × (basisWith (now run) (now history) .base ≤ q .year) × (q .year ≤ 2130) ⌝ }
+    ensures { λ r. ⌜ r ≡ pointAnswerOf (resultsOf (basisWith (now (run .entry)) (now (history .entry))) (q .age) (q .deferment) (q .year)) ⌝ }
 {
-    let period = values_of(run, history, workings, Kind::Period, age, year, deferment);
-    let cohort = values_of(run, history, workings, Kind::Cohort, age, year, deferment);
-    let first = period.expectation;
-    let second = cohort.expectation;
-    let third = period.annuity;
-    let fourth = cohort.annuity;
-    model_points::four(first, second, third, fourth)
+    let age = q.age;
+    let year = q.year;
+    let wait = q.deferment;
+    let period = passage::passage_from(run, history, workings, Kind::Period, age, year, wait);
+    let cohort = passage::passage_from(run, history, workings, Kind::Cohort, age, year, wait);
+    model_points::four(
+        expectation(run, history, workings, Kind::Period, q, period),
+        expectation(run, history, workings, Kind::Cohort, q, cohort),
+        annuity_in(period),
+        annuity_in(cohort),
+    )
 }
 
 fn point_at(run: &[u8], history: &[u8], workings: &[u32], q: Question) -> PointAnswer
@@ -100,7 +79,7 @@ fn point_at(run: &[u8], history: &[u8], workings: &[u32], q: Question) -> PointA
     ensures { λ r. ⌜ r ≡ pointOf (basisWith (now (run .entry)) (now (history .entry))) q ⌝ }
 {
     match question::check_question(run, q.age, q.deferment, q.year) {
-        Check::Passed => results_at(run, history, workings, q.age, q.deferment, q.year),
+        Check::Passed => results_at(run, history, workings, q),
         Check::Refused(r) => model_points::refused_point(r),
     }
 }
