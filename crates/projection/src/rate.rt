@@ -23,7 +23,8 @@ fn rate_from(run: &[u8], age: u32, factor: u64) -> u64
     if rate < UNIT { rate } else { UNIT }
 }
 
-// The mortality rate at an age in a year from what its factor is, wherever that was worked out.
+// The mortality rate at an age in a year from what its factor is, wherever that was worked out. The history and the year
+// say whose factor it is, and nothing is read of them.
 pub fn rate_by(run: &[u8], history: &[u8], age: u32, year: u32, factor: Answer) -> Answer
     requires { ⌜ AcceptedWith (now run) (now history) × (20 ≤ age) × (age ≤ 150) × (meaning factor ≡ factorOf (basisWith (now run) (now history)) age year) ⌝ }
     ensures { λ r. ⌜ meaning r ≡ rateOf (basisWith (now (run .entry)) (now (history .entry))) age year ⌝ }

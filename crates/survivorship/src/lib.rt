@@ -35,7 +35,8 @@ fn survivors_next(s: u64, q: u64) -> u64
     arithmetic::round_div_unsigned(s * (UNIT - q), UNIT)
 }
 
-// The same with what the rate of an age and a year is, wherever that was worked out, or its refusal.
+// The same with what the rate of an age and a year is, wherever that was worked out, or its refusal. The run, the history,
+// the age and the year say whose rate it is, and nothing is read of them.
 pub fn survivors_by(run: &[u8], history: &[u8], age: u32, year: u32, rate: Answer, s: u64) -> Answer
     requires { ⌜ (s ≤ 1_000_000_000) × (meaning rate ≡ rateOf (basisWith (now run) (now history)) age year) ⌝ }
     ensures { λ r. ⌜ meaning r ≡ survivorsAfterYear (basisWith (now (run .entry)) (now (history .entry))) age year (pos s) ⌝ }

@@ -31,7 +31,7 @@ fn wide(n: u32) -> u64
     n as u64
 }
 
-// The discount after some years.
+// The discount after some years; the run and the history say on which basis, and nothing is read of them.
 pub fn discount(run: &[u8], history: &[u8], numbers: &[u32], j: u32) -> u64
     requires { ⌜ Workings (basisWith (now run) (now history)) (now numbers) × (j ≤ 130) ⌝ }
     ensures { λ r. ⌜ pos r ≡ discountAfter (basisWith (now (run .entry)) (now (history .entry))) j ⌝ }
