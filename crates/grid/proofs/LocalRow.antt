@@ -24,10 +24,15 @@ use denote.Array.{Array, arrayVal, each, array-lawful, array-makes}
 use denote.ArrayMemory.{array-apart, array-whole}
 use denote.Plain.{uint-lawful, uint-makes}
 use denote.Builtin.{u32}
-use denote.Slice.{sliceTy, Room, finally}
+use denote.Ref.{RefT}
+use denote.Slice.{sliceTy, sliceVal, Room, finally}
 use denote.Lend.{Held, slice-back}
 use denote.Steps.{owned}
 use denote.Index.{row, whole-in, whole-out}
+
+-- the machine value of a slice
+abbrev pub val : {X : Type 0} → RefT (List X) → Val
+val s = sliceVal (s .ptr) (length (s .now))
 
 pub big : {M : Type 1} {𝓤 : URA M} {H : Heap 𝓤} {A : Atoms 𝓤} {K : Type 0} {W : Given 𝓤 H A} {Γ : List (Item 𝓤)} {E : Env 𝓤 H} → K → {w : Width} {n : ℕ}
     → Fits w n → Opd K W Γ E (intBig w n) (vint w n)

@@ -55,7 +55,7 @@ use Rattle.grid_record.proofs.Point as P
 use Rattle.basis.proofs.Check as F
 use Rattle.basis.proofs.Check.Laws as F′
 use Rattle.grid.proofs.Filled.{records-fit, grid-is}
-use Rattle.grid.proofs.LocalRow.{big, array-of, slice-of, Row, enough, zeros-typed, zeros-lie, row-back, row-room}
+use Rattle.grid.proofs.LocalRow.{big, array-of, slice-of, Row, enough, zeros-typed, zeros-lie, row-back, row-room, val}
 use Rattle.grid.proofs.GridStart as G
 use Rattle.grid.proofs.GridStart.Laws as G′
 use Rattle.grid.proofs.begin_grid as begin
@@ -102,10 +102,6 @@ function = record {
       ∷ local list-ptr valueLocal ∷ local (sliceTy list-ptr) valueLocal ∷ [];
   body = parts.t-1;
 }
-
--- the machine value of a slice
-abbrev val : {X : Type 0} → RefT (List X) → Val
-val s = sliceVal (s .ptr) (length (s .now))
 
 abbrev start-val : GridStart → Val
 start-val f = LL.val G.the-type G′.the-laws f
