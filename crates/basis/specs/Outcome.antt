@@ -1,6 +1,6 @@
 -- Checks, and work that can be refused (01, "Who can cause a refusal"): the first refusal in the order decides.
 use Prim.Native.Nat.{ℕ, zero, suc}
-use mathlib.Core.Bool.{Bool, cond}
+use mathlib.Core.Bool.{Bool, true, false, cond}
 use lib.IntN.{ℤ, pos, _+ℤ_}
 use Rattle.basis.specs.declared.Refusal.{Refusal}
 use Rattle.basis.specs.declared.Check.{Check}
@@ -22,6 +22,11 @@ noRefusal = refusal 0 0 0
 -- what has to hold, and the refusal where it does not
 abbrev pub unless : Bool → Refusal → Check
 unless ok r = cond ok Passed (Refused r)
+
+-- whether a check refuses nothing
+abbrev pub passes : Check → Bool
+passes Passed = true
+passes (Refused r) = false
 
 -- the first refusal of two checks
 abbrev pub firstOf : Check → Check → Check

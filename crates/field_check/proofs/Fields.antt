@@ -1,11 +1,12 @@
 -- A table of fields row by row; it passes exactly if every number of every row is between its limits. Assumes nothing.
 use mathlib.Core.Path.{_≡_, refl, sym, ap, _∙_}
+use mathlib.Core.Bool.{Bool, _&&_}
 use mathlib.Core.List.{List, [], _∷_, _++_}
 use Prim.Native.Nat.{ℕ}
 use Rattle.basis.specs.declared.Check.{Check}
-use Rattle.basis.specs.declared.Check.the-variants.{Passed}
-use Rattle.basis.specs.Outcome.{firstOf}
-use Rattle.basis.proofs.Outcome.{both-passed, first-together}
+use Rattle.basis.specs.declared.Check.the-variants.{Passed, Refused}
+use Rattle.basis.specs.Outcome.{firstOf, passes}
+use Rattle.basis.proofs.Outcome.{both-passed, both-pass, first-together}
 use Rattle.field_check.specs.declared.Field.{Field}
 use Rattle.field_check.specs.Field.{fieldCheck, fieldsCheck}
 use Rattle.field_check.proofs.Holds.{Holds, field-holds, field-passes}
@@ -43,3 +44,17 @@ pub rows-join : (run : List ℕ) (fs gs : List Field) → fieldsCheck run (fs ++
 unfolding fieldsCheck
 rows-join run [] gs = refl
 rows-join run (f ∷ fs) gs = ap (λ (c : Check). firstOf (fieldCheck run f) c) (rows-join run fs gs) ∙ sym (first-together (fieldCheck run f) _ _)
+
+-- two tables pass where each does, row by row
+pub row-passes : (run : List ℕ) (f : Field) (fs : List Field) {ok rest : Bool}
+    → ok ≡ passes (fieldCheck run f) → rest ≡ passes (fieldsCheck run fs) → (ok && rest) ≡ passes (fieldsCheck run (f ∷ fs))
+unfolding fieldsCheck
+row-passes run f fs e g = both-pass (fieldCheck run f) (fieldsCheck run fs) e g
+
+pub last-passes : (run : List ℕ) (f : Field) {ok : Bool} → ok ≡ passes (fieldCheck run f) → ok ≡ passes (fieldsCheck run (f ∷ []))
+unfolding fieldsCheck
+last-passes run f e = e ∙ by (fieldCheck run f)
+  where
+    by : (c : Check) → passes c ≡ passes (firstOf c Passed)
+    by Passed = refl
+    by (Refused r) = refl

@@ -1,13 +1,15 @@
 -- A turn of the walk over the numbers of a field. Assumes nothing.
-use mathlib.Core.Path.{_≡_}
-use mathlib.Core.Bool.{Bool, true, false}
+use mathlib.Core.Path.{_≡_, refl}
+use mathlib.Core.Bool.{Bool, true, false, cond, _&&_}
 use mathlib.Core.List.{List}
 use Prim.Native.Nat.{ℕ, zero, suc, _+_, _*_, _-_, _<_}
 use native.Mathlib.Nat.{not-suc-le-zero, suc-mul}
 use native.Mathlib.Numerals.{sub-one}
 use lib.IntN.{ℤ}
+use Rattle.basis.specs.declared.Refusal.{Refusal}
+use Rattle.basis.specs.declared.Check.{Check}
 use Rattle.basis.specs.declared.Check.the-variants.{Refused}
-use Rattle.basis.specs.Outcome.{refusal}
+use Rattle.basis.specs.Outcome.{refusal, passes}
 use Rattle.field_check.specs.declared.Number.{Number}
 use Rattle.field_check.specs.Field.{widthOf, valueAt, between, entriesCheck}
 
@@ -27,3 +29,33 @@ module _ (run : List ℕ) (number : ℕ) (kind : Number) (low high : ℤ) (at : 
   unfolding entriesCheck
   outside zero h b e = absurd (not-suc-le-zero h)
   outside (suc n) h b e = rw (← b, e)
+
+-- the same where every number is looked at
+both : (all ok : Bool) (rest : Check) (r : Refusal) → ((all && ok) && passes rest) ≡ (all && passes (cond ok rest (Refused r)))
+both true true rest r = refl
+both true false rest r = refl
+both false ok rest r = refl
+
+module _ (run : List ℕ) (number : ℕ) (kind : Number) (low high : ℤ) where
+  pub also : (at n : ℕ) → 0 < n → (all : Bool) {ok : Bool} → ok ≡ between low high (valueAt kind run at)
+      → ((all && ok) && passes (entriesCheck run number kind low high (at + widthOf kind) (n - 1))) ≡ (all && passes (entriesCheck run number kind low high at n))
+  unfolding entriesCheck
+  also at zero h all b = absurd (not-suc-le-zero h)
+  also at (suc n) h all {ok} b = rw (sub-one, ← b) (both all ok _ (refusal number at 0))
+
+  -- nothing is left, and what stands in a refusal does not matter
+  pub ended : (all : Bool) (at n : ℕ) → n ≡ 0 → (all && passes (entriesCheck run number kind low high at n)) ≡ all
+  unfolding entriesCheck
+  ended true at n e = rw e refl
+  ended false at n e = refl
+
+  pub any-number : (other at n : ℕ) → passes (entriesCheck run other kind low high at n) ≡ passes (entriesCheck run number kind low high at n)
+  unfolding entriesCheck
+  any-number other at zero = refl
+  any-number other at (suc n) =
+      by (between low high (valueAt kind run at)) (entriesCheck run other kind low high (at + widthOf kind) n)
+      (entriesCheck run number kind low high (at + widthOf kind) n) (any-number other (at + widthOf kind) n)
+    where
+      by : (ok : Bool) (a b : Check) → passes a ≡ passes b → passes (cond ok a (Refused (refusal other at 0))) ≡ passes (cond ok b (Refused (refusal number at 0)))
+      by true a b e = e
+      by false a b e = refl

@@ -2,6 +2,7 @@
 ghost use mathlib.Core.Path.{_≡_};
 ghost use Prim.Native.Nat.{_+_, _*_, _≤_};
 ghost use lib.ListN.{length};
+ghost use Rattle.basis.specs.Outcome.{passes};
 ghost use Rattle.field_check.specs.Field.{widthOf, valueAt, between, fieldCheck};
 use basis::Check;
 use basis::Refusal;
@@ -55,6 +56,27 @@ fn entry_ok(run: &[u8], kind: Number, low: i64, high: i64, at: usize) -> bool
     ensures { λ r. ⌜ r ≡ between low high (valueAt kind (now (run .entry)) at) ⌝ }
 {
     in_limits(low, high, value_at(run, kind, at))
+}
+
+// Whether every number of a field is within its limits. None is left out once one is found outside, so that the compiler
+// may look at several at a time.
+pub fn all_within(run: &[u8], f: Field) -> bool
+    requires { ⌜ f .4 + f .5 * widthOf (f .1) ≤ length (now run) ⌝ }
+    ensures { λ r. ⌜ r ≡ passes (fieldCheck (now (run .entry)) f) ⌝ }
+{
+    let kind = f.1;
+    let low = f.2;
+    let high = f.3;
+    let width = width_of(kind);
+    let mut at = f.4;
+    let mut left = f.5;
+    let mut all = true;
+    while 0 < left {
+        all = all & entry_ok(run, kind, low, high, at);
+        at += width;
+        left -= 1;
+    }
+    all
 }
 
 // The first number of a field that is outside its limits.

@@ -3,6 +3,7 @@ ghost use mathlib.Core.Path.{_≡_};
 ghost use Prim.Native.Nat.{_+_, _*_, _≤_, _<_};
 ghost use lib.ListN.{length};
 ghost use Rattle.basis.specs.Basis.{basisOf, Accepted};
+ghost use Rattle.basis.specs.Outcome.{passes};
 ghost use Rattle.field_check.specs.Field.{widthOf, fieldsCheck};
 ghost use Rattle.block.specs.Blocks.{partsOf};
 ghost use Rattle.history.specs.History.{actualYears, historyFields, historyCheck, basisCheck};
@@ -42,8 +43,18 @@ fn check_part(history: &[u8], b: usize, f: Field) -> Check
     }
 }
 
+// Whether every number of a field in the data of a block is within its limits.
+fn part_within(history: &[u8], b: usize, f: Field) -> bool
+    requires { ⌜ (b < 176) × (512 * b + 512 ≤ length (now history)) × (f .4 + f .5 * widthOf (f .1) ≤ 506) ⌝ }
+    ensures { λ r. ⌜ r ≡ passes (partCheck (now (history .entry)) b f) ⌝ }
+{
+    let from = 512 * b + 2;
+    field_check::all_within(&history[from..from + 506], f)
+}
+
 // Every 4, then every 5. The years go backwards, so that the first refusal of each kind is the one that is left. As in the
-// check of a run the fields stand in the calls, so that the compiler knows their limits.
+// check of a run the fields stand in the calls, so that the compiler knows their limits, and what is outside its limits is
+// sought only in a year that has some.
 fn check_fields(history: &[u8], years: usize) -> Check
     requires { ⌜ (length (now history) ≡ 1024 * years) × (years ≤ 88) ⌝ }
     ensures { λ r. ⌜ r ≡ fieldsCheck (partsOf (2 * years) (now (history .entry))) (historyFields years) ⌝ }
@@ -54,20 +65,25 @@ fn check_fields(history: &[u8], years: usize) -> Check
     while 0 < k {
         k -= 1;
         let b = 2 * k;
-        let zeros = check_part(history, b, Field(4, Number::Byte, 0, 0, 264, 242));
-        let more_zeros = check_part(history, b + 1, Field(4, Number::Byte, 0, 0, 260, 246));
-        let younger = check_part(
-            history,
-            b,
-            Field(5, Number::SignedWord, -500_000_000, 500_000_000, 0, 66),
+        let zeros = Field(4, Number::Byte, 0, 0, 264, 242);
+        let more_zeros = Field(4, Number::Byte, 0, 0, 260, 246);
+        let younger = Field(5, Number::SignedWord, -500_000_000, 500_000_000, 0, 66);
+        let older = Field(5, Number::SignedWord, -500_000_000, 500_000_000, 0, 65);
+        let zero = part_within(history, b, zeros) & part_within(history, b + 1, more_zeros);
+        let within = part_within(history, b, younger) & part_within(history, b + 1, older);
+        if zero & within {
+            continue;
+        }
+        let four = basis::first_of(
+            check_part(history, b, zeros),
+            check_part(history, b + 1, more_zeros),
         );
-        let older = check_part(
-            history,
-            b + 1,
-            Field(5, Number::SignedWord, -500_000_000, 500_000_000, 0, 65),
+        let five = basis::first_of(
+            check_part(history, b, younger),
+            check_part(history, b + 1, older),
         );
-        fours = basis::first_of(basis::first_of(zeros, more_zeros), fours);
-        fives = basis::first_of(basis::first_of(younger, older), fives);
+        fours = basis::first_of(four, fours);
+        fives = basis::first_of(five, fives);
     }
     basis::first_of(fours, fives)
 }

@@ -1,5 +1,6 @@
 // The rows of the table of fields, in four parts. They stand in the calls, so that the compiler knows the limits in each
-// loop. A run that is accepted is walked whole, so nothing is lost by looking at the later rows of a refused one.
+// loop. A run that is accepted is walked whole, so nothing is lost by looking at the later rows of a refused one. Of the
+// tables every number is looked at, several at a time, and only where one is outside its limits is the first such sought.
 ghost use mathlib.Core.Path.{_≡_};
 ghost use lib.ListN.{length, take, drop};
 ghost use Rattle.field_check.specs.Field.{fieldsCheck};
@@ -8,6 +9,7 @@ use basis::Check;
 use basis::first_of;
 use field_check::Field;
 use field_check::Number;
+use field_check::all_within;
 use field_check::check_field;
 
 // The letters MPB1 and the zero bytes (4).
@@ -55,22 +57,28 @@ pub(crate) fn check_ages(run: &[u8]) -> Check
     requires { ⌜ length (now run) ≡ 4554 ⌝ }
     ensures { λ r. ⌜ r ≡ fieldsCheck (now (run .entry)) (take 5 (drop 9 runFields)) ⌝ }
 {
-    let rates = check_field(run, Field(5, Number::Word, 0, 1_000_000_000, 30, 131));
-    let initial = check_field(
-        run,
-        Field(5, Number::SignedWord, -200_000_000, 200_000_000, 554, 131),
-    );
-    let long = check_field(
-        run,
-        Field(5, Number::SignedWord, -200_000_000, 200_000_000, 1078, 131),
-    );
-    let period = check_field(run, Field(5, Number::Byte, 1, 50, 1602, 131));
-    let remaining = check_field(run, Field(5, Number::Byte, 0, 150, 1733, 131));
+    let rates = Field(5, Number::Word, 0, 1_000_000_000, 30, 131);
+    let initial = Field(5, Number::SignedWord, -200_000_000, 200_000_000, 554, 131);
+    let long = Field(5, Number::SignedWord, -200_000_000, 200_000_000, 1078, 131);
+    let period = Field(5, Number::Byte, 1, 50, 1602, 131);
+    let remaining = Field(5, Number::Byte, 0, 150, 1733, 131);
+    let within = all_within(run, rates)
+        & (all_within(run, initial)
+            & (all_within(run, long) & (all_within(run, period) & all_within(run, remaining))));
+    if within {
+        return Check::Passed;
+    }
     first_of(
-        rates,
+        check_field(run, rates),
         first_of(
-            initial,
-            first_of(long, first_of(period, first_of(remaining, Check::Passed))),
+            check_field(run, initial),
+            first_of(
+                check_field(run, long),
+                first_of(
+                    check_field(run, period),
+                    first_of(check_field(run, remaining), Check::Passed),
+                ),
+            ),
         ),
     )
 }
@@ -80,18 +88,23 @@ pub(crate) fn check_birth_years(run: &[u8]) -> Check
     requires { ⌜ length (now run) ≡ 4554 ⌝ }
     ensures { λ r. ⌜ r ≡ fieldsCheck (now (run .entry)) (take 4 (drop 14 runFields)) ⌝ }
 {
-    let initial = check_field(
-        run,
-        Field(5, Number::SignedWord, -200_000_000, 200_000_000, 1864, 269),
-    );
-    let long = check_field(
-        run,
-        Field(5, Number::SignedWord, -200_000_000, 200_000_000, 2940, 269),
-    );
-    let period = check_field(run, Field(5, Number::Byte, 1, 50, 4016, 269));
-    let remaining = check_field(run, Field(5, Number::Byte, 0, 150, 4285, 269));
+    let initial = Field(5, Number::SignedWord, -200_000_000, 200_000_000, 1864, 269);
+    let long = Field(5, Number::SignedWord, -200_000_000, 200_000_000, 2940, 269);
+    let period = Field(5, Number::Byte, 1, 50, 4016, 269);
+    let remaining = Field(5, Number::Byte, 0, 150, 4285, 269);
+    let within = all_within(run, initial)
+        & (all_within(run, long) & (all_within(run, period) & all_within(run, remaining)));
+    if within {
+        return Check::Passed;
+    }
     first_of(
-        initial,
-        first_of(long, first_of(period, first_of(remaining, Check::Passed))),
+        check_field(run, initial),
+        first_of(
+            check_field(run, long),
+            first_of(
+                check_field(run, period),
+                first_of(check_field(run, remaining), Check::Passed),
+            ),
+        ),
     )
 }

@@ -1,15 +1,17 @@
 -- The years from k on give the fours and the fives so far; the whole is the first of both.
-use mathlib.Core.Path.{_≡_, sym, _∙_}
+use mathlib.Core.Path.{_≡_, refl, sym, _∙_}
 use mathlib.Core.List.{List}
-use Prim.Native.Nat.{ℕ, _*_, _-_, _≤_}
+use Prim.Native.Nat.{ℕ, _+_, _*_, _-_, _≤_, _<_}
 use native.Mathlib.Omega.{arith}
 use borrow.Author.Needs.{needs}
 use Rattle.basis.specs.declared.Check.{Check}
-use Rattle.basis.proofs.Outcome.{first-same}
+use Rattle.basis.specs.Outcome.{firstOf}
+use Rattle.basis.proofs.Outcome.{first-same, both-passed, passed, both-pass}
 use Rattle.field_check.specs.declared.Field.{Field}
 use Rattle.field_check.specs.Field.{fieldsCheck}
 use Rattle.block.specs.Blocks.{partsOf}
 use Rattle.history.specs.History.{yearlyFields, improvements, zeros}
+use Rattle.history.specs.Inner.Part.{partCheck}
 use Rattle.history.proofs.Yearly.{no-years, year-turn}
 use Rattle.history.proofs.Acceptance.{fields-parts}
 use Rattle.history.proofs.check.check_fields.Statement.{statement}
@@ -38,6 +40,54 @@ sub-k c = omega arith
 mul-b : tie.Need-mul-b Inv-loop μ-loop
 mul-b c = omega arith
 
+part-within-requires : tie.Need-part-within-requires Inv-loop μ-loop
+part-within-requires c κs = omega arith
+
+add-part-within : tie.Need-add-part-within Inv-loop μ-loop
+add-part-within c = omega arith
+
+part-within-requires-2 : tie.Need-part-within-requires-2 Inv-loop μ-loop
+part-within-requires-2 c κs = omega arith
+
+part-within-requires-3 : tie.Need-part-within-requires-3 Inv-loop μ-loop
+part-within-requires-3 c κs = omega arith
+
+add-part-within-2 : tie.Need-add-part-within-2 Inv-loop μ-loop
+add-part-within-2 c = omega arith
+
+part-within-requires-4 : tie.Need-part-within-requires-4 Inv-loop μ-loop
+part-within-requires-4 c κs = omega arith
+
+loop-less : tie.Need-loop-less Inv-loop μ-loop
+loop-less c = omega arith
+
+loop-again : tie.Need-loop-again Inv-loop μ-loop
+loop-again c =
+    let older = c .before in
+    let younger = older .before in
+    let more-zeros = younger .before in
+    let first-zeros = more-zeros .before in
+    let turn = first-zeros .before in
+    let l = turn .before in
+    let s = l .before .before in
+    let a = s .args in
+    let k = l .loop .k - 1 in
+    let before : k < a .years = omega (arith, turn .loop-test .taken, l .loop .inv .0) in
+    let next : l .loop .k ≡ k + 1 = omega (arith, turn .loop-test .taken) in
+    let Z = partCheck (a .history .now) (2 * k) (zeros 264 242) in
+    let M = partCheck (a .history .now) (2 * k + 1) (zeros 260 246) in
+    let Y = partCheck (a .history .now) (2 * k) (improvements 66) in
+    let O = partCheck (a .history .now) (2 * k + 1) (improvements 65) in
+    let zero = both-pass Z M (first-zeros .part-within .ensures) (more-zeros .part-within2 .ensures) in
+    let within = both-pass Y O (younger .part-within3 .ensures) (older .part-within4 .ensures) in
+    let p = both-passed (firstOf Z M) (firstOf Y O) (passed _ (both-pass (firstOf Z M) (firstOf Y O) zero within) (c .if1 .taken)) in
+    let turn-4 = year-turn (a .history .now) (zeros 264 242) (zeros 260 246) (a .years) k (l .loop .k) in
+    let turn-5 = year-turn (a .history .now) (improvements 66) (improvements 65) (a .years) k (l .loop .k) in (
+      omega (arith, before),
+      turn-4 (s .pre .0) before next (omega arith) (omega arith) refl refl (sym (p .0)) (l .loop .inv .1) refl,
+      turn-5 (s .pre .0) before next (omega arith) (omega arith) refl refl (sym (p .1)) (l .loop .inv .2) refl,
+    )
+
 check-part-requires : tie.Need-check-part-requires Inv-loop μ-loop
 check-part-requires c κs = omega arith
 
@@ -46,6 +96,9 @@ add-check-part c = omega arith
 
 check-part-requires-2 : tie.Need-check-part-requires-2 Inv-loop μ-loop
 check-part-requires-2 c κs = omega arith
+
+first-of-requires : tie.Need-first-of-requires Inv-loop μ-loop
+first-of-requires c κs = search needs
 
 check-part-requires-3 : tie.Need-check-part-requires-3 Inv-loop μ-loop
 check-part-requires-3 c κs = omega arith
@@ -56,9 +109,6 @@ add-check-part-2 c = omega arith
 check-part-requires-4 : tie.Need-check-part-requires-4 Inv-loop μ-loop
 check-part-requires-4 c κs = omega arith
 
-first-of-requires : tie.Need-first-of-requires Inv-loop μ-loop
-first-of-requires c κs = search needs
-
 first-of-requires-2 : tie.Need-first-of-requires-2 Inv-loop μ-loop
 first-of-requires-2 c κs = search needs
 
@@ -68,29 +118,32 @@ first-of-requires-3 c κs = search needs
 first-of-requires-4 : tie.Need-first-of-requires-4 Inv-loop μ-loop
 first-of-requires-4 c κs = search needs
 
-loop-less : tie.Need-loop-less Inv-loop μ-loop
-loop-less c = omega arith
+loop-less-2 : tie.Need-loop-less-2 Inv-loop μ-loop
+loop-less-2 c = omega arith
 
-loop-again : tie.Need-loop-again Inv-loop μ-loop
-loop-again c =
-    let five = c .before in
-    let fours = five .before in
-    let four = fours .before in
-    let older = four .before in
+loop-again-2 : tie.Need-loop-again-2 Inv-loop μ-loop
+loop-again-2 c =
+    let fours = c .before in
+    let five = fours .before in
+    let older = five .before in
     let younger = older .before in
-    let more-zeros = younger .before in
+    let four = younger .before in
+    let more-zeros = four .before in
     let first-zeros = more-zeros .before in
-    let l = first-zeros .before .before in
+    let turn = first-zeros .before .before .before .before .before .before in
+    let l = turn .before in
     let s = l .before .before in
     let a = s .args in
     let k = l .loop .k - 1 in
+    let before : k < a .years = omega (arith, turn .loop-test .taken, l .loop .inv .0) in
+    let next : l .loop .k ≡ k + 1 = omega (arith, turn .loop-test .taken) in
     let turn-4 = year-turn (a .history .now) (zeros 264 242) (zeros 260 246) (a .years) k (l .loop .k) in
     let turn-5 = year-turn (a .history .now) (improvements 66) (improvements 65) (a .years) k (l .loop .k) in (
-      omega arith,
-      turn-4 (s .pre .0) (omega arith) (omega arith) (omega arith) (omega arith) (first-zeros .check-part .ensures) (more-zeros .check-part2 .ensures)
-          (four .first-of .ensures) (l .loop .inv .1) (fours .first-of2 .ensures),
-      turn-5 (s .pre .0) (omega arith) (omega arith) (omega arith) (omega arith) (younger .check-part3 .ensures) (older .check-part4 .ensures)
-          (five .first-of3 .ensures) (l .loop .inv .2) (c .first-of4 .ensures),
+      omega (arith, before),
+      turn-4 (s .pre .0) before next (omega arith) (omega arith) (first-zeros .check-part .ensures) (more-zeros .check-part2 .ensures)
+          (four .first-of .ensures) (l .loop .inv .1) (fours .first-of3 .ensures),
+      turn-5 (s .pre .0) before next (omega arith) (omega arith) (younger .check-part3 .ensures) (older .check-part4 .ensures)
+          (five .first-of2 .ensures) (l .loop .inv .2) (c .first-of4 .ensures),
     )
 
 first-of-requires-5 : tie.Need-first-of-requires-5 Inv-loop μ-loop
@@ -113,17 +166,25 @@ check-fields-spec =
     loop-holds
     sub-k
     mul-b
+    part-within-requires
+    add-part-within
+    part-within-requires-2
+    part-within-requires-3
+    add-part-within-2
+    part-within-requires-4
+    loop-less
+    loop-again
     check-part-requires
     add-check-part
     check-part-requires-2
+    first-of-requires
     check-part-requires-3
     add-check-part-2
     check-part-requires-4
-    first-of-requires
     first-of-requires-2
     first-of-requires-3
     first-of-requires-4
-    loop-less
-    loop-again
+    loop-less-2
+    loop-again-2
     first-of-requires-5
     returns)

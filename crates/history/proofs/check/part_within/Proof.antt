@@ -1,0 +1,49 @@
+-- The field is looked at in the block's data by themselves; whether it passes does not depend on where a place is counted from.
+use mathlib.Core.Path.{_≡_, refl, _∙_}
+use Prim.Native.Nat.{ℕ, _+_, _*_}
+use lib.ListN.{take, drop}
+use borrow.Author.Needs.{needs}
+use Rattle.basis.specs.declared.Check.{Check}
+use Rattle.basis.specs.declared.Check.the-variants.{Passed, Refused}
+use Rattle.basis.specs.Outcome.{passes}
+use Rattle.field_check.specs.Field.{fieldCheck}
+use Rattle.block.proofs.Joined.{part-is}
+use Rattle.history.specs.Inner.Part.{countedFrom}
+use Rattle.history.proofs.check.part_within.Statement.{statement}
+use Rattle.history.proofs.check.part_within.Tie as tie
+
+counted : (from : ℕ) (c : Check) → passes c ≡ passes (countedFrom from c)
+counted from Passed = refl
+counted from (Refused r) = refl
+
+mul-from : tie.Need-mul-from
+mul-from c = search needs
+
+add-from : tie.Need-add-from
+add-from c = search needs
+
+add-all-within : tie.Need-add-all-within
+add-all-within c = search needs
+
+sub-all-within : tie.Need-sub-all-within
+sub-all-within c = search needs
+
+part-all-within-start : tie.Need-part-all-within-start
+part-all-within-start c = search needs
+
+part-all-within-end : tie.Need-part-all-within-end
+part-all-within-end c = search needs
+
+all-within-requires : tie.Need-all-within-requires
+all-within-requires c κs = search needs
+
+returns : tie.Need-returns
+returns c =
+    let a = c .before .before .before .args in
+    let e = rw (part-is (a .history .now) (512 * a .b + 2) 506) at (c .all-within .ensures) in
+    e ∙ counted (506 * a .b) (fieldCheck (take 506 (drop (512 * a .b + 2) (a .history .now))) (a .f))
+
+pub part-within-spec : {M : Type 1} → statement M
+part-within-spec =
+    tie.close
+    (tie.spec mul-from add-from add-all-within sub-all-within part-all-within-start part-all-within-end all-within-requires returns)
