@@ -1,10 +1,11 @@
-// A text that comes in parts, answered line by line on an accepted data run and its history. The caller gives room for 192 bytes of
+// A text that comes in parts, answered line by line on an accepted data run and its history, by their workings. The caller gives room for 192 bytes of
 // reply to each byte of a part: an empty line is one byte.
 ghost use mathlib.Core.Path.{_≡_};
 ghost use mathlib.Core.List.{[], _∷_};
 ghost use Prim.Native.Nat.{_+_, _*_, _≤_, _<_};
 ghost use lib.ListN.{length, take};
 ghost use Rattle.history.specs.History.{basisWith, AcceptedWith};
+ghost use Rattle.workings.specs.Workings.{Workings};
 ghost use Rattle.enquiry_text.specs.Line.{lineOf};
 ghost use Rattle.reply_text.specs.Inner.Put.{Put};
 ghost use Rattle.enquiry_lines.specs.Lines.{ended, unfinished, lastLine, replyTo, replies};
@@ -20,19 +21,20 @@ use reply_text::reply;
 fn put_line(
     run: &[u8],
     history: &[u8],
+    workings: &[u32],
     out: &mut [u8],
     at: usize,
     number: u64,
     text: &[u8],
 ) -> usize
-    requires { ⌜ AcceptedWith (now run) (now history) ⌝ }
+    requires { ⌜ AcceptedWith (now run) (now history) × Workings (basisWith (now run) (now history)) (now workings) ⌝ }
     requires { ⌜ at + 192 ≤ length (now out) ⌝ }
     ensures { λ r. ⌜ Put (now (out .entry)) at (replyTo (basisWith (now (run .entry)) (now (history .entry))) number (lineOf (now (text .entry)))) (now (out .exit)) r ⌝ }
     ensures { λ r. ⌜ r ≤ at + 192 ⌝ }
 {
     match parse::parse_line(text) {
         Line::Enquiry(q) => {
-            let a = model_points::point_at(run, history, q);
+            let a = swept_points::points::point_at(run, history, workings, q);
             reply::put_reply(out, at, q, a)
         }
         Line::Malformed => {
@@ -47,8 +49,16 @@ fn put_line(
 }
 
 // Takes one byte.
-fn feed_byte(run: &[u8], history: &[u8], s: Pending, b: u8, out: &mut [u8], at: usize) -> Fed
-    requires { ⌜ AcceptedWith (now run) (now history) ⌝ }
+fn feed_byte(
+    run: &[u8],
+    history: &[u8],
+    workings: &[u32],
+    s: Pending,
+    b: u8,
+    out: &mut [u8],
+    at: usize,
+) -> Fed
+    requires { ⌜ AcceptedWith (now run) (now history) × Workings (basisWith (now run) (now history)) (now workings) ⌝ }
     requires { ⌜ at + 192 ≤ length (now out) ⌝ }
     requires { ⌜ Sound s ⌝ }
     requires { ⌜ s .complete + 1 < 18446744073709551616 ⌝ }
@@ -60,7 +70,15 @@ fn feed_byte(run: &[u8], history: &[u8], s: Pending, b: u8, out: &mut [u8], at: 
     let len = s.len;
     let mut bytes = s.bytes;
     if b == b'\n' {
-        let next = put_line(run, history, out, at, s.complete + 1, &bytes[..len]);
+        let next = put_line(
+            run,
+            history,
+            workings,
+            out,
+            at,
+            s.complete + 1,
+            &bytes[..len],
+        );
         return Fed {
             pending: Pending {
                 bytes: bytes,
@@ -98,8 +116,15 @@ pub fn begin() -> Pending
 }
 
 // Takes a part of the input, and puts the replies to the lines that end in it at the start of `out`.
-pub fn feed(run: &[u8], history: &[u8], s: Pending, part: &[u8], out: &mut [u8]) -> Fed
-    requires { ⌜ AcceptedWith (now run) (now history) ⌝ }
+pub fn feed(
+    run: &[u8],
+    history: &[u8],
+    workings: &[u32],
+    s: Pending,
+    part: &[u8],
+    out: &mut [u8],
+) -> Fed
+    requires { ⌜ AcceptedWith (now run) (now history) × Workings (basisWith (now run) (now history)) (now workings) ⌝ }
     requires { ⌜ 192 * length (now part) ≤ length (now out) ⌝ }
     requires { ⌜ Sound s ⌝ }
     requires { ⌜ s .complete + length (now part) < 18446744073709551616 ⌝ }
@@ -112,7 +137,7 @@ pub fn feed(run: &[u8], history: &[u8], s: Pending, part: &[u8], out: &mut [u8])
     let mut at: usize = 0;
     let mut i: usize = 0;
     while i < part.len() {
-        let f = feed_byte(run, history, pending, part[i], out, at);
+        let f = feed_byte(run, history, workings, pending, part[i], out, at);
         let next = f.pending;
         pending = next;
         at = f.at;
@@ -125,8 +150,8 @@ pub fn feed(run: &[u8], history: &[u8], s: Pending, part: &[u8], out: &mut [u8])
 }
 
 // The end of the input: an unfinished line is a line.
-pub fn finish(run: &[u8], history: &[u8], s: Pending, out: &mut [u8]) -> usize
-    requires { ⌜ AcceptedWith (now run) (now history) ⌝ }
+pub fn finish(run: &[u8], history: &[u8], workings: &[u32], s: Pending, out: &mut [u8]) -> usize
+    requires { ⌜ AcceptedWith (now run) (now history) × Workings (basisWith (now run) (now history)) (now workings) ⌝ }
     requires { ⌜ 192 ≤ length (now out) ⌝ }
     requires { ⌜ Sound s ⌝ }
     requires { ⌜ s .complete + 1 < 18446744073709551616 ⌝ }
@@ -137,5 +162,13 @@ pub fn finish(run: &[u8], history: &[u8], s: Pending, out: &mut [u8]) -> usize
         return 0;
     }
     let bytes = s.bytes;
-    put_line(run, history, out, 0, s.complete + 1, &bytes[..len])
+    put_line(
+        run,
+        history,
+        workings,
+        out,
+        0,
+        s.complete + 1,
+        &bytes[..len],
+    )
 }

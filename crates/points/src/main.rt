@@ -3,7 +3,8 @@
 ghost use mathlib.Core.Path.{_≡_};
 ghost use Prim.Native.Nat.{_+_, _*_, _≤_};
 ghost use lib.ListN.{length};
-ghost use Rattle.history.specs.History.{AcceptedWith};
+ghost use Rattle.history.specs.History.{basisWith, AcceptedWith};
+ghost use Rattle.workings.specs.Workings.{Workings};
 ghost use Rattle.io.specs.Counts.{Counts};
 ghost use Rattle.enquiry_lines.specs.Inner.State.{Sound};
 use basis::Check;
@@ -47,6 +48,13 @@ fn reply_room() -> [u8; 786432]
     [0; 786432]
 }
 
+// Room for the factors of all ages and years, and the discounts.
+fn workings_room() -> [u32; 18340]
+    ensures { λ r. ⌜ 18340 ≡ length r ⌝ }
+{
+    [0; 18340]
+}
+
 // How many bytes of a file stand at the start of `file`; a missing file has none.
 fn read_named(name: &[u8], file: &mut [u8]) -> usize
     ensures { λ r. ⌜ Counts r (now (file .exit)) ⌝ }
@@ -65,19 +73,20 @@ fn read_named(name: &[u8], file: &mut [u8]) -> usize
 fn answer_block(
     run: &[u8],
     history: &[u8],
+    workings: &[u32],
     s: Pending,
     part: &mut [u8],
     out: &mut [u8],
     blocks: u64,
 ) -> Turn
-    requires { ⌜ AcceptedWith (now run) (now history) ⌝ }
+    requires { ⌜ AcceptedWith (now run) (now history) × Workings (basisWith (now run) (now history)) (now workings) ⌝ }
     requires { ⌜ (length (now part) ≤ 4096) × (786432 ≤ length (now out)) ⌝ }
     requires { ⌜ (Sound s) × (s .complete + 4096 * (blocks + 1) ≤ 4096000000000000000) ⌝ }
     ensures { λ r. ⌜ (Sound (r .pending)) × (r .pending .complete + 4096 * blocks ≤ 4096000000000000000) ⌝ }
 {
     let got = libc::read(STDIN_FILENO, part);
     let n = io::count(got, part);
-    let f = lines::feed(run, history, s, &part[..n], out);
+    let f = lines::feed(run, history, workings, s, &part[..n], out);
     let at = f.at;
     let is_written = io::write_all(STDOUT_FILENO, &out[..at]);
     let pending = f.pending;
@@ -89,8 +98,14 @@ fn answer_block(
 }
 
 // Nothing says that the input ends, so the blocks are counted down from a number that no run uses up.
-fn answer_blocks(run: &[u8], history: &[u8], part: &mut [u8], out: &mut [u8]) -> Turn
-    requires { ⌜ AcceptedWith (now run) (now history) ⌝ }
+fn answer_blocks(
+    run: &[u8],
+    history: &[u8],
+    workings: &[u32],
+    part: &mut [u8],
+    out: &mut [u8],
+) -> Turn
+    requires { ⌜ AcceptedWith (now run) (now history) × Workings (basisWith (now run) (now history)) (now workings) ⌝ }
     requires { ⌜ (length (now part) ≤ 4096) × (786432 ≤ length (now out)) ⌝ }
     ensures { λ r. ⌜ (Sound (r .pending)) × (r .pending .complete ≤ 4096000000000000000) ⌝ }
 {
@@ -99,7 +114,7 @@ fn answer_blocks(run: &[u8], history: &[u8], part: &mut [u8], out: &mut [u8]) ->
     let mut blocks: u64 = 1_000_000_000_000_000;
     while 0 < blocks {
         blocks -= 1;
-        let t = answer_block(run, history, pending, part, out, blocks);
+        let t = answer_block(run, history, workings, pending, part, out, blocks);
         let next = t.pending;
         pending = next;
         is_written = t.is_written;
@@ -114,16 +129,18 @@ fn answer_blocks(run: &[u8], history: &[u8], part: &mut [u8], out: &mut [u8]) ->
     }
 }
 
-// All of standard input: its blocks, then a last line that lacks its byte 10.
-fn answer_input(run: &[u8], history: &[u8], part: &mut [u8], out: &mut [u8])
-    requires { ⌜ AcceptedWith (now run) (now history) ⌝ }
+// All of standard input: its blocks, then a last line that lacks its byte 10. The basis stays the same, so that the factors
+// of all ages and years are worked out once, before the first line.
+fn answer_input(run: &[u8], history: &[u8], workings: &mut [u32], part: &mut [u8], out: &mut [u8])
+    requires { ⌜ AcceptedWith (now run) (now history) × (length (now workings) ≡ 18340) ⌝ }
     requires { ⌜ (length (now part) ≤ 4096) × (786432 ≤ length (now out)) ⌝ }
 {
-    let t = answer_blocks(run, history, part, out);
+    workings::work_out(run, history, workings);
+    let t = answer_blocks(run, history, workings, part, out);
     if !t.is_written {
         return;
     }
-    let at = lines::finish(run, history, t.pending, out);
+    let at = lines::finish(run, history, workings, t.pending, out);
     io::write_all(STDOUT_FILENO, &out[..at]);
 }
 
@@ -143,6 +160,7 @@ fn main() {
     };
     if is_written {
         let mut part = io::buffer();
-        answer_input(&run, &history[..m], &mut part, &mut out);
+        let mut workings = workings_room();
+        answer_input(&run, &history[..m], &mut workings, &mut part, &mut out);
     }
 }

@@ -74,7 +74,8 @@ fn results_at(run: &[u8], history: &[u8], workings: &[u32], q: Question) -> Poin
     )
 }
 
-fn point_at(run: &[u8], history: &[u8], workings: &[u32], q: Question) -> PointAnswer
+// The answer of a point.
+pub fn point_at(run: &[u8], history: &[u8], workings: &[u32], q: Question) -> PointAnswer
     requires { ⌜ AcceptedWith (now run) (now history) × Workings (basisWith (now run) (now history)) (now workings) ⌝ }
     ensures { λ r. ⌜ r ≡ pointOf (basisWith (now (run .entry)) (now (history .entry))) q ⌝ }
 {

@@ -19,7 +19,7 @@ slice-aggregate-feed : tie.Need-slice-aggregate-feed
 slice-aggregate-feed c = search needs
 
 feed-requires : tie.Need-feed-requires
-feed-requires c κs = let s = c .before .before .before .before .before .before .before .before .before .before .before .before in
+feed-requires c κs = let s = c .before .before .before .before .before .before .before .before .before .before .before .before .before in
     (s .pre .0, (search needs, (s .pre .1 .1 .0, search needs)))
 
 slice-reshare-prefix-write-all : tie.Need-slice-reshare-prefix-write-all
@@ -28,7 +28,7 @@ slice-reshare-prefix-write-all c = search needs
 slice-aggregate-write-all : tie.Need-slice-aggregate-write-all
 slice-aggregate-write-all c = let f = c .before .before .before .feed in
     let p = f .ensures .1 .1 .0 in
-    sym (length-take-le (f .result .at) (f .last .1 .1 .1 .1 .0) (omega (arith, p .next, p .fits, p .same)))
+    sym (length-take-le (f .result .at) (f .last .1 .1 .1 .1 .1 .0) (omega (arith, p .next, p .fits, p .same)))
 
 write-all-requires : tie.Need-write-all-requires
 write-all-requires c κs = search needs
@@ -40,7 +40,11 @@ same-length-2 : tie.Need-same-length-2
 same-length-2 c = search needs
 
 returns : tie.Need-returns
-returns c = search needs
+returns c =
+    let f = c .before .before .before .before .before .before in
+    let s = f .before .before .before .before .before .before .before .before .before .before .before .before .before .before in
+    let e = f .feed .ensures .1 .1 .1 in
+    (e .0, omega (arith, e .2, s .pre .1 .0 .0, s .pre .1 .1 .1))
 
 same-length-3 : tie.Need-same-length-3
 same-length-3 c = search needs
@@ -49,7 +53,11 @@ same-length-4 : tie.Need-same-length-4
 same-length-4 c = search needs
 
 returns-2 : tie.Need-returns-2
-returns-2 c = search needs
+returns-2 c =
+    let f = c .before .before .before .before .before .before in
+    let s = f .before .before .before .before .before .before .before .before .before .before .before .before .before .before in
+    let e = f .feed .ensures .1 .1 .1 in
+    (e .0, omega (arith, e .2, s .pre .1 .0 .0, s .pre .1 .1 .1))
 
 pub answer-block-spec : {M : Type 1} → statement M
 answer-block-spec =

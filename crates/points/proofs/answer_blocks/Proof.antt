@@ -9,11 +9,11 @@ use Rattle.points.proofs.answer_blocks.Statement.{statement}
 use Rattle.points.proofs.answer_blocks.Tie as tie
 
 abbrev Inv-loop : tie.InvT-loop
-Inv-loop run history part₀ out₀ pending₀ is-written₀ blocks₀ part out pending is-written blocks =
+Inv-loop run history workings part₀ out₀ pending₀ is-written₀ blocks₀ part out pending is-written blocks =
     (length part ≡ length part₀) × (length out ≡ length out₀) × (Sound pending) × (pending .complete + 4096 * blocks ≤ 4096000000000000000)
 
 abbrev μ-loop : tie.MeasureT-loop
-μ-loop run history part₀ out₀ pending₀ is-written₀ blocks₀ part out pending is-written blocks = blocks
+μ-loop run history workings part₀ out₀ pending₀ is-written₀ blocks₀ part out pending is-written blocks = blocks
 
 begin-requires : tie.Need-begin-requires Inv-loop μ-loop
 begin-requires c κs = search needs
@@ -25,7 +25,7 @@ sub-blocks : tie.Need-sub-blocks Inv-loop μ-loop
 sub-blocks c = search needs
 
 answer-block-requires : tie.Need-answer-block-requires Inv-loop μ-loop
-answer-block-requires c κs = let s = c .before .before .before .before .before .before .before .before .before in
+answer-block-requires c κs = let s = c .before .before .before .before .before .before .before .before .before .before in
     (s .pre .0, (search needs, search needs))
 
 loop-less : tie.Need-loop-less Inv-loop μ-loop

@@ -1,10 +1,13 @@
--- The last reply fits the output.
+-- The factors and discounts are worked out on the basis that the lines are answered by, and the last reply fits the output.
 use mathlib.Core.Path.{sym}
 use native.Mathlib.Omega.{arith}
 use lib.Seq.{length-take-le}
 use borrow.Author.Needs.{needs}
 use Rattle.points.proofs.answer_input.Statement.{statement}
 use Rattle.points.proofs.answer_input.Tie as tie
+
+work-out-requires : tie.Need-work-out-requires
+work-out-requires c κs = search needs
 
 answer-blocks-requires : tie.Need-answer-blocks-requires
 answer-blocks-requires c κs = search needs
@@ -15,11 +18,17 @@ same-length c = search needs
 same-length-2 : tie.Need-same-length-2
 same-length-2 c = search needs
 
+same-length-3 : tie.Need-same-length-3
+same-length-3 c = search needs
+
 returns : tie.Need-returns
 returns c = search needs
 
 finish-requires : tie.Need-finish-requires
-finish-requires c κs = search needs
+finish-requires c κs = let t = c .before .before .before .before .before .before .before .before in
+    let w = t .before .before .before .before .before .before in
+    let s = w .before .before .before .before .before .before .before in
+    ((s .pre .0 .0, w .work-out .ensures), (search needs, search needs))
 
 slice-reshare-prefix-write-all : tie.Need-slice-reshare-prefix-write-all
 slice-reshare-prefix-write-all c = search needs
@@ -27,16 +36,19 @@ slice-reshare-prefix-write-all c = search needs
 slice-aggregate-write-all : tie.Need-slice-aggregate-write-all
 slice-aggregate-write-all c = let f = c .before .before .before .finish in
     let p = f .ensures in
-    sym (length-take-le (f .result) (f .last .1 .1 .1 .0) (omega (arith, p .next, p .fits, p .same)))
+    sym (length-take-le (f .result) (f .last .1 .1 .1 .1 .0) (omega (arith, p .next, p .fits, p .same)))
 
 write-all-requires : tie.Need-write-all-requires
 write-all-requires c κs = search needs
 
-same-length-3 : tie.Need-same-length-3
-same-length-3 c = search needs
-
 same-length-4 : tie.Need-same-length-4
 same-length-4 c = search needs
+
+same-length-5 : tie.Need-same-length-5
+same-length-5 c = search needs
+
+same-length-6 : tie.Need-same-length-6
+same-length-6 c = search needs
 
 returns-2 : tie.Need-returns-2
 returns-2 c = search needs
@@ -45,14 +57,17 @@ pub answer-input-spec : {M : Type 1} → statement M
 answer-input-spec =
     tie.close
     (tie.spec
+    work-out-requires
     answer-blocks-requires
     same-length
     same-length-2
+    same-length-3
     returns
     finish-requires
     slice-reshare-prefix-write-all
     slice-aggregate-write-all
     write-all-requires
-    same-length-3
     same-length-4
+    same-length-5
+    same-length-6
     returns-2)

@@ -81,6 +81,9 @@ returns c = search needs
 buffer-requires : tie.Need-buffer-requires
 buffer-requires c κs = search needs
 
+workings-room-requires : tie.Need-workings-room-requires
+workings-room-requires c κs = search needs
+
 slice-aggregate-answer-input : tie.Need-slice-aggregate-answer-input
 slice-aggregate-answer-input c = search needs
 
@@ -96,13 +99,17 @@ slice-aggregate-answer-input-3 c = search needs
 slice-aggregate-answer-input-4 : tie.Need-slice-aggregate-answer-input-4
 slice-aggregate-answer-input-4 c = search needs
 
+slice-aggregate-answer-input-5 : tie.Need-slice-aggregate-answer-input-5
+slice-aggregate-answer-input-5 c = search needs
+
 answer-input-requires : tie.Need-answer-input-requires
-answer-input-requires c κs = let t = c .before .before .before .before .before .before in
+answer-input-requires c κs = let w = c .before .before .before .before .before in
+    let t = w .before .before .before in
     let o = t .before .before .before .before .before .before in
     let r = o .before .before .before .before .before .before .before .before .before .before .before .before .before in
     let e = sym (o .open-files .ensures .0) ∙ t .enum-told .given .1 in (
-      rw (o .open-files .ensures .1 .0) (opened-with _ _ (r .before .run-room .result) (sym (r .before .run-room .ensures)) e),
-      (omega (arith, c .before .before .before .before .buffer .ensures), omega (arith, o .open-files .ensures .1 .1 .same, r .reply-room .ensures)),
+      (rw (o .open-files .ensures .1 .0) (opened-with _ _ (r .before .run-room .result) (sym (r .before .run-room .ensures)) e), sym (w .workings-room .ensures)),
+      (omega (arith, w .before .buffer .ensures), omega (arith, o .open-files .ensures .1 .1 .same, r .reply-room .ensures)),
     )
 
 returns-2 : tie.Need-returns-2
@@ -139,11 +146,13 @@ main-spec =
     enum-told-2
     returns
     buffer-requires
+    workings-room-requires
     slice-aggregate-answer-input
     array-share-prefix-history-2
     slice-aggregate-answer-input-2
     slice-aggregate-answer-input-3
     slice-aggregate-answer-input-4
+    slice-aggregate-answer-input-5
     answer-input-requires
     returns-2
     returns-3)

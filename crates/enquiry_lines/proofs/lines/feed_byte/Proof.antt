@@ -17,15 +17,15 @@ array-share-prefix-bytes : tie.Need-array-share-prefix-bytes
 array-share-prefix-bytes c = search needs
 
 slice-aggregate-put-line : tie.Need-slice-aggregate-put-line
-slice-aggregate-put-line c = let s = c .before .before .before .before .before .before .before .before in
+slice-aggregate-put-line c = let s = c .before .before .before .before .before .before .before .before .before in
     let h = s .pre .1 .1 .0 in
     sym (length-take-le _ (s .args .s .bytes) (omega (arith, h .short, h .room)))
 
 put-line-requires : tie.Need-put-line-requires
 put-line-requires c κs = search needs
 
-add-t13 : tie.Need-add-t13
-add-t13 c = search needs
+add-t14 : tie.Need-add-t14
+add-t14 c = search needs
 
 same-length : tie.Need-same-length
 same-length c = search needs
@@ -33,7 +33,7 @@ same-length c = search needs
 returns : tie.Need-returns
 returns c = let p = c .before .before .before in
     let t = p .before .before .before .before in
-    let s = t .before .before .before .before .before in
+    let s = t .before .before .before .before .before .before in
     let l = line-ends (s .args .s) (s .args .b) (t .if1 .taken) in
     let reply = put-ended (basisWith (s .args .run .now) (s .args .history .now)) _ (kept (s .args .s)) (s .args .b) _ _ (t .if1 .taken) (p .put-line .ensures .0) in
     (l .begun, (l .complete, (reply, (record { short = omega arith; room = s .pre .1 .1 .0 .room }, p .put-line .ensures .1))))
@@ -41,11 +41,11 @@ returns c = let p = c .before .before .before in
 array-write-bytes : tie.Need-array-write-bytes
 array-write-bytes c = search needs
 
-add-t21 : tie.Need-add-t21
-add-t21 c = search needs
+add-t22 : tie.Need-add-t22
+add-t22 c = search needs
 
 returns-2 : tie.Need-returns-2
-returns-2 c = let s = c .before .before .before .before .before .before in
+returns-2 c = let s = c .before .before .before .before .before .before .before in
     let a = s .args in
     let h = s .pre .1 .1 .0 in
     let l = line-grows (a .s) (a .b) h (c .before .if1 .left) (omega arith) in
@@ -54,7 +54,7 @@ returns-2 c = let s = c .before .before .before .before .before .before in
     (l .begun, (l .complete, (none, (record { short = omega arith; room = room }, omega arith))))
 
 returns-3 : tie.Need-returns-3
-returns-3 c = let s = c .before .before .before .before .before .before in
+returns-3 c = let s = c .before .before .before .before .before .before .before in
     let a = s .args in
     let h = s .pre .1 .1 .0 in
     let l = line-full (a .s) (a .b) h (c .before .if1 .left) (omega arith) in
@@ -69,10 +69,10 @@ feed-byte-spec =
     array-share-prefix-bytes
     slice-aggregate-put-line
     put-line-requires
-    add-t13
+    add-t14
     same-length
     returns
     array-write-bytes
-    add-t21
+    add-t22
     returns-2
     returns-3)

@@ -14,7 +14,7 @@ use Rattle.enquiry_lines.proofs.lines.finish.Statement.{statement}
 use Rattle.enquiry_lines.proofs.lines.finish.Tie as tie
 
 returns : tie.Need-returns
-returns c = let s = c .before .before .before .before in
+returns c = let s = c .before .before .before .before .before in
     let h = s .pre .1 .1 .0 in
     let e = length-take-le (s .args .s .len) (s .args .s .bytes) (omega (arith, h .short, h .room)) in
     let none = eq-eqb (length (kept (s .args .s))) 0 (e ∙ c .if1 .taken) in
@@ -27,7 +27,7 @@ array-share-prefix-bytes : tie.Need-array-share-prefix-bytes
 array-share-prefix-bytes c = search needs
 
 slice-aggregate-put-line : tie.Need-slice-aggregate-put-line
-slice-aggregate-put-line c = let s = c .before .before .before .before .before .before .before .before in
+slice-aggregate-put-line c = let s = c .before .before .before .before .before .before .before .before .before in
     let h = s .pre .1 .1 .0 in
     sym (length-take-le (s .args .s .len) (s .args .s .bytes) (omega (arith, h .short, h .room)))
 
@@ -40,7 +40,7 @@ same-length c = search needs
 returns-2 : tie.Need-returns-2
 returns-2 c = let p = c .before .before in
     let t = p .before .before .before .before .before in
-    let s = t .before .before .before .before in
+    let s = t .before .before .before .before .before in
     let h = s .pre .1 .1 .0 in
     let e = length-take-le (s .args .s .len) (s .args .s .bytes) (omega (arith, h .short, h .room)) in
     let some = ne-eqb (length (kept (s .args .s))) 0 (λ z. t .if1 .left (sym e ∙ z)) in

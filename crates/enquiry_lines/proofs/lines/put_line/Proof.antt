@@ -30,7 +30,7 @@ same-length c = search needs
 returns : tie.Need-returns
 returns c = let q = c .before .before .before .before .before .before in
     let read = q .before .before in
-    let s = read .before .before .before .before .before .args in
+    let s = read .before .before .before .before .before .before .args in
     let e = ap (replyTo (basisWith (s .run .now) (s .history .now)) (s .number)) (sym (read .parse-line .ensures) ∙ q .q .given .1) in
     rw (e, ← c .before .before .before .before .point-at .ensures) (c .before .before .put-reply .ensures)
 
@@ -40,7 +40,7 @@ same-length-2 c = search needs
 returns-2 : tie.Need-returns-2
 returns-2 c = let x = c .before .before .before .before in
     let read = x .before .before in
-    let s = read .before .before .before .before .before .args in
+    let s = read .before .before .before .before .before .before .args in
     let e = ap (replyTo (basisWith (s .run .now) (s .history .now)) (s .number)) (sym (read .parse-line .ensures) ∙ x .enum-told .given .1) in
     rw e (c .before .before .put-refusal .ensures)
 
