@@ -1,50 +1,45 @@
--- What stands behind the opening: the accepted run and its history, and with the replies the whole output. Assumes nothing.
+-- What stands behind the opening: the accepted run and its history. Assumes nothing.
 use Prim.Native.Nat.{ℕ}
-use mathlib.Core.Path.{_≡_, refl, ap, _∙_}
-use mathlib.Core.List.{List, [], _++_, append-nil}
+use mathlib.Core.Path.{_≡_, ap, sym, _∙_}
+use mathlib.Core.List.{List, _++_, append-nil}
 use native.Mathlib.Omega.{arith}
 use lib.ListN.{length, drop-of-length-le}
-use Rattle.basis.specs.declared.Check.the-variants.{Passed, Refused}
-use Rattle.basis.specs.declared.Refusal.{Refusal}
+use Rattle.basis.specs.declared.Check.{Check}
+use Rattle.basis.specs.declared.Check.the-variants.{Passed}
 use Rattle.basis.specs.Basis.{basisOf, Accepted}
+use Rattle.basis.specs.Outcome.{firstOf}
 use Rattle.basis.proofs.Outcome.{both-passed}
-use Rattle.lent.specs.Lent.{written}
+use Rattle.lent.specs.Lent.{roomCheck, written}
+use Rattle.lent.proofs.Lent.{roomy, filled}
 use Rattle.run_check.proofs.Acceptance.{accepted}
-use Rattle.lent.proofs.Lent.{filled}
 use Rattle.basis_file.specs.File.{fileCheck, runIn}
 use Rattle.basis_file.proofs.RoundTrip.{run-accepted}
-use Rattle.history.specs.History.{basisWith, historyCheck, basisCheck, AcceptedWith}
+use Rattle.history.specs.History.{historyCheck, basisCheck, AcceptedWith}
 use Rattle.history.proofs.Acceptance.{accepted-with}
-use Rattle.enquiry_lines.specs.Output.{filesCheck, printed, outputOf}
-use Rattle.enquiry_lines.proofs.Whole.{joined, said, whole-in-parts}
+use Rattle.enquiry_lines.specs.Output.{filesCheck}
 
--- ---- the run
-module _ (file run : List ℕ) (l : length run ≡ 4554) (h : fileCheck file ≡ Passed) where
-  -- it is the file's
-  pub opened-run : written (fileCheck file) (runIn file) run ≡ runIn file
-  opened-run =
-      let n = accepted (runIn file) (run-accepted file h) .size in
-      let none = drop-of-length-le run {i = 4554} (omega arith) in
-      filled (fileCheck file) (runIn file) run 4554 h n ∙ ap (λ r. runIn file ++ r) none ∙ append-nil (runIn file)
+-- an accepted file's run fills a room of its own length
+module _ (file : List ℕ) (h : fileCheck file ≡ Passed) where
+  pub run-is-accepted : Accepted (runIn file)
+  run-is-accepted = accepted (runIn file) (run-accepted file h)
 
-  pub opened-accepted : Accepted (written (fileCheck file) (runIn file) run)
-  opened-accepted = rw opened-run (accepted (runIn file) (run-accepted file h))
+  pub run-fills : (room : List ℕ) → length room ≡ 4554 → (c : Check) → c ≡ Passed → written c (runIn file) room ≡ runIn file
+  run-fills room l c e =
+      let none = drop-of-length-le room {i = 4554} (omega arith) in
+      filled c (runIn file) room 4554 e (run-is-accepted .size) ∙ ap (λ r. runIn file ++ r) none ∙ append-nil (runIn file)
 
+-- where there is room, the file's own check decides
+pub read-check : (file room : List ℕ) → length room ≡ 4554 → (c : Check) → c ≡ firstOf (roomCheck 4554 room) (fileCheck file) → fileCheck file ≡ c
+read-check file room l c e = sym (roomy 4554 room (fileCheck file) (omega arith)) ∙ sym e
+
+-- the run with its history
 module _ (file history : List ℕ) where
-  -- ---- with its history
   both : filesCheck file history ≡ Passed → (fileCheck file ≡ Passed) × (basisCheck (runIn file) history ≡ Passed)
   unfolding basisCheck
   both h = let p = both-passed (fileCheck file) (historyCheck (basisOf (runIn file)) history) h in (p .0, rw (run-accepted file (p .0)) (p .1))
 
-  pub opened-with : (run : List ℕ) → length run ≡ 4554 → filesCheck file history ≡ Passed → AcceptedWith (written (fileCheck file) (runIn file) run) history
-  opened-with run l h = let p = both h in rw (opened-run file run l (p .0)) (accepted-with (runIn file) history (p .1))
+  pub opened-run : (run : List ℕ) → length run ≡ 4554 → (c : Check) → c ≡ filesCheck file history → c ≡ Passed → written c (runIn file) run ≡ runIn file
+  opened-run run l c e h = run-fills file (both (sym e ∙ h) .0) run l c h
 
-  -- ---- The program's output, however its input is cut.
-  pub accepted-output : (ps : List (List ℕ)) → filesCheck file history ≡ Passed →
-      printed (filesCheck file history) [] ++ said (basisWith (runIn file) history) [] 0 ps ≡ outputOf file history (joined ps)
-  unfolding outputOf
-  accepted-output ps e = rw (e, whole-in-parts (basisWith (runIn file) history) ps) refl
-
-  pub refused-output : (input : List ℕ) (r : Refusal) → filesCheck file history ≡ Refused r → printed (filesCheck file history) [] ≡ outputOf file history input
-  unfolding outputOf
-  refused-output input r e = rw e refl
+  pub opened-with : filesCheck file history ≡ Passed → AcceptedWith (runIn file) history
+  opened-with h = accepted-with (runIn file) history (both h .1)

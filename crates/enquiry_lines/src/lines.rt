@@ -1,15 +1,15 @@
-// A text that comes in parts, answered line by line on an accepted data run and its history, by their workings. The caller gives room for 192 bytes of
-// reply to each byte of a part: an empty line is one byte.
+// A text that comes in parts, answered line by line on an accepted data run and its history, from what was worked out of
+// them. The caller gives room for 192 bytes of reply to each byte of a part: an empty line is one byte.
 ghost use mathlib.Core.Path.{_≡_};
-ghost use mathlib.Core.List.{[], _∷_};
+ghost use mathlib.Core.List.{[]};
 ghost use Prim.Native.Nat.{_+_, _*_, _≤_, _<_};
-ghost use lib.ListN.{length, take};
+ghost use lib.ListN.{length};
 ghost use Rattle.history.specs.History.{basisWith, AcceptedWith};
 ghost use Rattle.workings.specs.Workings.{Workings};
 ghost use Rattle.enquiry_text.specs.Line.{lineOf};
 ghost use Rattle.reply_text.specs.Inner.Put.{Put};
 ghost use Rattle.enquiry_lines.specs.Lines.{ended, unfinished, lastLine, replyTo, replies};
-ghost use Rattle.enquiry_lines.specs.Inner.State.{kept, Sound};
+ghost use Rattle.enquiry_lines.specs.Inner.State.{kept, pendingOf, Sound};
 use crate::Fed;
 use crate::Pending;
 use basis::Refusal;
@@ -48,65 +48,9 @@ fn put_line(
     }
 }
 
-// Takes one byte.
-fn feed_byte(
-    run: &[u8],
-    history: &[u8],
-    workings: &[u32],
-    s: Pending,
-    b: u8,
-    out: &mut [u8],
-    at: usize,
-) -> Fed
-    requires { ⌜ AcceptedWith (now run) (now history) × Workings (basisWith (now run) (now history)) (now workings) ⌝ }
-    requires { ⌜ at + 192 ≤ length (now out) ⌝ }
-    requires { ⌜ Sound s ⌝ }
-    requires { ⌜ s .complete + 1 < 18446744073709551616 ⌝ }
-    ensures { λ r. ⌜ kept (r .pending) ≡ take 16 (unfinished (kept s) (b ∷ [])) ⌝ }
-    ensures { λ r. ⌜ r .pending .complete ≡ s .complete + length (ended (kept s) (b ∷ [])) ⌝ }
-    ensures { λ r. ⌜ Put (now (out .entry)) at (replies (basisWith (now (run .entry)) (now (history .entry))) (s .complete + 1) (ended (kept s) (b ∷ []))) (now (out .exit)) (r .at) ⌝ }
-    ensures { λ r. ⌜ (Sound (r .pending)) × (r .at ≤ at + 192) ⌝ }
-{
-    let len = s.len;
-    let mut bytes = s.bytes;
-    if b == b'\n' {
-        let next = put_line(
-            run,
-            history,
-            workings,
-            out,
-            at,
-            s.complete + 1,
-            &bytes[..len],
-        );
-        return Fed {
-            pending: Pending {
-                bytes: bytes,
-                len: 0,
-                complete: s.complete + 1,
-            },
-            at: next,
-        };
-    }
-    if len < 16 {
-        bytes[len] = b;
-        return Fed {
-            pending: Pending {
-                bytes: bytes,
-                len: len + 1,
-                complete: s.complete,
-            },
-            at: at,
-        };
-    }
-    Fed { pending: s, at: at }
-}
-
 // Nothing read yet.
 pub fn begin() -> Pending
-    ensures { λ r. ⌜ kept r ≡ [] ⌝ }
-    ensures { λ r. ⌜ r .complete ≡ 0 ⌝ }
-    ensures { λ r. ⌜ Sound r ⌝ }
+    ensures { λ r. ⌜ r ≡ pendingOf [] 0 ⌝ }
 {
     Pending {
         bytes: [0; 16],
@@ -115,7 +59,8 @@ pub fn begin() -> Pending
     }
 }
 
-// Takes a part of the input, and puts the replies to the lines that end in it at the start of `out`.
+// Takes a part of the input, and puts the replies to the lines that end in it into `out`, from a place on. A byte that ends
+// no line is kept while there is room: a line of more than 16 bytes is malformed, whatever else stands in it.
 pub fn feed(
     run: &[u8],
     history: &[u8],
@@ -123,43 +68,65 @@ pub fn feed(
     s: Pending,
     part: &[u8],
     out: &mut [u8],
+    from: usize,
 ) -> Fed
     requires { ⌜ AcceptedWith (now run) (now history) × Workings (basisWith (now run) (now history)) (now workings) ⌝ }
-    requires { ⌜ 192 * length (now part) ≤ length (now out) ⌝ }
+    requires { ⌜ from + 192 * length (now part) ≤ length (now out) ⌝ }
     requires { ⌜ Sound s ⌝ }
     requires { ⌜ s .complete + length (now part) < 18446744073709551616 ⌝ }
-    ensures { λ r. ⌜ kept (r .pending) ≡ take 16 (unfinished (kept s) (now (part .entry))) ⌝ }
-    ensures { λ r. ⌜ r .pending .complete ≡ s .complete + length (ended (kept s) (now (part .entry))) ⌝ }
-    ensures { λ r. ⌜ Put (now (out .entry)) 0 (replies (basisWith (now (run .entry)) (now (history .entry))) (s .complete + 1) (ended (kept s) (now (part .entry)))) (now (out .exit)) (r .at) ⌝ }
-    ensures { λ r. ⌜ (Sound (r .pending)) × (r .at ≤ 192 * length (now (part .entry))) × (r .pending .complete ≤ s .complete + length (now (part .entry))) ⌝ }
+    ensures { λ r. ⌜ r .pending ≡ pendingOf (unfinished (kept s) (now (part .entry))) (s .complete + length (ended (kept s) (now (part .entry)))) ⌝ }
+    ensures { λ r. ⌜ Put (now (out .entry)) from (replies (basisWith (now (run .entry)) (now (history .entry))) (s .complete + 1) (ended (kept s) (now (part .entry)))) (now (out .exit)) (r .at) ⌝ }
+    ensures { λ r. ⌜ r .at ≤ from + 192 * length (now (part .entry)) ⌝ }
 {
-    let mut pending = s;
-    let mut at: usize = 0;
+    let mut bytes = s.bytes;
+    let mut len = s.len;
+    let mut complete = s.complete;
+    let mut at = from;
     let mut i: usize = 0;
     while i < part.len() {
-        let f = feed_byte(run, history, workings, pending, part[i], out, at);
-        let next = f.pending;
-        pending = next;
-        at = f.at;
+        let b = part[i];
         i += 1;
+        if b == b'\n' {
+            at = put_line(run, history, workings, out, at, complete + 1, &bytes[..len]);
+            bytes = [0; 16];
+            len = 0;
+            complete += 1;
+            continue;
+        }
+        if 16 <= len {
+            continue;
+        }
+        bytes[len] = b;
+        len += 1;
     }
     Fed {
-        pending: pending,
+        pending: Pending {
+            bytes: bytes,
+            len: len,
+            complete: complete,
+        },
         at: at,
     }
 }
 
 // The end of the input: an unfinished line is a line.
-pub fn finish(run: &[u8], history: &[u8], workings: &[u32], s: Pending, out: &mut [u8]) -> usize
+pub fn finish(
+    run: &[u8],
+    history: &[u8],
+    workings: &[u32],
+    s: Pending,
+    out: &mut [u8],
+    from: usize,
+) -> usize
     requires { ⌜ AcceptedWith (now run) (now history) × Workings (basisWith (now run) (now history)) (now workings) ⌝ }
-    requires { ⌜ 192 ≤ length (now out) ⌝ }
+    requires { ⌜ from + 192 ≤ length (now out) ⌝ }
     requires { ⌜ Sound s ⌝ }
     requires { ⌜ s .complete + 1 < 18446744073709551616 ⌝ }
-    ensures { λ r. ⌜ Put (now (out .entry)) 0 (replies (basisWith (now (run .entry)) (now (history .entry))) (s .complete + 1) (lastLine (kept s))) (now (out .exit)) r ⌝ }
+    ensures { λ r. ⌜ Put (now (out .entry)) from (replies (basisWith (now (run .entry)) (now (history .entry))) (s .complete + 1) (lastLine (kept s))) (now (out .exit)) r ⌝ }
 {
     let len = s.len;
     if len == 0 {
-        return 0;
+        return from;
     }
     let bytes = s.bytes;
     put_line(
@@ -167,7 +134,7 @@ pub fn finish(run: &[u8], history: &[u8], workings: &[u32], s: Pending, out: &mu
         history,
         workings,
         out,
-        0,
+        from,
         s.complete + 1,
         &bytes[..len],
     )

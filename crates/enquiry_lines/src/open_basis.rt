@@ -4,7 +4,7 @@ ghost use mathlib.Core.List.{[]};
 ghost use Prim.Native.Nat.{_≤_};
 ghost use lib.ListN.{length};
 ghost use Rattle.lent.specs.Lent.{written};
-ghost use Rattle.basis_file.specs.File.{fileCheck, runIn};
+ghost use Rattle.basis_file.specs.File.{runIn};
 ghost use Rattle.reply_text.specs.Inner.Put.{Put};
 ghost use Rattle.enquiry_lines.specs.Output.{filesCheck, printed};
 use crate::Opening;
@@ -12,16 +12,23 @@ use basis::Check;
 use basis_file::read;
 use reply_text::reply;
 
-// Reads the file's data run into `run`, and checks the history against it.
+// The file's data run, put into `run` where neither the file nor the history is refused. It is read into an array of its
+// own first, since the history is checked against it.
 fn read_files(file: &[u8], history: &[u8], run: &mut [u8]) -> Check
     requires { ⌜ length (now run) ≡ 4554 ⌝ }
     ensures { λ r. ⌜ r ≡ filesCheck (now (file .entry)) (now (history .entry)) ⌝ }
-    ensures { λ _. ⌜ now (run .exit) ≡ written (fileCheck (now (file .entry))) (runIn (now (file .entry))) (now (run .entry)) ⌝ }
+    ensures { λ r. ⌜ now (run .exit) ≡ written r (runIn (now (file .entry))) (now (run .entry)) ⌝ }
 {
-    match read::read_file(file, run) {
-        Check::Passed => history::check::check_history(run, history),
-        Check::Refused(x) => Check::Refused(x),
+    let mut read = [0u8; 4554];
+    let c = read::read_file(file, &mut read);
+    if let Check::Refused(_) = c {
+        return c;
     }
+    let h = history::check::check_history(&read, history);
+    if let Check::Passed = h {
+        lent::put(&read, run, 0);
+    }
+    h
 }
 
 // The same, and the opening line at the start of `out`.
@@ -29,7 +36,7 @@ pub fn open_files(file: &[u8], history: &[u8], run: &mut [u8], out: &mut [u8]) -
     requires { ⌜ length (now run) ≡ 4554 ⌝ }
     requires { ⌜ 192 ≤ length (now out) ⌝ }
     ensures { λ r. ⌜ r .check ≡ filesCheck (now (file .entry)) (now (history .entry)) ⌝ }
-    ensures { λ r. ⌜ now (run .exit) ≡ written (fileCheck (now (file .entry))) (runIn (now (file .entry))) (now (run .entry)) ⌝ }
+    ensures { λ r. ⌜ now (run .exit) ≡ written (r .check) (runIn (now (file .entry))) (now (run .entry)) ⌝ }
     ensures { λ r. ⌜ Put (now (out .entry)) 0 (printed (filesCheck (now (file .entry)) (now (history .entry))) []) (now (out .exit)) (r .at) ⌝ }
 {
     match read_files(file, history, run) {

@@ -18,7 +18,7 @@ returns c = let s = c .before .before .before .before .before in
     let h = s .pre .1 .1 .0 in
     let e = length-take-le (s .args .s .len) (s .args .s .bytes) (omega (arith, h .short, h .room)) in
     let none = eq-eqb (length (kept (s .args .s))) 0 (e ∙ c .if1 .taken) in
-    rw (none, no-replies (basisWith (s .args .run .now) (s .args .history .now)) (s .args .s .complete + 1)) (nothing (s .args .out .now) 0 (omega arith))
+    rw (none, no-replies (basisWith (s .args .run .now) (s .args .history .now)) (s .args .s .complete + 1)) (nothing (s .args .out .now) (s .args .from) (omega arith))
 
 add-put-line : tie.Need-add-put-line
 add-put-line c = search needs

@@ -1,6 +1,9 @@
 -- The opening is by the two cases of the check.
 use mathlib.Core.Path.{refl, ap, sym, _∙_}
 use mathlib.Core.List.{[]}
+use Rattle.basis.specs.declared.Check.{Check}
+use Rattle.lent.specs.Lent.{written}
+use Rattle.basis_file.specs.File.{runIn}
 use Rattle.reply_text.proofs.Puts.{being}
 use Rattle.enquiry_lines.specs.Output.{printed}
 use borrow.Author.Needs.{needs}
@@ -33,7 +36,9 @@ returns c = let told = c .before .before .before .before in
     let read = told .before .before .before .before in
     let f = read .read-files .ensures in
     let is = sym (told .enum-told .given .1) ∙ f .0 in
-    (is, (f .1, being (ap (λ k. printed k []) is) refl (c .before .before .put-header .ensures)))
+    let a = read .before .before .before .before .before .before .args in
+    let run = f .1 ∙ ap (λ (k : Check). written k (runIn (a .file .now)) (a .run .now)) (told .enum-told .given .1) in
+    (is, (run, being (ap (λ k. printed k []) is) refl (c .before .before .put-header .ensures)))
 
 same-length-3 : tie.Need-same-length-3
 same-length-3 c = search needs
@@ -46,7 +51,9 @@ returns-2 c = let told = c .before .before .before .before .before in
     let read = told .before .before .before .before in
     let f = read .read-files .ensures in
     let is = sym (told .x .given .1) ∙ f .0 in
-    (is, (f .1, being (ap (λ k. printed k []) is) refl (c .before .before .put-refusal .ensures .0)))
+    let a = read .before .before .before .before .before .before .args in
+    let run = f .1 ∙ ap (λ (k : Check). written k (runIn (a .file .now)) (a .run .now)) (told .x .given .1) in
+    (is, (run, being (ap (λ k. printed k []) is) refl (c .before .before .put-refusal .ensures .0)))
 
 pub open-files-spec : {M : Type 1} → statement M
 open-files-spec =

@@ -1,18 +1,39 @@
--- The room is there, so that the file's own check decides; its run is accepted then, and the history's check decides.
+-- There is room, so that the file's own check decides; its run is accepted then, and the history's check decides. The output is written
+-- only where that has passed too.
 use mathlib.Core.Path.{_≡_, ap, sym, _∙_}
 use mathlib.Core.List.{List}
 use Prim.Native.Nat.{ℕ}
-use native.Mathlib.Omega.{arith}
+use lib.ListN.{replicate, length-replicate}
+use Rattle.basis.specs.declared.Check.the-variants.{Passed}
 use Rattle.basis.specs.Basis.{basisOf}
 use Rattle.basis.proofs.Outcome.{first-passed, first-refused}
-use Rattle.lent.specs.Lent.{written}
-use Rattle.lent.proofs.Lent.{roomy}
+use Rattle.lent.specs.Lent.{placed}
+use Rattle.lent.proofs.Lent.{kept, put-in-front}
 use Rattle.basis_file.specs.File.{fileCheck, runIn}
 use Rattle.history.specs.History.{historyCheck}
-use Rattle.enquiry_lines.proofs.Opened.{opened-run, opened-accepted}
+use Rattle.enquiry_lines.specs.Output.{filesCheck}
+use Rattle.enquiry_lines.proofs.Opened.{run-is-accepted, run-fills, read-check}
 use borrow.Author.Needs.{needs}
 use Rattle.enquiry_lines.proofs.open_basis.read_files.Statement.{statement}
 use Rattle.enquiry_lines.proofs.open_basis.read_files.Tie as tie
+
+-- what the reading says, and what it leaves where it says nothing against the file
+decides : (k : tie.After-read-file) → fileCheck (k .before .before .before .before .before .args .file .now) ≡ k .read-file .result
+decides k = read-check _ (replicate 4554 0) (length-replicate {A = ℕ} 4554 0) _ (k .read-file .ensures .0)
+
+holds : (k : tie.After-read-file) → k .read-file .result ≡ Passed → k .read-file .last .1 .0 ≡ runIn (k .before .before .before .before .before .args .file .now)
+holds k h = k .read-file .ensures .1 ∙ run-fills _ (decides k ∙ h) (replicate 4554 0) (length-replicate {A = ℕ} 4554 0) _ h
+
+judged : (h : tie.After-check-history) → h .check-history .result ≡ filesCheck (h .before .before .before .before .before .before .before .before .before .before .args .file .now) (h .before .before .before .before .before .before .before .before .before .before .args .history .now)
+judged h =
+    let k = h .before .before .before .before .before in
+    let a = k .before .before .before .before .before .args in
+    let passed = h .before .before .enum-told2 .given .1 in
+    h .check-history .ensures ∙ ap (λ (r : List ℕ). historyCheck (basisOf r) (a .history .now)) (holds k passed)
+    ∙ sym (first-passed (fileCheck (a .file .now)) _ (decides k ∙ passed))
+
+slice-aggregate-read-file : tie.Need-slice-aggregate-read-file
+slice-aggregate-read-file c = search needs
 
 read-file-requires : tie.Need-read-file-requires
 read-file-requires c κs = search needs
@@ -20,59 +41,68 @@ read-file-requires c κs = search needs
 enum-told : tie.Need-enum-told
 enum-told c = search needs
 
+returns : tie.Need-returns
+returns c =
+    let k = c .before .before .before in
+    let told = c .enum-told .given .1 in
+    (told ∙ sym (first-refused _ _ _ (decides k ∙ told)), sym (kept (k .read-file .result) _ _ _ told))
+
+enum-told-2 : tie.Need-enum-told-2
+enum-told-2 c = search needs
+
+slice-aggregate-check-history : tie.Need-slice-aggregate-check-history
+slice-aggregate-check-history c = search needs
+
 check-history-requires : tie.Need-check-history-requires
 check-history-requires c κs =
-    let told = c .before in
-    let read = told .before .before .before .before in
-    let a = read .before .before .before .before .before .args in
-    let f = read .read-file .ensures in
-    let e : fileCheck (a .file .now) ≡ read .read-file .result = sym (roomy 4554 (a .run .now) (fileCheck (a .file .now)) (omega arith)) ∙ sym (f .0) in
-    let run = f .1 ∙ ap (λ k. written k (runIn (a .file .now)) (a .run .now)) (sym e) in
-    rw run (opened-accepted (a .file .now) (a .run .now) (omega arith) (e ∙ told .enum-told .given .1))
+    let k = c .before .before .before .before in
+    let passed = c .before .enum-told2 .given .1 in
+    rw (holds k passed) (run-is-accepted _ (decides k ∙ passed))
 
-enum-known-x : tie.Need-enum-known-x
-enum-known-x c = search needs
+enum-told-3 : tie.Need-enum-told-3
+enum-told-3 c = search needs
+
+slice-aggregate-put : tie.Need-slice-aggregate-put
+slice-aggregate-put c = search needs
+
+put-requires : tie.Need-put-requires
+put-requires c κs = search needs
+
+enum-told-4 : tie.Need-enum-told-4
+enum-told-4 c = search needs
 
 same-length : tie.Need-same-length
 same-length c = search needs
 
-returns : tie.Need-returns
-returns c =
-    let told = c .before .before in
-    let read = told .before .before .before .before in
-    let a = read .before .before .before .before .before .args in
-    let f = read .read-file .ensures in
-    let e : fileCheck (a .file .now) ≡ read .read-file .result = sym (roomy 4554 (a .run .now) (fileCheck (a .file .now)) (omega arith)) ∙ sym (f .0) in
-    let run = f .1 ∙ ap (λ k. written k (runIn (a .file .now)) (a .run .now)) (sym e) in
-    let passed = e ∙ told .enum-told .given .1 in (
-      c .check-history .ensures
-          ∙ ap (λ (r : List ℕ). historyCheck (basisOf r) (a .history .now)) (run ∙ opened-run (a .file .now) (a .run .now) (omega arith) passed)
-          ∙ sym (first-passed (fileCheck (a .file .now)) _ passed),
-      run,
-    )
-
-same-length-2 : tie.Need-same-length-2
-same-length-2 c = search needs
-
 returns-2 : tie.Need-returns-2
 returns-2 c =
-    let told = c .before in
-    let read = told .before .before .before .before in
-    let a = read .before .before .before .before .before .args in
-    let f = read .read-file .ensures in
-    let e : fileCheck (a .file .now) ≡ read .read-file .result = sym (roomy 4554 (a .run .now) (fileCheck (a .file .now)) (omega arith)) ∙ sym (f .0) in
-    let run = f .1 ∙ ap (λ k. written k (runIn (a .file .now)) (a .run .now)) (sym e) in
-    (sym (first-refused (fileCheck (a .file .now)) _ _ (e ∙ told .x .given .1)), run)
+    let at = c .before .before in
+    let told = at .before .before .before in
+    let h = told .before .before in
+    let k = h .before .before .before .before .before in
+    let run = ap (placed _ 0) (holds k (h .before .before .enum-told2 .given .1)) in
+    (judged h, at .put .ensures ∙ run ∙ put-in-front (h .check-history .result) _ _ (told .enum-told3 .given .1))
+
+returns-3 : tie.Need-returns-3
+returns-3 c =
+    let h = c .before .before in
+    (judged h, sym (kept (h .check-history .result) _ _ _ (c .enum-told4 .given .1)))
 
 pub read-files-spec : {M : Type 1} → statement M
 read-files-spec =
     tie.close
     (tie.spec
+    slice-aggregate-read-file
     read-file-requires
     enum-told
-    check-history-requires
-    enum-known-x
-    same-length
     returns
-    same-length-2
-    returns-2)
+    enum-told-2
+    slice-aggregate-check-history
+    check-history-requires
+    enum-told-3
+    slice-aggregate-put
+    put-requires
+    enum-told-4
+    same-length
+    returns-2
+    returns-3)
