@@ -1,4 +1,4 @@
 mod Parting
-pub mod Whole
+pub mod State
 pub mod Opened
 mod SoFar

@@ -1,17 +1,17 @@
 -- What one byte leaves, and what holds after the first i bytes of a text. Assumes nothing.
-use Prim.Native.Nat.{ℕ, suc, _+_, _*_, _-_, _≤_, _<_}
+use Prim.Native.Nat.{ℕ, _+_, _*_, _≤_, _<_}
 use mathlib.Core.Path.{_≡_, refl, ap, sym, _∙_}
 use mathlib.Core.List.{List, [], _∷_, _++_}
 use native.Mathlib.Omega.{arith}
 use native.Mathlib.Numerals.{add-one}
-use lib.ListN.{length, getD, take, drop, set, replicate, length-append, length-set, length-replicate, length-take, take-append-drop}
-use lib.Seq.{take-suc, take-suc-set, take-all, take-append-le, length-take-le, drop-cons, drop-set-lt, take-at, drop-at}
+use lib.ListN.{length, getD, take, set, length-append}
+use lib.Seq.{take-suc, take-suc-set, take-all, take-append-le, length-take-le}
 use Rattle.basis.specs.Basis.{Basis}
 use Rattle.enquiry_text.specs.Line.{lineOf}
 use Rattle.reply_text.specs.Inner.Put.{Put}
 use Rattle.reply_text.proofs.Puts.{nothing, then, being}
 use Rattle.enquiry_lines.specs.Lines.{ended, unfinished, replyTo, replies}
-use Rattle.enquiry_lines.specs.Inner.State.{pendingOf, kept, Sound}
+use Rattle.enquiry_lines.specs.Inner.State.{kept, Sound}
 use Rattle.enquiry_lines.specs.declared.Pending.{Pending}
 use Rattle.enquiry_lines.proofs.Parting.{ended-one, ended-none, unfinished-none, unfinished-more, no-replies, reply-alone, Left, left-next, said-next}
 
@@ -104,42 +104,3 @@ module _ (basis : Basis) (part first : List ℕ) (from : ℕ) (s : Pending) wher
     pub ends : length part ≤ i →
         Left (kept s) (s .complete) part (kept pending) (pending .complete) × Put first from (replies basis (s .complete + 1) (ended (kept s) part)) out at
     ends le = (rw (take-all i part le) at (h .left), rw (take-all i part le) at (h .put))
-
--- ---- the state as it is held
--- nothing is kept
-pub sound-empty : (n : ℕ) → Sound (record { bytes = replicate 16 0; len = 0; complete = n })
-sound-empty n = record { short = omega arith; room = refl; rest = refl }
-
--- one byte more is
-pub sound-grows : (s : Pending) (b : ℕ) → Sound s → s .len < 16 → Sound (record { bytes = set (s .bytes) (s .len) b; len = s .len + 1; complete = s .complete })
-sound-grows s b h l =
-    let k : s .len < length (s .bytes) = omega (arith, h .room) in
-    let more : 16 - s .len ≡ suc (16 - (s .len + 1)) = omega arith in
-    let cut = sym (drop-cons (s .bytes) (s .len) 0 k) ∙ h .rest ∙ ap (λ n. replicate n 0) more in
-    record {
-      short = omega arith;
-      room = length-set (s .bytes) (s .len) b ∙ h .room;
-      rest = drop-set-lt (s .len + 1) (s .bytes) (s .len) b (omega arith) ∙ ap (λ n. drop n (s .bytes)) (add-one (s .len)) ∙ ap (drop 1) cut;
-    }
-
--- what is kept, with the zeros behind it, is all that is held
-module _ (line : List ℕ) (n : ℕ) where
-  pub pending-is : (s : Pending) → Sound s → kept s ≡ take 16 line → s .complete ≡ n → s ≡ pendingOf line n
-  pending-is s h k e =
-      let l : s .len ≡ length (take 16 line) = sym (length-take-le (s .len) (s .bytes) (omega (arith, h .short, h .room))) ∙ ap length k in
-      let zeros = h .rest ∙ ap (λ m. replicate (16 - m) 0) l in
-      let bytes : s .bytes ≡ pendingOf line n .bytes =
-      sym (take-append-drop (s .len) (s .bytes)) ∙ ap (λ r. r ++ drop (s .len) (s .bytes)) k ∙ ap (λ r. take 16 line ++ r) zeros in
-      λ i. record { bytes = bytes i; len = l i; complete = e i }
-
-  pub pending-kept : kept (pendingOf line n) ≡ take 16 line
-  pending-kept = take-at (take 16 line) _ (length (take 16 line)) refl
-
-  pub pending-sound : Sound (pendingOf line n)
-  pending-sound =
-      let short : length (take 16 line) ≤ 16 = omega (arith, length-take 16 line) in
-      record {
-        short = short;
-        room = rw (length-append, length-replicate) (omega (arith, short));
-        rest = drop-at (take 16 line) _ (length (take 16 line)) refl;
-      }

@@ -11,14 +11,16 @@ use basis::Check;
 use enquiry_lines::Pending;
 use enquiry_lines::lines;
 use enquiry_lines::open_basis;
+use libc::ENOENT;
 use libc::STDIN_FILENO;
 use libc::STDOUT_FILENO;
 
-// What a block leaves: the unfinished line, whether it was the last block, and whether its replies were written.
+// What a block leaves: the unfinished line, whether it was the last block, and whether it was read and its replies were
+// written.
 struct Turn {
     pending: Pending,
     is_last: bool,
-    is_written: bool,
+    is_whole: bool,
 }
 
 // One byte longer than a basis file: of a longer file so much is read that its length is refused.
@@ -41,11 +43,18 @@ fn run_room() -> [u8; 4554]
     [0; 4554]
 }
 
-// Room for the replies to a block of 4,096 bytes, 192 bytes for each.
-fn reply_room() -> [u8; 786432]
-    ensures { λ r. ⌜ 786432 ≡ length r ⌝ }
+// A block of the input. It is small, since the room for its replies is made ready before the first one.
+fn block_room() -> [u8; 1024]
+    ensures { λ r. ⌜ 1024 ≡ length r ⌝ }
 {
-    [0; 786432]
+    [0; 1024]
+}
+
+// Room for the replies to a block, 192 bytes for each of its bytes.
+fn reply_room() -> [u8; 196608]
+    ensures { λ r. ⌜ 196608 ≡ length r ⌝ }
+{
+    [0; 196608]
 }
 
 // Room for the factors of all ages and years, and the discounts.
@@ -55,21 +64,49 @@ fn workings_room() -> [u32; 18340]
     [0; 18340]
 }
 
-// How many bytes of a file stand at the start of `file`; a missing file has none.
-fn read_named(name: &[u8], file: &mut [u8]) -> usize
+// Whether a file has been read to its end. A read that fails is told on standard error.
+fn is_read(fd: i32, told: &[u8]) -> bool {
+    let mut more = [0u8; 1];
+    let got = libc::read(fd, &mut more);
+    if got < 0 {
+        os::fail(told);
+    }
+    got == 0
+}
+
+// How many bytes of a file stand at the start of `file`. A missing file has none. One that is there and cannot be opened or
+// read fills the room, which is longer than any such file may be, so that its length is refused.
+fn read_named(name: &[u8], told: &[u8], file: &mut [u8]) -> usize
     ensures { λ r. ⌜ Counts r (now (file .exit)) ⌝ }
 {
     let fd = os::open_read(name);
     if fd < 0 {
-        return 0;
+        if os::errno() == ENOENT {
+            return 0;
+        }
+        os::fail(told);
+        return file.len();
     }
     let n = io::read_full(fd, file);
+    let is_whole = is_read(fd, told);
     libc::close(fd);
-    n
+    if is_whole {
+        return n;
+    }
+    file.len()
 }
 
-// Reads a block and answers the lines that end in it; `blocks` more can follow. The last block is empty, or one whose
-// replies are not taken.
+// Writes a part of the output; where that fails, standard error says that the output is not whole.
+fn write_out(part: &[u8]) -> bool {
+    let is_written = io::write_all(STDOUT_FILENO, part);
+    if !is_written {
+        os::fail(b"points: the output is not whole; standard output");
+    }
+    is_written
+}
+
+// Reads a block and answers the lines that end in it; `blocks` more can follow. The last block is empty, or one that cannot
+// be read or whose replies are not taken: then no further line is answered, and standard error says so.
 fn answer_block(
     run: &[u8],
     history: &[u8],
@@ -80,20 +117,28 @@ fn answer_block(
     blocks: u64,
 ) -> Turn
     requires { ⌜ AcceptedWith (now run) (now history) × Workings (basisWith (now run) (now history)) (now workings) ⌝ }
-    requires { ⌜ (length (now part) ≤ 4096) × (786432 ≤ length (now out)) ⌝ }
-    requires { ⌜ (Sound s) × (s .complete + 4096 * (blocks + 1) ≤ 4096000000000000000) ⌝ }
-    ensures { λ r. ⌜ (Sound (r .pending)) × (r .pending .complete + 4096 * blocks ≤ 4096000000000000000) ⌝ }
+    requires { ⌜ (length (now part) ≤ 1024) × (196608 ≤ length (now out)) ⌝ }
+    requires { ⌜ (Sound s) × (s .complete + 1024 * (blocks + 1) ≤ 1024000000000000000) ⌝ }
+    ensures { λ r. ⌜ (Sound (r .pending)) × (r .pending .complete + 1024 * blocks ≤ 1024000000000000000) ⌝ }
 {
     let got = libc::read(STDIN_FILENO, part);
+    if got < 0 {
+        os::fail(b"points: the input is not whole; standard input");
+        return Turn {
+            pending: s,
+            is_last: true,
+            is_whole: false,
+        };
+    }
     let n = io::count(got, part);
-    let f = lines::feed(run, history, workings, s, &part[..n], out);
+    let f = lines::feed(run, history, workings, s, &part[..n], out, 0);
     let at = f.at;
-    let is_written = io::write_all(STDOUT_FILENO, &out[..at]);
+    let is_written = write_out(&out[..at]);
     let pending = f.pending;
     Turn {
         pending: pending,
         is_last: n == 0 || !is_written,
-        is_written: is_written,
+        is_whole: is_written,
     }
 }
 
@@ -106,18 +151,18 @@ fn answer_blocks(
     out: &mut [u8],
 ) -> Turn
     requires { ⌜ AcceptedWith (now run) (now history) × Workings (basisWith (now run) (now history)) (now workings) ⌝ }
-    requires { ⌜ (length (now part) ≤ 4096) × (786432 ≤ length (now out)) ⌝ }
-    ensures { λ r. ⌜ (Sound (r .pending)) × (r .pending .complete ≤ 4096000000000000000) ⌝ }
+    requires { ⌜ (length (now part) ≤ 1024) × (196608 ≤ length (now out)) ⌝ }
+    ensures { λ r. ⌜ (Sound (r .pending)) × (r .pending .complete ≤ 1024000000000000000) ⌝ }
 {
     let mut pending = lines::begin();
-    let mut is_written = true;
+    let mut is_whole = true;
     let mut blocks: u64 = 1_000_000_000_000_000;
     while 0 < blocks {
         blocks -= 1;
         let t = answer_block(run, history, workings, pending, part, out, blocks);
         let next = t.pending;
         pending = next;
-        is_written = t.is_written;
+        is_whole = t.is_whole;
         if t.is_last {
             break;
         }
@@ -125,7 +170,7 @@ fn answer_blocks(
     Turn {
         pending: pending,
         is_last: true,
-        is_written: is_written,
+        is_whole: is_whole,
     }
 }
 
@@ -133,15 +178,15 @@ fn answer_blocks(
 // of all ages and years are worked out once, before the first line.
 fn answer_input(run: &[u8], history: &[u8], workings: &mut [u32], part: &mut [u8], out: &mut [u8])
     requires { ⌜ AcceptedWith (now run) (now history) × (length (now workings) ≡ 18340) ⌝ }
-    requires { ⌜ (length (now part) ≤ 4096) × (786432 ≤ length (now out)) ⌝ }
+    requires { ⌜ (length (now part) ≤ 1024) × (196608 ≤ length (now out)) ⌝ }
 {
     workings::work_out(run, history, workings);
     let t = answer_blocks(run, history, workings, part, out);
-    if !t.is_written {
+    if !t.is_whole {
         return;
     }
-    let at = lines::finish(run, history, workings, t.pending, out);
-    io::write_all(STDOUT_FILENO, &out[..at]);
+    let at = lines::finish(run, history, workings, t.pending, out, 0);
+    write_out(&out[..at]);
 }
 
 fn main() {
@@ -149,17 +194,17 @@ fn main() {
     let mut history = history_room();
     let mut run = run_room();
     let mut out = reply_room();
-    let n = read_named(b"basis.bin", &mut file);
-    let m = read_named(b"history.bin", &mut history);
+    let n = read_named(b"basis.bin", b"points: basis.bin", &mut file);
+    let m = read_named(b"history.bin", b"points: history.bin", &mut history);
     let o = open_basis::open_files(&file[..n], &history[..m], &mut run, &mut out);
     let at = o.at;
-    let is_written = io::write_all(STDOUT_FILENO, &out[..at]);
+    let is_written = write_out(&out[..at]);
     let check = o.check;
     let Check::Passed = check else {
         return;
     };
     if is_written {
-        let mut part = io::buffer();
+        let mut part = block_room();
         let mut workings = workings_room();
         answer_input(&run, &history[..m], &mut workings, &mut part, &mut out);
     }

@@ -6,7 +6,7 @@ use lib.ListN.{length, take, drop, replicate}
 use Rattle.enquiry_lines.specs.declared.Pending.{Pending}
 
 -- its first 16 bytes with zeros behind them, how many these bytes are, and how many lines were complete before it
-abbrev pub pendingOf : List ℕ → ℕ → Pending
+unfoldable pub pendingOf : List ℕ → ℕ → Pending
 pendingOf line n =
     record { bytes = take 16 line ++ replicate (16 - length (take 16 line)) 0; len = length (take 16 line); complete = n }
 

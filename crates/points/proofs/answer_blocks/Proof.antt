@@ -4,22 +4,23 @@ use mathlib.Core.Path.{_≡_, refl}
 use native.Mathlib.Omega.{arith}
 use lib.ListN.{length}
 use Rattle.enquiry_lines.specs.Inner.State.{Sound}
+use Rattle.enquiry_lines.proofs.State.{held-sound, held-complete}
 use borrow.Author.Needs.{needs}
 use Rattle.points.proofs.answer_blocks.Statement.{statement}
 use Rattle.points.proofs.answer_blocks.Tie as tie
 
 abbrev Inv-loop : tie.InvT-loop
-Inv-loop run history workings part₀ out₀ pending₀ is-written₀ blocks₀ part out pending is-written blocks =
-    (length part ≡ length part₀) × (length out ≡ length out₀) × (Sound pending) × (pending .complete + 4096 * blocks ≤ 4096000000000000000)
+Inv-loop run history workings part₀ out₀ pending₀ is-whole₀ blocks₀ part out pending is-whole blocks =
+    (length part ≡ length part₀) × (length out ≡ length out₀) × (Sound pending) × (pending .complete + 1024 * blocks ≤ 1024000000000000000)
 
 abbrev μ-loop : tie.MeasureT-loop
-μ-loop run history workings part₀ out₀ pending₀ is-written₀ blocks₀ part out pending is-written blocks = blocks
+μ-loop run history workings part₀ out₀ pending₀ is-whole₀ blocks₀ part out pending is-whole blocks = blocks
 
 begin-requires : tie.Need-begin-requires Inv-loop μ-loop
 begin-requires c κs = search needs
 
 loop-holds : tie.Need-loop-holds Inv-loop μ-loop
-loop-holds c = (refl, refl, c .begin .ensures .1 .1, omega (arith, c .begin .ensures .1 .0))
+loop-holds c = let e = c .begin .ensures in (refl, refl, held-sound _ _ _ e, omega (arith, held-complete _ _ _ e))
 
 sub-blocks : tie.Need-sub-blocks Inv-loop μ-loop
 sub-blocks c = search needs

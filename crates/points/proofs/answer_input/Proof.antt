@@ -30,16 +30,16 @@ finish-requires c κs = let t = c .before .before .before .before .before .befor
     let s = w .before .before .before .before .before .before .before in
     ((s .pre .0 .0, w .work-out .ensures), (search needs, search needs))
 
-slice-reshare-prefix-write-all : tie.Need-slice-reshare-prefix-write-all
-slice-reshare-prefix-write-all c = search needs
+slice-reshare-prefix-write-out : tie.Need-slice-reshare-prefix-write-out
+slice-reshare-prefix-write-out c = search needs
 
-slice-aggregate-write-all : tie.Need-slice-aggregate-write-all
-slice-aggregate-write-all c = let f = c .before .before .before .finish in
+slice-aggregate-write-out : tie.Need-slice-aggregate-write-out
+slice-aggregate-write-out c = let f = c .before .before .before .finish in
     let p = f .ensures in
     sym (length-take-le (f .result) (f .last .1 .1 .1 .1 .0) (omega (arith, p .next, p .fits, p .same)))
 
-write-all-requires : tie.Need-write-all-requires
-write-all-requires c κs = search needs
+write-out-requires : tie.Need-write-out-requires
+write-out-requires c κs = search needs
 
 same-length-4 : tie.Need-same-length-4
 same-length-4 c = search needs
@@ -64,9 +64,9 @@ answer-input-spec =
     same-length-3
     returns
     finish-requires
-    slice-reshare-prefix-write-all
-    slice-aggregate-write-all
-    write-all-requires
+    slice-reshare-prefix-write-out
+    slice-aggregate-write-out
+    write-out-requires
     same-length-4
     same-length-5
     same-length-6

@@ -2,7 +2,7 @@
 use mathlib.Core.Path.{sym, _∙_}
 use native.Mathlib.Omega.{arith}
 use lib.Seq.{length-take-le}
-use Rattle.enquiry_lines.proofs.Opened.{opened-with}
+use Rattle.enquiry_lines.proofs.Opened.{opened-run, opened-with}
 use borrow.Author.Needs.{needs}
 use Rattle.points.proofs.main.Statement.{statement}
 use Rattle.points.proofs.main.Tie as tie
@@ -25,14 +25,20 @@ slice-aggregate-read-named c = search needs
 slice-aggregate-read-named-2 : tie.Need-slice-aggregate-read-named-2
 slice-aggregate-read-named-2 c = search needs
 
-read-named-requires : tie.Need-read-named-requires
-read-named-requires c κs = search needs
-
 slice-aggregate-read-named-3 : tie.Need-slice-aggregate-read-named-3
 slice-aggregate-read-named-3 c = search needs
 
+read-named-requires : tie.Need-read-named-requires
+read-named-requires c κs = search needs
+
 slice-aggregate-read-named-4 : tie.Need-slice-aggregate-read-named-4
 slice-aggregate-read-named-4 c = search needs
+
+slice-aggregate-read-named-5 : tie.Need-slice-aggregate-read-named-5
+slice-aggregate-read-named-5 c = search needs
+
+slice-aggregate-read-named-6 : tie.Need-slice-aggregate-read-named-6
+slice-aggregate-read-named-6 c = search needs
 
 read-named-requires-2 : tie.Need-read-named-requires-2
 read-named-requires-2 c κs = search needs
@@ -61,13 +67,13 @@ open-files-requires c κs = search needs
 array-share-prefix-out : tie.Need-array-share-prefix-out
 array-share-prefix-out c = search needs
 
-slice-aggregate-write-all : tie.Need-slice-aggregate-write-all
-slice-aggregate-write-all c = let f = c .before .before .before .open-files in
+slice-aggregate-write-out : tie.Need-slice-aggregate-write-out
+slice-aggregate-write-out c = let f = c .before .before .before .open-files in
     let p = f .ensures .1 .1 in
     sym (length-take-le (f .result .at) (f .last .1 .1 .1 .0) (omega (arith, p .next, p .fits, p .same)))
 
-write-all-requires : tie.Need-write-all-requires
-write-all-requires c κs = search needs
+write-out-requires : tie.Need-write-out-requires
+write-out-requires c κs = search needs
 
 enum-told : tie.Need-enum-told
 enum-told c = search needs
@@ -78,8 +84,8 @@ enum-told-2 c = search needs
 returns : tie.Need-returns
 returns c = search needs
 
-buffer-requires : tie.Need-buffer-requires
-buffer-requires c κs = search needs
+block-room-requires : tie.Need-block-room-requires
+block-room-requires c κs = search needs
 
 workings-room-requires : tie.Need-workings-room-requires
 workings-room-requires c κs = search needs
@@ -106,10 +112,10 @@ answer-input-requires : tie.Need-answer-input-requires
 answer-input-requires c κs = let w = c .before .before .before .before .before in
     let t = w .before .before .before in
     let o = t .before .before .before .before .before .before in
-    let r = o .before .before .before .before .before .before .before .before .before .before .before .before .before in
+    let r = o .before .before .before .before .before .before .before .before .before .before .before .before .before .before .before in
     let e = sym (o .open-files .ensures .0) ∙ t .enum-told .given .1 in (
-      (rw (o .open-files .ensures .1 .0) (opened-with _ _ (r .before .run-room .result) (sym (r .before .run-room .ensures)) e), sym (w .workings-room .ensures)),
-      (omega (arith, w .before .buffer .ensures), omega (arith, o .open-files .ensures .1 .1 .same, r .reply-room .ensures)),
+      (rw (o .open-files .ensures .1 .0 ∙ opened-run _ _ (r .before .run-room .result) (sym (r .before .run-room .ensures)) _ (o .open-files .ensures .0) (t .enum-told .given .1)) (opened-with _ _ e), sym (w .workings-room .ensures)),
+      (omega (arith, w .before .block-room .ensures), omega (arith, o .open-files .ensures .1 .1 .same, r .reply-room .ensures)),
     )
 
 returns-2 : tie.Need-returns-2
@@ -128,9 +134,11 @@ main-spec =
     reply-room-requires
     slice-aggregate-read-named
     slice-aggregate-read-named-2
-    read-named-requires
     slice-aggregate-read-named-3
+    read-named-requires
     slice-aggregate-read-named-4
+    slice-aggregate-read-named-5
+    slice-aggregate-read-named-6
     read-named-requires-2
     array-share-prefix-file
     slice-aggregate-open-files
@@ -140,12 +148,12 @@ main-spec =
     slice-aggregate-open-files-4
     open-files-requires
     array-share-prefix-out
-    slice-aggregate-write-all
-    write-all-requires
+    slice-aggregate-write-out
+    write-out-requires
     enum-told
     enum-told-2
     returns
-    buffer-requires
+    block-room-requires
     workings-room-requires
     slice-aggregate-answer-input
     array-share-prefix-history-2

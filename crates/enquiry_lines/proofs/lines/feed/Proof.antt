@@ -10,7 +10,8 @@ use Rattle.enquiry_lines.specs.declared.Pending.{Pending}
 use Rattle.enquiry_lines.specs.Lines.{unfinished}
 use Rattle.enquiry_lines.specs.Inner.State.{kept}
 use Rattle.enquiry_lines.proofs.Parting.{ended-few}
-use Rattle.enquiry_lines.proofs.SoFar.{SoFar, begins, byte-turns, ends, line-ends, line-grows, line-full, put-ended, put-none, sound-empty, sound-grows, pending-is}
+use Rattle.enquiry_lines.proofs.SoFar.{SoFar, begins, byte-turns, ends, line-ends, line-grows, line-full, put-ended, put-none}
+use Rattle.enquiry_lines.proofs.State.{sound-empty, sound-grows, pending-is}
 use borrow.Author.Needs.{needs}
 use Rattle.enquiry_lines.proofs.lines.feed.Statement.{statement}
 use Rattle.enquiry_lines.proofs.lines.feed.Tie as tie
