@@ -4,6 +4,7 @@ pub mod compare;
 pub mod engine;
 pub mod ffi;
 pub mod guard;
+pub mod points;
 pub mod random;
 pub mod stack;
 pub mod timing;

@@ -57,9 +57,15 @@ pub fn damage(random: &mut Random, file: &mut Vec<u8>) {
     }
 }
 
-/// Where a block of the file begins.
+/// Where a block of the file begins, often one of the first two or of the last two.
 fn any_block(random: &mut Random, file: &[u8]) -> usize {
-    BLOCK_LENGTH * random.below((file.len() / BLOCK_LENGTH) as u64) as usize
+    let blocks = (file.len() / BLOCK_LENGTH) as u64;
+    let block = match random.below(6) {
+        0 => random.below(blocks.min(2)),
+        1 => blocks.saturating_sub(1 + random.below(2)),
+        _ => random.below(blocks),
+    };
+    BLOCK_LENGTH * block as usize
 }
 
 /// Changes a block, and puts the right check behind it again.

@@ -76,9 +76,10 @@ pub fn damage(random: &mut Random, history: &mut Vec<u8>) {
         4 => swap_blocks(random, history),
         5 => (0..=random.below(3)).for_each(|_| zero_byte(random, history)),
         6 => (0..=random.below(3)).for_each(|_| improvement(random, history)),
+        // in one year or in several: every byte comes before every number
         7 => {
-            zero_byte(random, history);
-            improvement(random, history);
+            (0..=random.below(3)).for_each(|_| improvement(random, history));
+            (0..=random.below(3)).for_each(|_| zero_byte(random, history));
         }
         8 => two_faults(random, history),
         _ => top_bit(random, history),
@@ -148,6 +149,7 @@ mod tests {
     use crate::bases::Draft;
     use crate::engine::basis::Basis;
     use crate::engine::refusal::Refusal;
+    use std::collections::BTreeSet;
 
     /// The plain run whose history has so many years.
     fn run(years: usize) -> Vec<u8> {
@@ -193,5 +195,37 @@ mod tests {
         }
         let expected = [0, 2, 3, 4, 5, 13];
         assert!((0..14).all(|number| (met[number] > 0) == expected.contains(&number)), "{met:?}");
+    }
+
+    /// The first and the last year, both blocks of a year, both ends of its numbers and of its zero bytes; and zero
+    /// bytes with numbers before them.
+    #[test]
+    fn damage_leads_to_both_ends_of_a_history_and_of_each_block() {
+        let mut random = Random::new(4);
+        for years in [1, 2, 6, MOST_YEARS] {
+            let (run, sound) = (run(years), history_of(years, |_, _| 0));
+            let mut met = BTreeSet::new();
+            for _ in 0..6000 {
+                let mut history = sound.clone();
+                damage(&mut random, &mut history);
+                if let Err(Refusal { number, first, .. }) = Basis::accept(&run, &history) {
+                    met.insert((number, first as usize));
+                }
+            }
+            for block in [0, 1, 2 * years - 2, 2 * years - 1] {
+                let (start, numbers) = (BLOCK_DATA * block, 4 * HISTORY_PARTS[block % 2]);
+                let wanted = [
+                    (2, block),
+                    (3, block),
+                    (4, start + numbers),
+                    (4, start + BLOCK_DATA - 1),
+                    (5, start),
+                    (5, start + numbers - 4),
+                ];
+                for refusal in wanted {
+                    assert!(met.contains(&refusal), "{refusal:?} was never met in {years} years");
+                }
+            }
+        }
     }
 }

@@ -182,6 +182,15 @@ fn read<'a>(file: &'a [u8]) -> Case<'a> {
     )
 }
 
+fn write<'a>(run: &'a [u8]) -> Case<'a> {
+    let (mut lent, mut own) = ([0; FILE_LENGTH], [0; FILE_LENGTH]);
+    case(
+        "writing a file",
+        move || done(ffi::write_basis(black_box(run), black_box(&mut lent))),
+        move || done(file::write_basis(black_box(run), black_box(&mut own))),
+    )
+}
+
 fn shorten<'a>(run: &'a [u8]) -> Case<'a> {
     let (mut lent, mut own) = ([0; RUN_LENGTH], [0; RUN_LENGTH]);
     case(
@@ -190,6 +199,12 @@ fn shorten<'a>(run: &'a [u8]) -> Case<'a> {
         move || done(short_form::short_form(black_box(run), black_box(15_000_000), black_box(&mut own))),
     )
 }
+
+/// How far from the base year a single cell is asked; the benchmark's basis ends 124 years on, in 2130.
+const YEARS_ON: [u32; 3] = [40, 94, 124];
+
+/// The first so many cases are the files' and the single cells'.
+const FILES_AND_CELLS: usize = 4 + 2 * YEARS_ON.len();
 
 fn cases<'a>(lent: Lent<'a>, file: &'a [u8]) -> Vec<Case<'a>> {
     let run = lent.run;
@@ -200,11 +215,11 @@ fn cases<'a>(lent: Lent<'a>, file: &'a [u8]) -> Vec<Case<'a>> {
             move || done(enquiries::check_basis(black_box(run))),
         ),
         read(file),
+        write(run),
         shorten(run),
-        cell(lent, "factor", 40, ffi::factor, enquiries::factor),
-        cell(lent, "factor", 124, ffi::factor, enquiries::factor),
-        cell(lent, "rate", 40, ffi::rate, enquiries::rate),
     ];
+    cases.extend(YEARS_ON.map(|years| cell(lent, "factor", years, ffi::factor, enquiries::factor)));
+    cases.extend(YEARS_ON.map(|years| cell(lent, "rate", years, ffi::rate, enquiries::rate)));
     for age in [20, 65] {
         cases.extend(RESULTS.map(|(which, name)| result(lent, which, name, age)));
     }
@@ -350,7 +365,7 @@ fn cold(settings: &Settings) {
         black_box(sum);
     };
     title(settings, &ENGINES, "Data caches cleared before each call (64 MiB of other data read):");
-    for mut case in cases(Lent::new(&draft, &[]), &file).into_iter().take(6) {
+    for mut case in cases(Lent::new(&draft, &[]), &file).into_iter().take(FILES_AND_CELLS) {
         let timing = race_cold(settings.rounds.min(60), &clear, &mut *case.first, &mut *case.second);
         print(settings, &ENGINES, &case.name, &timing);
     }

@@ -3,6 +3,7 @@
 use super::history::History;
 use super::layout::*;
 use super::refusal::Refusal;
+use super::table::{first_bad_byte, first_bad_number, first_non_zero};
 use std::ops::RangeInclusive;
 
 /// An accepted data run with its single fields, and its history; the tables of both are read where they are used.
@@ -47,7 +48,7 @@ fn check_mark(run: &[u8; RUN_LENGTH]) -> Result<(), Refusal> {
     if let Some(place) = run.iter().zip(&MARK).position(|(found, wanted)| found != wanted) {
         return Err(Refusal::mark(place));
     }
-    match run[ZERO_BYTES..BASE_RATES].iter().position(|&byte| byte != 0) {
+    match first_non_zero(&run[ZERO_BYTES..BASE_RATES]) {
         Some(place) => Err(Refusal::mark(ZERO_BYTES + place)),
         None => Ok(()),
     }
@@ -79,26 +80,27 @@ fn check_tables(run: &[u8; RUN_LENGTH]) -> Result<(), Refusal> {
     check_bytes(run, BIRTH_PROPORTIONS, BIRTH_YEARS, &PROPORTIONS)
 }
 
+#[inline]
 fn check_numbers(
     run: &[u8; RUN_LENGTH],
     offset: usize,
     count: usize,
     limits: &RangeInclusive<i32>,
 ) -> Result<(), Refusal> {
-    let mut entries = run[offset..offset + 4 * count].chunks_exact(4);
-    match entries.position(|entry| !limits.contains(&signed(entry, 0))) {
+    match first_bad_number(&run[offset..offset + 4 * count], limits) {
         Some(place) => Err(Refusal::field(offset + 4 * place)),
         None => Ok(()),
     }
 }
 
+#[inline]
 fn check_bytes(
     run: &[u8; RUN_LENGTH],
     offset: usize,
     count: usize,
     limits: &RangeInclusive<u8>,
 ) -> Result<(), Refusal> {
-    match run[offset..offset + count].iter().position(|entry| !limits.contains(entry)) {
+    match first_bad_byte(&run[offset..offset + count], limits) {
         Some(place) => Err(Refusal::field(offset + place)),
         None => Ok(()),
     }

@@ -4,13 +4,15 @@ use super::layout::*;
 use super::refusal::Refusal;
 
 /// The sum of the block's first 127 words, each times its place 1 to 127, modulo 2^32.
-fn block_check(block: &[u8]) -> u32 {
-    let words = block[..BLOCK_LENGTH - 4].chunks_exact(4);
-    words.zip(1u32..).fold(0u32, |sum, (word, place)| sum.wrapping_add(place.wrapping_mul(signed(word, 0) as u32)))
+#[inline]
+fn block_check(block: &[u8; BLOCK_LENGTH]) -> u32 {
+    let (words, _) = block[..BLOCK_LENGTH - 4].as_chunks();
+    let terms = words.iter().zip(1u32..).map(|(&word, place)| place.wrapping_mul(u32::from_le_bytes(word)));
+    terms.fold(0, u32::wrapping_add)
 }
 
 /// The block that stands at this place of a basis file or of a history.
-pub(super) fn check_block(number: usize, block: &[u8]) -> Result<(), Refusal> {
+pub(super) fn check_block(number: usize, block: &[u8; BLOCK_LENGTH]) -> Result<(), Refusal> {
     if signed(block, BLOCK_LENGTH - 4) as u32 != block_check(block) {
         return Err(Refusal::block_check(number));
     }
@@ -29,7 +31,7 @@ pub fn read_basis(file: &[u8], run: &mut [u8]) -> Result<(), Refusal> {
         return Err(Refusal::length());
     }
     let mut joined = [0u8; RUN_LENGTH];
-    for (number, block) in file.chunks_exact(BLOCK_LENGTH).enumerate() {
+    for (number, block) in file.as_chunks().0.iter().enumerate() {
         check_block(number, block)?;
         joined[number * BLOCK_DATA..][..BLOCK_DATA].copy_from_slice(&block[2..2 + BLOCK_DATA]);
     }
@@ -44,7 +46,7 @@ pub fn write_basis(run: &[u8], file: &mut [u8]) -> Result<(), Refusal> {
         return Err(Refusal::output(FILE_LENGTH));
     };
     let parts = accept_run(run)?.chunks_exact(BLOCK_DATA);
-    for ((number, data), block) in (0u16..).zip(parts).zip(file.chunks_exact_mut(BLOCK_LENGTH)) {
+    for ((number, data), block) in (0u16..).zip(parts).zip(file.as_chunks_mut().0) {
         block[..2].copy_from_slice(&number.to_le_bytes());
         block[2..2 + BLOCK_DATA].copy_from_slice(data);
         let check = block_check(block);

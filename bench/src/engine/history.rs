@@ -3,6 +3,7 @@
 use super::file::check_block;
 use super::layout::*;
 use super::refusal::Refusal;
+use super::table::{first_bad_number, first_non_zero};
 
 /// An accepted history; empty where none is needed.
 #[derive(Clone, Copy)]
@@ -24,16 +25,23 @@ impl<'file> History<'file> {
         if file.len() != needed {
             return Err(Refusal::history_length(needed));
         }
-        let mut blocks = file.chunks_exact(BLOCK_LENGTH).enumerate();
-        blocks.try_for_each(|(number, block)| check_block(number, block))?;
         let history = History { file };
+        history.check_blocks()?;
         history.parts().try_for_each(|part| part.check_zero_bytes())?;
         history.parts().try_for_each(|part| part.check_improvements())?;
         Ok(history)
     }
 
+    fn blocks(&self) -> impl Iterator<Item = (usize, &'file [u8; BLOCK_LENGTH])> {
+        self.file.as_chunks().0.iter().enumerate()
+    }
+
+    fn check_blocks(&self) -> Result<(), Refusal> {
+        self.blocks().try_for_each(|(number, block)| check_block(number, block))
+    }
+
     fn parts(&self) -> impl Iterator<Item = Part<'file>> {
-        self.file.chunks_exact(BLOCK_LENGTH).enumerate().map(|(number, block)| {
+        self.blocks().map(|(number, block)| {
             let ages = HISTORY_PARTS[number % HISTORY_PARTS.len()];
             let (numbers, rest) = block[2..2 + BLOCK_DATA].split_at(4 * ages);
             Part { start: BLOCK_DATA * number, numbers, rest }
@@ -52,16 +60,17 @@ impl<'file> History<'file> {
 }
 
 impl Part<'_> {
+    #[inline]
     fn check_zero_bytes(&self) -> Result<(), Refusal> {
-        match self.rest.iter().position(|&byte| byte != 0) {
+        match first_non_zero(self.rest) {
             Some(place) => Err(Refusal::mark(self.start + self.numbers.len() + place)),
             None => Ok(()),
         }
     }
 
+    #[inline]
     fn check_improvements(&self) -> Result<(), Refusal> {
-        let mut entries = self.numbers.chunks_exact(4);
-        match entries.position(|entry| !ACTUAL_IMPROVEMENTS.contains(&signed(entry, 0))) {
+        match first_bad_number(self.numbers, &ACTUAL_IMPROVEMENTS) {
             Some(place) => Err(Refusal::field(self.start + 4 * place)),
             None => Ok(()),
         }

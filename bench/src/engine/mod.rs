@@ -12,6 +12,7 @@ pub mod refusal;
 pub mod sets;
 pub mod short_form;
 pub mod sweep;
+pub mod table;
 pub mod units;
 pub mod valuation;
 

@@ -67,6 +67,11 @@ impl Refusal {
         Self::new(11, needed as u64, 0)
     }
 
+    /// 12: a line of the points program that is not of the form asked, counted from 1.
+    pub const fn line(number: u64) -> Self {
+        Self::new(12, number, 0)
+    }
+
     /// 13: a history of another length than its years need.
     pub const fn history_length(needed: usize) -> Self {
         Self::new(13, needed as u64, 0)
