@@ -47,6 +47,12 @@ def improvement_at(offset: int) -> tuple[int, int]:
     return FIRST_AGE + _FIRST_PART * part + at // 4, year
 
 
+def offset_of(age: int, year: int) -> int:
+    """Where the improvement of an age in a year, counted from 0, begins in the joined data: the other way round."""
+    part, at = divmod(age - FIRST_AGE, _FIRST_PART)
+    return 2 * _DATA_LENGTH * year + _DATA_LENGTH * part + 4 * at
+
+
 def _block(number: int, data: bytes) -> bytes:
     """The block's number, its data filled up with zero bytes, and its check."""
     block = number.to_bytes(2, "little") + data.ljust(_DATA_LENGTH, b"\0")
