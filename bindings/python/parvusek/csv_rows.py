@@ -8,7 +8,7 @@ from typing import Iterator, NamedTuple, Optional, Sequence
 from .csv_source import UTF_8, Source
 
 SEPARATORS = (",", ";", "\t")
-_ANNOUNCED = re.compile(r'"?sep=([^"\r\n])"?', re.IGNORECASE)
+_ANNOUNCED = re.compile(r'"?sep=([^"\w.+%\r\n-])"?', re.IGNORECASE)
 
 # A byte that is not of the encoding, as `Source` hands it out.
 _WRONG = re.compile("[\udc80-\udcff]")
@@ -134,11 +134,9 @@ class Rows:
                 raise NotCsv(f"line {self.line + 1} has more than {_LONGEST_LINE:,} characters and no end: "
                              "from there on the file is no CSV")
 
-    def plain(self, text: str) -> Optional[list[str]]:
-        """The lines of a block in which every line is a row, to be cut at its separators and nothing else; None
-        otherwise. Who takes them says so by `took`."""
-        if '"' in text:
-            return None
+    def plain(self, text: str) -> Optional[tuple[list[str], list[list[str]]]]:
+        """The lines of a block in which every line is one row, and the cells of each; None where it is not so, or where
+        something is wrong with a row. Who takes them says so by `took`."""
         if "\r" in text and self._end == "\n":
             text = text.replace("\r\n", "\n").removesuffix("\r")
         if ("\r" if self._end == "\n" else "\n") in text or not text.isascii() and _WRONG.search(text):
@@ -146,7 +144,15 @@ class Rows:
         lines = text.split(self._end)
         if len(text) > LONGEST_CELL and max(map(len, lines)) > LONGEST_CELL:
             return None
-        return lines
+        if '"' not in text:
+            separator = self.separator
+            return lines, [line.split(separator) for line in lines]
+        try:
+            rows = list(csv.reader(lines, delimiter=self.separator, strict=True))
+        except csv.Error:
+            return None
+        # A row takes one line or more: with as many rows as lines, each has taken one.
+        return (lines, rows) if len(rows) == len(lines) else None
 
     def took(self, lines: Sequence[str]) -> None:
         self.line += len(lines)

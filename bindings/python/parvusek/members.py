@@ -4,21 +4,22 @@ import csv
 import io
 import itertools
 import operator
-import re
 from collections import Counter
 from typing import Callable, Iterable, Iterator, Optional, Sequence
 
 from .basis import Basis, Question, Results
 from .csv_rows import NotCsv, Row, Rows
 from .csv_source import EncodingError, Source
-from .decimals import decimal
+from .decimals import UNIT
 from .errors import CommandError
+from .grids import outcomes
 from .refusals import Refusal
 
 REFUSAL_COLUMNS = ("refusal", "first", "second", "message")
 ADDED_COLUMNS = Results._fields + REFUSAL_COLUMNS
 
-_NUMBER = re.compile(r"0|[1-9][0-9]{0,3}")
+# The paper's form of a number: 1 to 4 digits, no needless leading zero.
+_NUMBERS = {str(number): number for number in range(10_000)}
 
 _ROWS_AT_ONCE = 2_000
 _ANSWERS_KEPT = 100_000
@@ -78,6 +79,9 @@ class _Valuation:
         self._width, places = _columns(rows)
         self._asked = operator.itemgetter(*places)
         self._separator, self._line_end = rows.separator, rows.line_end
+        # Numbers need no quotes; a separator is never part of one.
+        self._answered = self._separator.join(
+            ["", *["%d.%09d"] * len(Results._fields), *[""] * len(REFUSAL_COLUMNS)]) + self._line_end
         self._known: dict[_Asked, str] = {}  # what is added to the row of a question, with the line end
         self._refused: dict[_Asked, int] = {}  # the refusal's number, where it is refused
         self.counts = Counts()
@@ -90,10 +94,10 @@ class _Valuation:
 
     def valued(self, text: str) -> Iterator[str]:
         """A block of members with their values: quickly where every line is a row of the form, row by row otherwise."""
-        lines = self._rows.plain(text)
-        quickly = None if lines is None else self._quickly(lines)
-        if lines is not None and quickly is not None:
-            self._rows.took(lines)
+        plain = self._rows.plain(text)
+        quickly = None if plain is None else self._quickly(*plain)
+        if plain is not None and quickly is not None:
+            self._rows.took(plain[0])
             yield quickly
             return
         rows = self._rows.careful(text)
@@ -102,10 +106,8 @@ class _Valuation:
 
     # ---- quickly
 
-    def _quickly(self, lines: list[str]) -> Optional[str]:
+    def _quickly(self, lines: list[str], rows: list[list[str]]) -> Optional[str]:
         """None where a row is not of the form: then nothing is counted."""
-        separator = self._separator
-        rows = [line.split(separator) for line in lines]
         if set(map(len, rows)) != {self._width}:
             return None
         asked: list[_Asked] = list(map(self._asked, rows))
@@ -158,17 +160,18 @@ class _Valuation:
         if len(self._known) > _ANSWERS_KEPT:
             self._known.clear()
             self._refused.clear()
-        new = asked - self._known.keys()
+        new = [each for each in asked if each not in self._known]
         if not new:
             return True
         questions = {each: question for each in new if (question := _question(each)) is not None}
-        for each, answer in zip(questions, self._basis.value(questions.values())):
-            if isinstance(answer, Refusal):
-                self._refused[each] = answer.number
-                cells = _refused_cells(answer, self._message(answer))
+        for each, (number, *results, first, second) in zip(questions, outcomes(self._basis, list(questions.values()))):
+            if number:
+                refusal = Refusal(number, first, second)
+                self._refused[each] = number
+                self._known[each] = self._added(_refused_cells(refusal, self._message(refusal)))
             else:
-                cells = [decimal(result) for result in answer] + [""] * len(REFUSAL_COLUMNS)
-            self._known[each] = self._added(cells)
+                a, b, c, d = results
+                self._known[each] = self._answered % (*divmod(a, UNIT), *divmod(b, UNIT), *divmod(c, UNIT), *divmod(d, UNIT))
         return len(questions) == len(new)
 
     def _message(self, refusal: Refusal) -> str:
@@ -207,16 +210,20 @@ def _columns(rows: Rows) -> tuple[int, list[int]]:
     return len(cells), [names.index(column) for column in Question._fields]
 
 
-def _question(asked: _Asked) -> Optional[Question]:
-    """The paper's form of a number: 1 to 4 digits, no needless leading zero. Spaces around it do not count."""
-    texts = [text.strip() for text in asked]
-    return Question(*map(int, texts)) if all(map(_NUMBER.fullmatch, texts)) else None
+def _question(asked: _Asked) -> Optional[tuple[int, int, int]]:
+    """None where a number is not of the form. Spaces around it do not count."""
+    age, deferment, year = asked
+    try:
+        return _NUMBERS[age], _NUMBERS[deferment], _NUMBERS[year]
+    except KeyError:
+        stripped = age.strip(), deferment.strip(), year.strip()
+        return None if stripped == asked else _question(stripped)
 
 
 def _why(asked: Iterable[str]) -> str:
     """What is wrong with numbers that are not of the form."""
     for column, text in zip(Question._fields, asked):
-        if not _NUMBER.fullmatch(text.strip()):
+        if text.strip() not in _NUMBERS:
             return f"{column} is {_shortened(text.strip())!r}, not a number of 1 to 4 digits without a needless leading zero"
     raise AssertionError("every number is of the form")
 
