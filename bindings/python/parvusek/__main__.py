@@ -1,5 +1,6 @@
 """The command line: parvusek value | basis make | basis show | basis check, or python3 -m parvusek."""
 
+import io
 import os
 import signal
 import sys
@@ -24,10 +25,12 @@ def main(arguments: Optional[Sequence[str]] = None) -> int:
     try:
         if is_process:
             signals.handle()
+            if isinstance(sys.stdout, io.TextIOWrapper):
+                sys.stdout.reconfigure(errors="backslashreplace")  # a path may be no text at all
         return _run(arguments)
     except (signals.Stopped, KeyboardInterrupt) as stop:
         number, name = (stop.number, stop.name) if isinstance(stop, signals.Stopped) else (2, "SIGINT")
-        warn(f"stopped by {name}; nothing was written")
+        warn(f"stopped by {name} before the output was whole")
         return 128 + number
     finally:
         if is_process:
@@ -36,8 +39,7 @@ def main(arguments: Optional[Sequence[str]] = None) -> int:
 
 def _run(arguments: Optional[Sequence[str]]) -> int:
     try:
-        options = parser(COMMANDS).parse_args(arguments)
-        status = int(options.command(options))
+        status = _status(arguments)
         _flush()
         return status
     except CommandError as error:
@@ -60,6 +62,14 @@ def _run(arguments: Optional[Sequence[str]]) -> int:
     return 1
 
 
+def _status(arguments: Optional[Sequence[str]]) -> int:
+    try:
+        options = parser(COMMANDS).parse_args(arguments)
+    except SystemExit as ending:  # after --help and --version, or for a wrong command line
+        return int(ending.code or 0)
+    return int(options.command(options))
+
+
 def _flush() -> None:
     """What was said must be out before the status says so."""
     if sys.stdout is not None:
@@ -68,7 +78,7 @@ def _flush() -> None:
         except BrokenPipeError:
             raise
         except OSError as error:
-            raise CommandError(f"standard output: {error.strerror}; what was to be written otherwise is written") from error
+            raise CommandError(f"what is said on standard output cannot be written: {error.strerror}") from error
 
 
 def _leave_output() -> None:

@@ -8,7 +8,7 @@ from .basis import FILE_LENGTH, Basis
 from .errors import CommandError, naming
 from .outputs import Place, drafted, held, on_disk, place_of
 from .refusals import Refusal
-from .signals import put_off
+from .signals import leave_out, put_off
 from .tables import explained, explained_history
 
 # The one name that the points program reads, beside a basis of this name only.
@@ -50,8 +50,8 @@ def histories_of(basis: str) -> list[str]:
 
 def history_beside(basis: str) -> Optional[str]:
     """The history of a basis that is there, if one is. Of two that are different files neither is taken."""
-    there = [path for path in histories_of(basis) if os.path.exists(path)]
-    if there and not all(os.path.samefile(path, there[0]) for path in there):
+    there = [path for path in histories_of(basis) if os.path.lexists(path)]
+    if len({os.path.realpath(path) for path in there}) > 1:
         raise CommandError(f"{' and '.join(there)} are both there as the history of {basis}; "
                            "take one of them away, or name one with --history")
     return there[0] if there else None
@@ -167,6 +167,7 @@ def write_basis(basis: Basis, place: Place, history: Optional[Place]) -> None:
                     on_disk(os.path.dirname(history.path))
             for draft in drafts:
                 draft.put()
+            leave_out()
 
 
 def _content(place: Place) -> Optional[bytes]:

@@ -170,14 +170,15 @@ def make(options: argparse.Namespace) -> int:
     basis = tables.basis()
     place, history = _places(options, basis)
     write_basis(basis, place, history)
-    say(f"{options.out}: {_summary(basis)}")
+    tell = say if place.is_file else warn
+    tell(f"{place.spoken}: {_summary(basis)}")
     if history is not None:
-        say(f"{history.name}: {_years(basis)}")
+        tell(f"{history.name}: {_years(basis)}")
     if tables.rounded:
-        say(f"{options.out}: {tables.rounded:,} rates had more than nine decimals and were rounded")
-    say(f"{options.out}: SHA-256 {sha256(basis.to_file())}")
+        tell(f"{place.spoken}: {tables.rounded:,} rates had more than nine decimals and were rounded")
+    tell(f"{place.spoken}: SHA-256 {sha256(basis.to_file())}")
     if history is not None:
-        say(f"{history.name}: SHA-256 {sha256(basis.history)}")
+        tell(f"{history.name}: SHA-256 {sha256(basis.history)}")
     elif place.is_file:
         _foreign_history(options.out)
     return 0

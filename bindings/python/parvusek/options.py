@@ -10,7 +10,8 @@ REFUSED_ROWS = 3
 
 STATUSES = """exit status:
   0      done; a refused row is no error
-  1      an error: what is wrong is said on standard error, and no output has taken its place
+  1      an error, which is said on standard error; no output has taken its place, unless the error is
+         that the summary itself cannot be written
   2      a wrong command line
   3      done, with --fail-on-refusal and at least one refused row
   128+n  stopped by signal n, such as 130 by Ctrl-C and 143 by SIGTERM; no output has taken its place.

@@ -12,7 +12,7 @@ import tempfile
 from typing import BinaryIO, Iterator, NamedTuple, Optional, Sequence
 
 from .errors import CommandError, naming
-from .signals import put_off
+from .signals import leave_out, put_off
 
 STANDARD = "-"
 
@@ -131,7 +131,11 @@ class Draft:
             return
         new = os.fstat(handle)
         if (new.st_uid, new.st_gid) != (old.st_uid, old.st_gid):
-            os.fchown(handle, old.st_uid, old.st_gid)
+            try:
+                os.fchown(handle, old.st_uid, old.st_gid)
+            except PermissionError as error:
+                raise CommandError(f"{self.place.name} belongs to another user or group, which it would lose; take it away, or "
+                                   "name another") from error
         os.fchmod(handle, stat.S_IMODE(old.st_mode))
 
     def write(self, content: bytes) -> None:
@@ -186,6 +190,7 @@ def put_all(drafts: Sequence[Draft]) -> None:
     with held(drafts[-1].place), put_off():
         for draft in drafts:
             draft.put()
+        leave_out()  # the work is done: a signal that comes now is too late to stop it
 
 
 @contextlib.contextmanager

@@ -9,7 +9,7 @@ from . import __version__
 from .basis_files import ReadBasis
 from .errors import CommandError
 from .members import Counts
-from .outputs import Place, place_of
+from .outputs import STANDARD, Place, place_of
 
 _MARK = "parvusek value"
 _LONGEST = 1 << 20
@@ -24,6 +24,8 @@ def record_place(values: Place, named: Optional[str], without: bool) -> Optional
     are no regular file have none of their own."""
     if without or named is None and not values.is_file:
         return None
+    if named == STANDARD:
+        raise CommandError("the record is a file of its own; name one with --record")
     place = place_of(named if named is not None else f"{values.name}.json")
     not_the_users(place)
     return place

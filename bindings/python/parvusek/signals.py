@@ -22,6 +22,8 @@ _is_stopping = False
 
 def handle() -> None:
     """From now on the first signal that stops raises `Stopped`. One that is ignored, as under nohup, stays so."""
+    global _is_stopping
+    _is_stopping = False
     for number in STOPPING:
         if signal.getsignal(number) is not signal.SIG_IGN:
             signal.signal(number, _stop)

@@ -320,6 +320,59 @@ class Histories(Command):
         self.assertEqual(sorted(os.listdir(self.folder)), ["basis.bin", "history.bin", "members.csv", "tables"])
 
 
+    def test_a_history_that_leads_nowhere_is_not_a_missing_one(self) -> None:
+        self.beside.unlink()
+        self.beside.symlink_to("none.bin")
+        status, _, wrong = self.value_older()
+        self.assertEqual((status, wrong), (1, f"parvusek: the history {self.beside}: No such file or directory\n"))
+
+    def test_rounded_rates_are_counted(self) -> None:
+        tables = self.folder / "tables"
+        shutil.copytree(SAMPLE / "tables", tables)
+        table = tables / "base_rates.csv"
+        table.write_text(table.read_text(encoding="utf-8").replace("20,0.000300000", "20,0.0002999999995"), encoding="utf-8")
+        out = self.folder / "m.bin"
+        status, _, wrong = self.run_command("basis", "make", tables, out)
+        self.assertEqual((status, wrong), (1, "parvusek: base_rates.csv, age 20, base_rate: '0.0002999999995' has more than "
+                                              "nine decimals; --round rounds it to nine\n"))
+        status, said, _ = self.run_command("basis", "make", tables, out, "--round")
+        self.assertEqual(status, 0)
+        self.assertIn(f"{out}: 1 rates had more than nine decimals and were rounded\n", said)
+        self.assertEqual(out.read_bytes(), (SAMPLE / "basis.bin").read_bytes())
+
+    def test_a_basis_on_standard_output(self) -> None:
+        status, said, wrong = self.run_process("basis", "make", SAMPLE / "tables", "-")
+        self.assertEqual((status, said), (0, (SAMPLE / "basis.bin").read_bytes()))
+        self.assertIn(b"parvusek: standard output: accepted; F 2006, B 2008", wrong)
+        status, said, wrong = self.run_process("basis", "make", SAMPLE / "older" / "tables", "-")
+        self.assertEqual((status, said), (1, b""))
+        self.assertIn(b"--history names one", wrong)
+
+
+class Surprises(Command):
+    def test_no_traceback_for_what_is_unforeseen(self) -> None:
+        for surprise, wanted in ((MemoryError(), "there is not enough memory"), (RecursionError("deep"), "unforeseen, please")):
+            with mock.patch("parvusek.commands.read_basis", side_effect=surprise):
+                status, _, wrong = self.value("age,deferment,year\n")
+            self.assertEqual(status, 1)
+            self.assertIn(wanted, wrong)
+            self.assertEqual(self.files(), ["members.csv"])
+
+    def test_a_path_that_is_no_text(self) -> None:
+        out = os.fsencode(self.folder) + b"/\xff.csv"
+        status, said, wrong = self.run_process("value", SAMPLE / "members.csv", SAMPLE / "basis.bin", os.fsdecode(out))
+        self.assertEqual((status, wrong), (0, b""))
+        self.assertIn(b"\\udcff.csv: 9 rows", said)
+        self.assertTrue(os.path.exists(out) and os.path.exists(out + b".json"))
+
+    def test_help_for_a_reader_that_goes(self) -> None:
+        process = self.start("value", "--help")
+        assert process.stdout is not None and process.stderr is not None
+        process.stdout.close()
+        self.assertEqual(process.stderr.read(), b"")
+        self.assertIn(process.wait(timeout=60), (0, 141))  # argparse leaves out what it cannot write
+
+
 class Library(Command):
     def test_a_library_that_is_not_there(self) -> None:
         import parvusek._library as place

@@ -1,12 +1,15 @@
 """Which basis it was: SHA-256 printed, a record beside the values, another basis refused; and what 01's check sees."""
 
+import contextlib
 import hashlib
 import json
 import os
 import re
 from datetime import datetime
+from typing import Iterator
 
-from parvusek import Basis, Refusal, __version__
+from parvusek import Basis, Refusal, __version__, decimal
+from parvusek.layout import BASE_FILE, columns_of
 
 from . import REPOSITORY, SAMPLE
 from .command import Command
@@ -23,24 +26,46 @@ class Check(Command):
         """Counted over every bit of the sample, with the engine; the pages name the number."""
         file = (SAMPLE / "basis.bin").read_bytes()
         run = Basis.from_file(file).run
-        accepted = []
+        found: dict[int, list[int]] = {}
+        for bit, flipped in self.each_flipped(file):
+            try:
+                self.assertNotEqual(Basis.from_file(flipped).run, run)
+                found.setdefault(0, []).append(bit)
+            except Refusal as refusal:
+                found.setdefault(refusal.number, []).append(bit)
+        self.assertEqual({number: len(bits) for number, bits in found.items()}, {0: 480, 2: 35_784, 4: 4, 5: 596})
+        # Bit b of the word in place p passes the check where 2^b × p is a multiple of 2^32, and nowhere else.
+        unseen = {8 * 512 * block + 32 * (place - 1) + bit for block in range(9) for place in range(1, 128)
+                  for bit in range(32) if (place << bit) % 2**32 == 0}
+        self.assertEqual(unseen, {bit for number in (0, 4, 5) for bit in found[number]})
+        for page in ("README.md", "docs/EMBEDDING.md", "docs/DECISIONS.md"):
+            text = re.sub(r"\s+", " ", (REPOSITORY / page).read_text(encoding="utf-8"))
+            self.assertIn("36,864 single bits of the sample", text, page)
+            self.assertIn("480 of them", text, page)
+
+    def test_one_of_them(self) -> None:
+        """The one that DECISIONS T9 names: a rate three times as large."""
+        file = bytearray((SAMPLE / "basis.bin").read_bytes())
+        self.assertEqual(file[255], 2)
+        file[255] = 6
+        rates = [decimal(column.numbers(Basis.from_file(bytes(content)).run)[75 - 20]) for column in columns_of(BASE_FILE)
+                 for content in ((SAMPLE / "basis.bin").read_bytes(), file)]
+        self.assertEqual(rates, ["0.034322491", "0.101431355"])
+
+    def test_flipped_bits_of_a_history(self) -> None:
+        basis, history = Basis.read(OLDER / "basis.bin"), (OLDER / "history.bin").read_bytes()
+        accepted = 0
+        for _, flipped in self.each_flipped(history):
+            with contextlib.suppress(Refusal):
+                accepted += basis.with_history(flipped).history != history
+        self.assertEqual((accepted, 8 * len(history)), (762, 49_152))
+
+    @staticmethod
+    def each_flipped(file: bytes) -> Iterator[tuple[int, bytes]]:
         for bit in range(8 * len(file)):
             flipped = bytearray(file)
             flipped[bit // 8] ^= 1 << bit % 8
-            try:
-                self.assertNotEqual(Basis.from_file(bytes(flipped)).run, run)
-                accepted.append(bit)
-            except Refusal:
-                pass
-        self.assertEqual((len(accepted), 8 * len(file)), (480, 36_864))
-        # Bit b of word p passes the check where 2^b × p is a multiple of 2^32, and nowhere else.
-        for bit in accepted:
-            word, place = divmod(bit % (8 * 512), 32)
-            self.assertEqual((1 << place) * (word + 1) % 2**32, 0)
-        # Offset 255, 02 to 06: a rate three times as large.
-        self.assertIn(8 * 255 + 2, accepted)
-        for page in ("README.md", "docs/EMBEDDING.md", "docs/DECISIONS.md"):
-            self.assertIn("480 of", re.sub(r"\s+", " ", (REPOSITORY / page).read_text(encoding="utf-8")), page)
+            yield bit, bytes(flipped)
 
 
 class Sums(Command):
@@ -145,6 +170,10 @@ class Record(Command):
         self.assertEqual(status, 0)
         self.assertEqual(json.loads(elsewhere.read_text(encoding="utf-8"))["values"],
                          {"file": "-", "sha256": digest(said)})
+
+    def test_not_on_standard_output(self) -> None:
+        self.assertIn("the record is a file of its own", self.value_older("--record", "-")[2])
+        self.assertEqual(self.files(), [])
 
     def test_none_where_the_values_are_no_file(self) -> None:
         os.mkfifo(self.folder / "fifo")

@@ -28,7 +28,7 @@ class Stopped(Command):
                 process.send_signal(number)  # type: ignore[attr-defined]
                 _, wrong = process.communicate(timeout=60)  # type: ignore[attr-defined]
                 self.assertEqual(process.returncode, 128 + number)  # type: ignore[attr-defined]
-                self.assertEqual(wrong, f"parvusek: stopped by {number.name}; nothing was written\n".encode())
+                self.assertEqual(wrong, f"parvusek: stopped by {number.name} before the output was whole\n".encode())
                 self.assertEqual(os.listdir(self.folder), [])
 
     def test_a_second_signal_does_not_disturb_the_first(self) -> None:
