@@ -121,8 +121,8 @@ def _members(path: str) -> Iterator[tuple[BinaryIO, int]]:
 
 def _source(raw: BinaryIO, options: argparse.Namespace) -> Source:
     try:
-        with naming(f"the file of members {options.members}"):
-            return Source(raw, options.encoding)
+        return Source(raw, options.encoding, "standard input" if options.members == STANDARD
+                      else f"the file of members {options.members}")
     except EncodingError as error:
         raise CommandError(f"{options.members}: {error}") from error
 

@@ -4,11 +4,16 @@ import codecs
 import hashlib
 from typing import BinaryIO, Optional
 
+from .errors import naming
+
 _MARKS = ((codecs.BOM_UTF8, "utf-8"), (codecs.BOM_UTF16_LE, "utf-16-le"), (codecs.BOM_UTF16_BE, "utf-16-be"))
 _MARK = "\ufeff"
 _BYTES_AT_ONCE = 1 << 16
 
 UTF_8 = "utf-8"
+
+# Encodings that put a mark before whatever they encode, and the same without.
+_UNMARKED = {"utf-8-sig": UTF_8, "utf-16": "utf-16-le", "utf-32": "utf-32-le"}
 
 
 class EncodingError(Exception):
@@ -19,8 +24,8 @@ class Source:
     """A file's text in blocks. A byte that is not of the encoding becomes a lone surrogate, and the same byte again
     where the text is encoded."""
 
-    def __init__(self, raw: BinaryIO, encoding: Optional[str] = None) -> None:
-        self._raw = raw
+    def __init__(self, raw: BinaryIO, encoding: Optional[str] = None, name: str = "the file") -> None:
+        self._raw, self._name = raw, name
         self._hash = hashlib.sha256()
         first = self._begin()
         named = None if encoding is None else _known(encoding)
@@ -62,7 +67,8 @@ class Source:
         return first
 
     def _bytes(self) -> bytes:
-        content = self._raw.read(_BYTES_AT_ONCE)
+        with naming(self._name):
+            content = self._raw.read(_BYTES_AT_ONCE)
         self._hash.update(content)
         return content
 
@@ -87,8 +93,9 @@ def _found(first: bytes, named: Optional[str]) -> tuple[str, str]:
     """The encoding, and the mark with which the file begins. A mark decides, since no other text begins like it."""
     for mark, encoding in _MARKS:
         if first.startswith(mark):
-            if named is not None and not named.startswith(encoding[:6].rstrip("-")):
-                raise EncodingError(f"--encoding {named} is given, and the file begins with the mark of {encoding[:6].rstrip('-')}; "
+            family = encoding.removesuffix("-le").removesuffix("-be")
+            if named is not None and not named.startswith(family):
+                raise EncodingError(f"--encoding {named} is given, and the file begins with the mark of {family}; "
                                     "leave --encoding out")
             return encoding, _MARK
-    return (named or UTF_8).replace("utf-8-sig", UTF_8), ""
+    return _UNMARKED.get(named or UTF_8, named or UTF_8), ""

@@ -350,6 +350,11 @@ class Histories(Command):
 
 
 class Surprises(Command):
+    def test_a_file_that_cannot_be_read_to_its_end(self) -> None:
+        status, said, wrong = self.run_command("value", "/proc/self/mem", SAMPLE / "basis.bin", self.folder / "values.csv")
+        self.assertEqual((status, said, wrong), (1, "", "parvusek: the file of members /proc/self/mem: Input/output error\n"))
+        self.assertEqual(self.files(), [])
+
     def test_no_traceback_for_what_is_unforeseen(self) -> None:
         for surprise, wanted in ((MemoryError(), "there is not enough memory"), (RecursionError("deep"), "unforeseen, please")):
             with mock.patch("parvusek.commands.read_basis", side_effect=surprise):

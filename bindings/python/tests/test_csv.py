@@ -44,6 +44,14 @@ class Encodings(Command):
         self.assertEqual(self.is_valued(b"\xfe\xff" + MEMBERS.encode("utf-16-be"), "utf-16"), plain)
         self.assertEqual(self.written()[:2], b"\xfe\xff")
 
+    def test_an_encoding_with_a_mark_that_the_file_lacks(self) -> None:
+        """The mark is then not put before each block of the values either."""
+        members = MEMBERS + "x;70;0;2010\n" * 20_000
+        for encoding, written in (("utf-16", "utf-16-le"), ("utf-32", "utf-32-le"), ("utf-8-sig", "utf-8")):
+            self.assertEqual(self.value_bytes(members.encode(written), "--encoding", encoding)[0], 0)
+            text = self.written().decode(written)
+            self.assertEqual((text.count("\ufeff"), text.count("\n")), (0, 20_003))
+
     def test_bytes_that_come_one_at_a_time(self) -> None:
         """A pipe may hand out the bytes of a mark, of a letter and of a line end one at a time."""
         class Pipe(io.BytesIO):
