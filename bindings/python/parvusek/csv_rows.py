@@ -41,7 +41,7 @@ class Row(NamedTuple):
 class Rows:
     """The rows below the header of a CSV, in blocks of whole lines.
 
-    A block is either taken line by line as it stands, by `plain`, or row by row, by `careful`.
+    A block is either taken whole, by `plain`, or row by row, by `careful`.
     """
 
     def __init__(self, source: Source, wanted: Sequence[str]) -> None:
@@ -240,7 +240,10 @@ def _within(line: int, place: str) -> str:
 
 def _names(line: str, separator: str, wanted: Sequence[str]) -> int:
     """How many of the names a line has, by a separator."""
-    cells = next(csv.reader([line], delimiter=separator), [])
+    try:
+        cells: list[str] = next(csv.reader([line], delimiter=separator), [])
+    except csv.Error:  # a cell that is too long
+        return 0
     return len({cell.strip().casefold() for cell in cells} & set(wanted))
 
 

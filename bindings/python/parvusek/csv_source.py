@@ -84,7 +84,7 @@ def _known(encoding: str) -> str:
         codec = codecs.lookup(encoding)
     except LookupError:
         raise EncodingError(f"--encoding {encoding} is not known; utf-8, cp1252 and utf-16 are") from None
-    if not codec._is_text_encoding:
+    if not getattr(codec, "_is_text_encoding", True):
         raise EncodingError(f"--encoding {encoding} is no encoding of text")
     return codec.name
 

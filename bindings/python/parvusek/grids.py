@@ -11,8 +11,8 @@ from .refusals import Refusal
 _RECORD = struct.Struct("=4I4Q2Q")
 _QUESTION = struct.Struct("=3I52x")
 
-# An answered question: no refusal's number, the four results, no places; a refused one: its number, noughts, its places.
-Outcome = tuple[int, int, int, int, int, int, int]
+# The refusal's number or 0, the four results, the two places.
+Outcome = tuple[int, ...]
 
 
 def outcomes(basis: Basis, questions: Sequence[tuple[int, int, int]]) -> Iterator[Outcome]:

@@ -21,7 +21,7 @@ def history_file(years: Sequence[Sequence[int]]) -> bytes:
     >>> len(history_file([[10_000_000] * 131, [-2_500_000] * 131]))
     2048
     """
-    blocks = []
+    blocks: list[bytes] = []
     for improvements in years:
         if len(improvements) != AGES:
             raise ValueError(f"a year has {AGES} improvements, for the ages 20 to 150, not {len(improvements)}")

@@ -54,7 +54,7 @@ history, the members and the values, and the counts. There is none where OUT.csv
 {_HISTORY} A basis whose base year is before its foundation year is
 valued with its history. One that does not belong to the basis is an error."""
 
-_MAKE = f"""Makes a basis file, and its history file, from a folder of CSV tables; the engine checks both.
+_MAKE = """Makes a basis file, and its history file, from a folder of CSV tables; the engine checks both.
 
   settings.csv           setting,value with the rows foundation_year, base_year, constant_addition,
                          discount_rate
