@@ -6,10 +6,11 @@ import fcntl
 import io
 import os
 import re
+import select
 import stat
 import sys
 import tempfile
-from typing import BinaryIO, Iterator, NamedTuple, Optional, Sequence
+from typing import Iterator, NamedTuple, Optional, Sequence
 
 from .errors import CommandError, naming
 from .signals import leave_out, put_off
@@ -107,19 +108,20 @@ class Draft:
     def __init__(self, place: Place) -> None:
         self.place = place
         self.part: Optional[str] = None
-        self.file: BinaryIO = io.BytesIO()
+        # Without a buffer: what is discarded is not flushed first, into a pipe whose reader waits.
+        self.file: io.RawIOBase = io.RawIOBase()
 
     def open(self) -> None:
         with naming(f"{self.place.spoken} cannot be written"):
             if self.place.is_file:
                 with put_off():  # so that a signal finds the temporary file noted down
                     handle, self.part = tempfile.mkstemp(".tmp", ".parvusek-", os.path.dirname(self.place.path))
-                    self.file = open(handle, "wb")
+                    self.file = open(handle, "wb", buffering=0)
                 self._like_the_old_one(handle)
             elif self.place.descriptor is not None:
-                self.file = open(os.dup(self.place.descriptor), "wb")
+                self.file = open(os.dup(self.place.descriptor), "wb", buffering=0)
             else:
-                self.file = open(self.place.path, "wb")
+                self.file = open(self.place.path, "wb", buffering=0)
 
     def _like_the_old_one(self, handle: int) -> None:
         """Mode and owner are those of the file that is replaced; a new one has those that any new file has."""
@@ -139,13 +141,17 @@ class Draft:
         os.fchmod(handle, stat.S_IMODE(old.st_mode))
 
     def write(self, content: bytes) -> None:
+        left = memoryview(content)
         with naming(self.place.spoken):
-            self.file.write(content)
+            while left:
+                written = self.file.write(left)
+                if written is None:  # a descriptor that does not wait by itself
+                    select.select([], [self.file], [])
+                left = left[written or 0:]
 
     def finish(self) -> None:
         """All that was written is on the disk; nothing has taken its place yet."""
         with naming(self.place.spoken):
-            self.file.flush()
             if self.part is not None:
                 os.fsync(self.file.fileno())
             self.file.close()
@@ -179,8 +185,9 @@ def drafted(*places: Optional[Place]) -> Iterator[list[Draft]]:
                 drafts[-1].open()
         yield drafts
     finally:
-        for draft in drafts:
-            draft.discard()
+        with put_off():
+            for draft in drafts:
+                draft.discard()
 
 
 def put_all(drafts: Sequence[Draft]) -> None:

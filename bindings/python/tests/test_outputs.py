@@ -6,6 +6,7 @@ import os
 import stat
 import subprocess
 import threading
+import time
 from pathlib import Path
 
 from parvusek import Basis
@@ -114,6 +115,17 @@ class NotRegular(Values):
             os.close(reader)
         self.assertEqual(found, [self.wanted])
         self.assertEqual(self.files(), ["fifo", "members.csv"])
+
+    def test_a_pipe_that_does_not_wait(self) -> None:
+        self.members.write_text(members_of([65] * 20_000), encoding="utf-8")
+        reading, writing = os.pipe()
+        os.set_blocking(writing, False)
+        process = self.start("value", self.members, BASIS, "-", stdout=writing)
+        os.close(writing)
+        with open(reading, "rb") as pipe:
+            time.sleep(0.5)  # until the pipe is full
+            self.assertEqual(pipe.read().count(b"\n"), 20_001)
+        self.assertEqual(process.wait(timeout=30), 0)
 
     def test_standard_output_by_its_path(self) -> None:
         stdout = self.folder / "stdout"  # as /dev/stdout is

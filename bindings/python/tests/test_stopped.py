@@ -1,6 +1,7 @@
 """A run that is stopped: it cleans up, says so in one line and ends with 128 and the signal's number."""
 
 import os
+import select
 import signal
 import time
 
@@ -48,6 +49,18 @@ class Stopped(Command):
         stdin.close()  # type: ignore[attr-defined]
         self.assertEqual(process.wait(timeout=60), 0)  # type: ignore[attr-defined]
         self.assertEqual(self.files(), ["values.csv", "values.csv.json"])
+
+    def test_while_it_waits_for_a_reader(self) -> None:
+        fifo, members = self.folder / "fifo", self.folder / "members.csv"
+        os.mkfifo(fifo)
+        members.write_text(members_of([65] * 50_000), encoding="utf-8")
+        reader = os.open(fifo, os.O_RDWR)
+        self.addCleanup(os.close, reader)
+        process = self.start("value", members, SAMPLE / "basis.bin", fifo)
+        self.assertTrue(select.select([reader], [], [], 30)[0])
+        time.sleep(0.5)  # until the fifo is full
+        process.send_signal(signal.SIGTERM)
+        self.assertEqual(process.wait(timeout=30), 143)
 
     def test_at_any_moment(self) -> None:
         """However early or late the signal comes, no traceback is seen and no temporary file is left."""

@@ -1,11 +1,17 @@
 """Two bases in one folder: each is valued with its own history, and none is ever overwritten by another's."""
 
 import os
+import threading
+from dataclasses import replace
 from pathlib import Path
+from typing import Callable, Optional
+from unittest import mock
 
-from outside.basis import encode_file
+from outside.basis import encode, encode_file
 from outside.older_bases import lent, older_bases
 from parvusek import Basis, history_file
+from parvusek.basis_files import read_basis, write_basis
+from parvusek.outputs import place_of
 from parvusek.shown_tables import show
 
 from .command import Command, members_of
@@ -98,6 +104,56 @@ class TwoBases(Command):
             self.assertEqual(self.make(tables, self.m)[0], 0)
         self.assertEqual((self.folder / "m.history.bin").read_bytes(), self.womens)
         self.assertEqual(self.files(), ["female", "m.bin", "m.csv", "m.history.bin", "male"])
+
+    def two(self) -> list[Basis]:
+        """Two bases that differ, each with its history."""
+        older = older_bases()["2000 table"]
+        runs = [bytes(encode(replace(older.basis, discount_rate=rate))) for rate in (30_000_000, 30_000_001)]
+        return [Basis(run, history) for run, history in zip(runs, (self.mens, self.womens))]
+
+    def write(self, basis: Basis) -> None:
+        write_basis(basis, place_of(str(self.m)), place_of(str(self.folder / "m.history.bin")))
+
+    def test_no_step_leaves_a_basis_with_a_history_of_another(self) -> None:
+        """Looked at after each step that changes a name, as a power failure would leave it: own history, or none."""
+        seen: list[tuple[bytes, Optional[bytes]]] = []
+
+        def looked_at(call: Callable[..., None]) -> Callable[..., None]:
+            def step(*arguments: object) -> None:
+                call(*arguments)
+                beside = self.folder / "m.history.bin"
+                seen.append((self.m.read_bytes(), beside.read_bytes() if beside.exists() else None))
+            return step
+
+        first, second = self.two()
+        self.write(first)
+        with mock.patch("os.replace", looked_at(os.replace)), mock.patch("os.unlink", looked_at(os.unlink)):
+            self.write(second)
+        self.assertEqual(seen, [(first.to_file(), None), (second.to_file(), None), (second.to_file(), second.history)])
+        # With the same history nothing has to go.
+        seen.clear()
+        third = Basis(first.run, second.history)
+        with mock.patch("os.replace", looked_at(os.replace)), mock.patch("os.unlink", looked_at(os.unlink)):
+            self.write(third)
+        self.assertEqual(seen, [(third.to_file(), third.history)] * 2)
+
+    def test_the_command_reads_both_of_one_making(self) -> None:
+        pairs = {basis.to_file(): basis.history for basis in self.two()}
+        self.write(self.two()[0])
+
+        def make() -> None:
+            for basis in self.two() * 25:
+                self.write(basis)
+
+        maker = threading.Thread(target=make)
+        maker.start()
+        reads = 0
+        while maker.is_alive():
+            read = read_basis(str(self.m))
+            self.assertEqual(pairs[read.basis.to_file()], read.basis.history)
+            reads += 1
+        maker.join()
+        self.assertGreater(reads, 0)
 
     def test_a_link_to_a_basis(self) -> None:
         self.make("male", self.m)
