@@ -59,10 +59,10 @@ def history_beside(basis: str) -> Optional[str]:
 
 def history_to_make(basis: str) -> str:
     """The history that is written with a basis: the name that the points program reads, or the basis's own."""
-    path = os.path.realpath(basis)
+    path = os.path.realpath(basis) if os.path.islink(basis) else basis
     if os.path.basename(path) == BASIS_FILE:
-        return os.path.join(os.path.dirname(basis) if not os.path.islink(basis) else os.path.dirname(path), HISTORY_FILE)
-    return own_history(path if os.path.islink(basis) else basis)
+        return os.path.join(os.path.dirname(path), HISTORY_FILE)
+    return own_history(path)
 
 
 def owner_of(history: str) -> Optional[str]:

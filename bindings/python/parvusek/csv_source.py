@@ -52,7 +52,7 @@ class Source:
         return text.encode(self.encoding, "surrogateescape")
 
     def encodable(self, text: str) -> str:
-        """A text of our own, with a mark in the place of what the encoding does not have."""
+        """A text of our own, with a question mark for what the encoding does not have."""
         try:
             self.encoded(text)
             return text

@@ -112,7 +112,7 @@ def _add(commands: Any, name: str, text: str, *paths: tuple[str, str]) -> argpar
 def _add_history(added: argparse.ArgumentParser) -> None:
     """For a command that is lent the history of a basis."""
     history = added.add_mutually_exclusive_group()
-    history.add_argument("--history", metavar="FILE", help="the history file, in the place of the one beside BASIS.bin")
+    history.add_argument("--history", metavar="FILE", help="the history file, instead of the one beside BASIS.bin")
     history.add_argument("--no-history", action="store_true", help="lend no history, also where one is there")
 
 
@@ -131,7 +131,7 @@ def _value(commands: Any) -> argparse.ArgumentParser:
     added.add_argument("--fail-on-refusal", action="store_true",
                        help=f"end with status {REFUSED_ROWS} if a row is refused; OUT.csv is written all the same")
     record = added.add_mutually_exclusive_group()
-    record.add_argument("--record", metavar="FILE", help="where the record goes, in the place of OUT.csv.json")
+    record.add_argument("--record", metavar="FILE", help="where the record goes, instead of OUT.csv.json")
     record.add_argument("--no-record", action="store_true", help="write no record")
     return added
 
