@@ -150,17 +150,23 @@ def _tell(options: argparse.Namespace, values: Place, record: Optional[Place], c
     if record is not None:
         tell(f"{record.name}: the record of this valuation")
     if counts.wrong_bytes:
-        warn(f"{counts.wrong_bytes:,} rows are refused for their bytes, the first in {counts.first_wrong_byte}")
+        warn(f"refused for bytes of another encoding: {_number_of(counts.wrong_bytes, 'row')}, the first in "
+             f"{counts.first_wrong_byte}")
     if counts.rows and not counts.valued:
         warn("every row is refused")
 
 
 def _counted(counts: Counts) -> str:
     by_number = ", ".join(f"{counts.refusals[number]:,} by {number}" for number in sorted(counts.refusals))
-    said = f"{counts.rows:,} rows, {counts.valued:,} valued, {counts.refused:,} refused{f': {by_number}' if by_number else ''}"
-    for count, what in ((counts.blank, "blank lines passed over"), (counts.over_several_lines, "rows over several lines")):
-        said += f"; {count:,} {what}" if count else ""
+    said = (f"{_number_of(counts.rows, 'row')}, {counts.valued:,} valued, {counts.refused:,} refused"
+            f"{f': {by_number}' if by_number else ''}")
+    said += f"; {_number_of(counts.blank, 'blank line')} passed over" if counts.blank else ""
+    said += f"; {_number_of(counts.over_several_lines, 'row')} over several lines" if counts.over_several_lines else ""
     return said
+
+
+def _number_of(count: int, what: str) -> str:
+    return f"{count:,} {what}{'' if count == 1 else 's'}"
 
 
 # ---- basis make, show and check
@@ -175,7 +181,7 @@ def make(options: argparse.Namespace) -> int:
     if history is not None:
         tell(f"{history.name}: {_years(basis)}")
     if tables.rounded:
-        tell(f"{place.spoken}: {tables.rounded:,} rates had more than nine decimals and were rounded")
+        tell(f"{place.spoken}: rounded to nine decimals: {_number_of(tables.rounded, 'rate')}")
     tell(f"{place.spoken}: SHA-256 {sha256(basis.to_file())}")
     if history is not None:
         tell(f"{history.name}: SHA-256 {sha256(basis.history)}")

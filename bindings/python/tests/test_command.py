@@ -59,7 +59,7 @@ class Value(Command):
                                              "number of 1 to 4 digits without a needless leading zero")
         self.assertEqual(rows[2]["message"],
                          "a line is not of the form asked (line 5): 3 cells where the header has 4")
-        self.assertIn("7 rows, 2 valued, 5 refused: 5 by 12; 1 blank lines passed over\n", said)
+        self.assertIn("7 rows, 2 valued, 5 refused: 5 by 12; 1 blank line passed over\n", said)
 
     def test_many_rows_in_order(self) -> None:
         ages = [20 + place * 37 % 140 for place in range(4_500)]
@@ -337,7 +337,7 @@ class Histories(Command):
                                               "nine decimals; --round rounds it to nine\n"))
         status, said, _ = self.run_command("basis", "make", tables, out, "--round")
         self.assertEqual(status, 0)
-        self.assertIn(f"{out}: 1 rates had more than nine decimals and were rounded\n", said)
+        self.assertIn(f"{out}: rounded to nine decimals: 1 rate\n", said)
         self.assertEqual(out.read_bytes(), (SAMPLE / "basis.bin").read_bytes())
 
     def test_a_basis_on_standard_output(self) -> None:

@@ -73,8 +73,8 @@ class Encodings(Command):
         status, said, wrong = self.value_bytes(MEMBERS.replace(";", ",").encode("cp1252"))
         self.assertEqual(status, 0)
         self.assertIn("2 rows, 1 valued, 1 refused: 1 by 12", said)
-        self.assertEqual(wrong, "parvusek: 1 rows are refused for their bytes, the first in line 2, character 2: byte FC is not "
-                                "utf-8; if a spreadsheet on Windows wrote the file, give --encoding cp1252\n")
+        self.assertEqual(wrong, "parvusek: refused for bytes of another encoding: 1 row, the first in line 2, character 2: byte "
+                                "FC is not utf-8; if a spreadsheet on Windows wrote the file, give --encoding cp1252\n")
         rows = self.written().split(b"\n")
         self.assertTrue(rows[1].startswith(b"M\xfcller,65,0,2010,,,,,12,2,0,"), rows[1])
         self.assertIn(b"line 2): character 2: byte FC is not utf-8", rows[1])
@@ -163,7 +163,7 @@ class Forms(Command):
         members = 'age,deferment,year,name\r\n65,0,2010,"one\r\ntwo\nthree"\r\n70,0,2010,x\r\nx,0,2010,y\r\n'
         status, said, _ = self.value(members)
         self.assertEqual(status, 0)
-        self.assertIn("3 rows, 2 valued, 1 refused: 1 by 12; 1 rows over several lines\n", said)
+        self.assertIn("3 rows, 2 valued, 1 refused: 1 by 12; 1 row over several lines\n", said)
         rows = list(csv.reader(io.StringIO((self.folder / "values.csv").read_bytes().decode(), newline="")))
         self.assertEqual([row[3] for row in rows], ["name", "one\r\ntwo\nthree", "x", "y"])
         self.assertEqual(rows[3][9], "6")  # the line in the file, not the row's number
@@ -230,7 +230,7 @@ class Memory(Command):
         """Measured as a ratio: a file ten times as long takes no twice the memory, whether its rows are plain or not."""
         for row in ("65,0,2010,name\n", '65,0,2010,"two\nlines"\n'):
             peaks = []
-            for rows in (30_000, 300_000):
+            for rows in (20_000, 200_000):
                 members = self.folder / "members.csv"
                 with open(members, "w", encoding="utf-8") as file:
                     file.write("age,deferment,year,name\n")

@@ -66,7 +66,7 @@ class Stopped(Command):
         """However early or late the signal comes, no traceback is seen and no temporary file is left."""
         members = self.folder / "members.csv"
         members.write_text(members_of([20 + place % 100 for place in range(30_000)]), encoding="utf-8")
-        for wait in range(0, 300, 15):
+        for wait in range(0, 300, 25):
             process = self.start("value", members, SAMPLE / "basis.bin", self.folder / "values.csv")
             time.sleep(wait / 1_000)
             process.send_signal(signal.SIGTERM)
