@@ -164,13 +164,12 @@ class _Valuation:
         if not new:
             return True
         questions = {each: question for each in new if (question := _question(each)) is not None}
-        for each, (number, *results, first, second) in zip(questions, outcomes(self._basis, list(questions.values()))):
+        for each, (number, a, b, c, d, first, second) in zip(questions, outcomes(self._basis, list(questions.values()))):
             if number:
                 refusal = Refusal(number, first, second)
                 self._refused[each] = number
                 self._known[each] = self._added(_refused_cells(refusal, self._message(refusal)))
             else:
-                a, b, c, d = results
                 self._known[each] = self._answered % (*divmod(a, UNIT), *divmod(b, UNIT), *divmod(c, UNIT), *divmod(d, UNIT))
         return len(questions) == len(new)
 
