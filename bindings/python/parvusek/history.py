@@ -21,7 +21,7 @@ def history_file(years: Sequence[Sequence[int]]) -> bytes:
     >>> len(history_file([[10_000_000] * 131, [-2_500_000] * 131]))
     2048
     """
-    blocks = []
+    blocks: list[bytes] = []
     for improvements in years:
         if len(improvements) != AGES:
             raise ValueError(f"a year has {AGES} improvements, for the ages 20 to 150, not {len(improvements)}")
@@ -45,6 +45,12 @@ def improvement_at(offset: int) -> tuple[int, int]:
     year, within = divmod(offset, 2 * _DATA_LENGTH)
     part, at = divmod(within, _DATA_LENGTH)
     return FIRST_AGE + _FIRST_PART * part + at // 4, year
+
+
+def offset_of(age: int, year: int) -> int:
+    """Where the improvement of an age in a year, counted from 0, begins in the joined data: the other way round."""
+    part, at = divmod(age - FIRST_AGE, _FIRST_PART)
+    return 2 * _DATA_LENGTH * year + _DATA_LENGTH * part + 4 * at
 
 
 def _block(number: int, data: bytes) -> bytes:

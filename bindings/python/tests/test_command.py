@@ -1,15 +1,10 @@
 """The command line: members valued as the outside calculation values them, bases made and shown, clear errors."""
 
-import contextlib
 import csv
+import hashlib
 import io
 import os
 import shutil
-import subprocess
-import sys
-import tempfile
-import unittest
-from pathlib import Path
 from unittest import mock
 
 from outside import bases, points
@@ -17,41 +12,24 @@ from outside.basis import encode, encode_file
 from outside.older_bases import lent, older_bases
 from outside.refusals import Refusal as OutsideRefusal
 from parvusek import history_file
-from parvusek.__main__ import main
-from parvusek.members import Counts, Progress
+from parvusek.progress import Progress
 
-from . import REPOSITORY, SAMPLE
+from . import SAMPLE
+from .command import Command
 
 
-class Command(unittest.TestCase):
-    def setUp(self) -> None:
-        folder = tempfile.TemporaryDirectory()
-        self.addCleanup(folder.cleanup)
-        self.folder = Path(folder.name)
-
-    def run_command(self, *arguments: object) -> tuple[int, str, str]:
-        said, wrong = io.StringIO(), io.StringIO()
-        with contextlib.redirect_stdout(said), contextlib.redirect_stderr(wrong):
-            status = main([str(argument) for argument in arguments])
-        return status, said.getvalue(), wrong.getvalue()
-
-    def value(self, members: str) -> tuple[int, str, str]:
-        (self.folder / "members.csv").write_text(members, encoding="utf-8")
-        return self.run_command("value", self.folder / "members.csv", SAMPLE / "basis.bin",
-                                self.folder / "values.csv")
-
-    def values(self) -> list[dict[str, str]]:
-        with open(self.folder / "values.csv", encoding="utf-8", newline="") as file:
-            return list(csv.DictReader(file))
+def summed(path: object, content: bytes) -> str:
+    """The line that tells the SHA-256 of a file."""
+    return f"{path}: SHA-256 {hashlib.sha256(content).hexdigest()}\n"
 
 
 class Value(Command):
     def test_sample(self) -> None:
         status, said, wrong = self.value((SAMPLE / "members.csv").read_text(encoding="utf-8"))
         self.assertEqual((status, wrong), (0, ""))
-        self.assertTrue(said.endswith("values.csv: 9 rows, 6 valued, 3 refused\n"), said)
+        self.assertIn("values.csv: 9 rows, 6 valued, 3 refused: 1 by 6, 1 by 7, 1 by 8\n", said)
         self.assertEqual((self.folder / "values.csv").read_bytes(), (SAMPLE / "values.csv").read_bytes())
-        self.assertEqual(sorted(os.listdir(self.folder)), ["members.csv", "values.csv"])
+        self.assertEqual(self.files(), ["members.csv", "values.csv", "values.csv.json"])
 
     def test_sample_is_what_the_outside_calculation_gives(self) -> None:
         run = bytes(encode(bases.realistic()))
@@ -73,15 +51,15 @@ class Value(Command):
             "2010,E,65,99999\n2010,F, 65 ,0\n2010,G,65,0,1\n")
         self.assertEqual((status, wrong), (0, ""))
         rows = self.values()
-        self.assertEqual([row["refusal"] for row in rows], ["", "12", "12", "12", "12", "12", "", "12"])
-        self.assertEqual([row["first"] for row in rows], ["", "3", "4", "5", "6", "7", "", "9"])
+        self.assertEqual([row["refusal"] for row in rows], ["", "12", "12", "12", "12", "", "12"])
+        self.assertEqual([row["first"] for row in rows], ["", "3", "5", "6", "7", "", "9"])
         self.assertEqual(rows[0]["name"], "Smith, A")
-        self.assertEqual(rows[0]["cohort_annuity"], rows[6]["cohort_annuity"])
+        self.assertEqual(rows[0]["cohort_annuity"], rows[5]["cohort_annuity"])
         self.assertEqual(rows[1]["message"], "a line is not of the form asked (line 3): age is '065', not a "
                                              "number of 1 to 4 digits without a needless leading zero")
-        self.assertEqual(rows[3]["message"],
+        self.assertEqual(rows[2]["message"],
                          "a line is not of the form asked (line 5): 3 cells where the header has 4")
-        self.assertIn("8 rows, 2 valued, 6 refused", said)
+        self.assertIn("7 rows, 2 valued, 5 refused: 5 by 12; 1 blank line passed over\n", said)
 
     def test_many_rows_in_order(self) -> None:
         ages = [20 + place * 37 % 140 for place in range(4_500)]
@@ -94,7 +72,9 @@ class Value(Command):
 
     def test_header(self) -> None:
         for header, wanted in (("age,year", "no column 'deferment'"), ("", "no column 'age'"),
-                               ("age;deferment;year", "separated by commas"),
+                               ("age:deferment:year", "separated by commas, semicolons or tabs"),
+                               ("Age,deferment,AGE,year", "more than one column 'age'"),
+                               ("age,deferment,year,Refusal", "a column 'refusal' already"),
                                ("age,age,deferment,year", "more than one column 'age'"),
                                ("age,deferment,year,refusal", "a column 'refusal' already")):
             status, _, wrong = self.value(header + "\n65,0,2010\n" if header else "")
@@ -102,36 +82,57 @@ class Value(Command):
             self.assertIn(wanted, wrong)
             self.assertEqual(os.listdir(self.folder), ["members.csv"])
 
+    def test_files_that_are_not_there(self) -> None:
+        """Each is told by its part in the run, and all of them in one go."""
+        members, basis, out = self.folder / "none.csv", self.folder / "none.bin", self.folder / "no" / "values.csv"
+        status, _, wrong = self.run_command("value", members, SAMPLE / "basis.bin", self.folder / "values.csv")
+        self.assertEqual((status, wrong), (1, f"parvusek: the file of members {members}: No such file or directory\n"))
+        status, _, wrong = self.run_command("value", SAMPLE / "members.csv", basis, self.folder / "values.csv")
+        self.assertEqual((status, wrong), (1, f"parvusek: the basis file {basis}: No such file or directory\n"))
+        status, _, wrong = self.run_command("value", members, basis, out)
+        self.assertEqual((status, wrong), (1, f"parvusek: the file of members {members}: No such file or directory\n"
+                                              f"parvusek: the basis file {basis}: No such file or directory\n"
+                                              f"parvusek: {out} cannot be written: there is no folder {out.parent}\n"))
+        self.assertEqual(self.files(), [])
+
     def test_files_that_cannot_be_used(self) -> None:
         members = SAMPLE / "members.csv"
         out = self.folder / "values.csv"
-        status, _, wrong = self.run_command("value", self.folder / "none.csv", SAMPLE / "basis.bin", out)
-        self.assertEqual((status, wrong), (1, f"parvusek: {self.folder}/none.csv: No such file or directory\n"))
         status, _, wrong = self.run_command("value", members, members, out)
         self.assertEqual(status, 1)
-        self.assertIn("members.csv is refused: refused 1: file not 4,608 bytes", wrong)
-        status, _, wrong = self.run_command("value", members, SAMPLE / "basis.bin", self.folder / "no" / "values.csv")
-        self.assertEqual(status, 1)
-        self.assertIn("No such file or directory", wrong)
+        self.assertIn("members.csv is refused: refused 1: file not 4,608 bytes, or data run not 4,554; it has 184 bytes\n", wrong)
+        (self.folder / "long.bin").write_bytes(bytes(10_000))
+        status, _, wrong = self.run_command("value", members, self.folder / "long.bin", out)
+        self.assertIn("refused 1: file not 4,608 bytes, or data run not 4,554; it has 10,000 bytes\n", wrong)
         (self.folder / "own.csv").write_bytes(members.read_bytes())
         status, _, wrong = self.run_command("value", self.folder / "own.csv", SAMPLE / "basis.bin",
                                             self.folder / "own.csv")
         self.assertEqual(status, 1)
         self.assertIn("is the file of members itself", wrong)
         self.assertEqual((self.folder / "own.csv").read_bytes(), members.read_bytes())
-        (self.folder / "latin.csv").write_bytes(b"age,deferment,year,name\n65,0,2010,\xe9\n")
-        status, _, wrong = self.run_command("value", self.folder / "latin.csv", SAMPLE / "basis.bin", out)
-        self.assertEqual(status, 1)
-        self.assertIn("not UTF-8", wrong)
         self.assertFalse(out.exists())
 
-    def test_standard_input_and_output(self) -> None:
-        environment = dict(os.environ, PYTHONPATH=str(REPOSITORY / "bindings" / "python"))
-        done = subprocess.run([sys.executable, "-m", "parvusek", "value", "-", SAMPLE / "basis.bin", "-"],
-                              input=(SAMPLE / "members.csv").read_bytes(), env=environment,
-                              capture_output=True, check=True)
-        self.assertEqual(done.stdout, (SAMPLE / "values.csv").read_bytes())
-        self.assertEqual(done.stderr, b"")
+    def test_members_from_a_fifo(self) -> None:
+        fifo, out = self.folder / "fifo", self.folder / "values.csv"
+        os.mkfifo(fifo)
+        process = self.start("value", fifo, SAMPLE / "basis.bin", out)
+        fifo.write_bytes((SAMPLE / "members.csv").read_bytes())
+        self.assertEqual(process.wait(timeout=60), 0)
+        self.assertEqual(out.read_bytes(), (SAMPLE / "values.csv").read_bytes())
+
+    def test_closed_streams(self) -> None:
+        """A job may be started with any of the three closed."""
+        out = self.folder / "values.csv"
+        for closed in (0, 1, 2):
+            status, _, wrong = self.run_process("value", SAMPLE / "members.csv", SAMPLE / "basis.bin", out,
+                                                preexec_fn=lambda closed=closed: os.close(closed))
+            self.assertEqual((status, wrong), (0, b""))
+            self.assertEqual(out.read_bytes(), (SAMPLE / "values.csv").read_bytes())
+        for closed, arguments in ((0, ("-", SAMPLE / "basis.bin", out)),
+                                  (1, (SAMPLE / "members.csv", SAMPLE / "basis.bin", "-"))):
+            status, _, wrong = self.run_process("value", *arguments, preexec_fn=lambda closed=closed: os.close(closed))
+            self.assertEqual(status, 1)
+            self.assertRegex(wrong.decode(), "^parvusek: standard (input|output) .*\n$")
 
     def test_progress_on_a_terminal_only(self) -> None:
         class Terminal(io.StringIO):
@@ -141,7 +142,7 @@ class Value(Command):
         terminal, file = Terminal(), io.StringIO()
         for stream in (terminal, file):
             progress = Progress(io.BytesIO(b"x"), 1, stream)
-            progress(Counts(1_000, 2))
+            progress(1_002, 2)
             progress.end()
         self.assertIn("1,002 rows, 2 refused, 0 %", terminal.getvalue())
         self.assertTrue(terminal.getvalue().endswith("\r\x1b[K"))
@@ -152,8 +153,7 @@ class Bases(Command):
     def test_make_and_show(self) -> None:
         status, said, _ = self.run_command("basis", "make", SAMPLE / "tables", self.folder / "basis.bin")
         self.assertEqual(status, 0)
-        self.assertTrue(said.endswith("basis.bin: accepted; F 2006, B 2008, addition 0.001000000, "
-                                      "discount 0.030000000\n"), said)
+        self.assertIn("basis.bin: accepted; F 2006, B 2008, addition 0.001000000, discount 0.030000000\n", said)
         self.assertEqual(self.run_command("basis", "check", self.folder / "basis.bin")[:2], (0, said))
         status, _, _ = self.run_command("basis", "show", self.folder / "basis.bin", self.folder / "tables")
         self.assertEqual(status, 0)
@@ -223,7 +223,7 @@ class Histories(Command):
         self.assertEqual(self.value_older("--history", named)[0], 0)
         self.is_valued()
         status, _, wrong = self.value_older("--history", self.folder / "none.bin")
-        self.assertEqual((status, wrong), (1, f"parvusek: {self.folder}/none.bin: No such file or directory\n"))
+        self.assertEqual((status, wrong), (1, f"parvusek: the history {self.folder}/none.bin: No such file or directory\n"))
 
     def test_without_its_history(self) -> None:
         why = (": the base year 2000 is before the foundation year 2006, so that the actual improvements of 2001 to 2006 "
@@ -244,7 +244,7 @@ class Histories(Command):
         self.assertEqual(wrong, f"parvusek: {self.beside} is refused as the history of {self.basis}: the base year 2008 is "
                                 "not before the foundation year 2006, so that no actual improvements belong to it "
                                 "(refused 13: history not 1,024 bytes for each year from B + 1 to F (needed 0)); "
-                                "--no-history leaves it aside\n")
+                                "it has 6,144 bytes; --no-history leaves it aside\n")
         self.assertEqual(self.value_older("--no-history")[0], 0)
 
     def test_a_damaged_history(self) -> None:
@@ -273,18 +273,20 @@ class Histories(Command):
     def test_shown_and_made_again(self) -> None:
         status, said, _ = self.run_command("basis", "show", self.basis, self.folder / "tables")
         summary = ("accepted; F 2006, B 2000, addition 0.001000000, discount 0.030000000, history of 2001 to 2006\n")
-        self.assertEqual((status, said), (0, f"{self.folder}/tables: the tables of {self.basis}, {summary}"))
-        for options, written in (((), "history.bin"), (("--history", self.folder / "again" / "actual.bin"), "actual.bin")):
+        sums = summed(self.basis, self.basis.read_bytes()) + summed(self.beside, self.history)
+        self.assertEqual((status, said), (0, f"{self.folder}/tables: the tables of {self.basis}, {summary}{sums}"))
+        for options, written in (((), "b.history.bin"), (("--history", self.folder / "again" / "actual.bin"), "actual.bin")):
             again = self.folder / "again"
             again.mkdir()
             status, said, wrong = self.run_command("basis", "make", self.folder / "tables", again / "b.bin", *options)
             self.assertEqual((status, wrong), (0, ""))
-            self.assertEqual(said, f"{again}/b.bin: {summary}{again}/{written}: history of 2001 to 2006\n")
+            self.assertEqual(said, f"{again}/b.bin: {summary}{again}/{written}: history of 2001 to 2006\n"
+                             + summed(again / "b.bin", self.basis.read_bytes()) + summed(again / written, self.history))
             self.assertEqual(sorted(os.listdir(again)), sorted(["b.bin", written]))
             self.assertEqual((again / "b.bin").read_bytes(), self.basis.read_bytes())
             self.assertEqual((again / written).read_bytes(), self.history)
             shutil.rmtree(again)
-        self.assertEqual(self.run_command("basis", "check", self.basis), (0, f"{self.basis}: {summary}", ""))
+        self.assertEqual(self.run_command("basis", "check", self.basis), (0, f"{self.basis}: {summary}{sums}", ""))
 
     def test_a_basis_without_a_history_is_made_without_one(self) -> None:
         self.beside.unlink()
@@ -311,12 +313,69 @@ class Histories(Command):
         table.write_text(text, encoding="utf-8")
         status, _, wrong = self.run_command("basis", "make", tables, self.basis, "--history", self.folder / "no" / "h.bin")
         self.assertEqual(status, 1)
-        self.assertIn("No such file or directory", wrong)
+        self.assertIn("there is no folder", wrong)
         status, _, wrong = self.run_command("basis", "make", tables, self.basis, "--history", self.basis)
-        self.assertEqual((status, wrong), (1, f"parvusek: {self.basis} cannot be the basis file and its history; "
-                                              "name another\n"))
+        self.assertEqual((status, wrong), (1, f"parvusek: {self.basis} cannot be {self.basis} as well; name another\n"))
         self.assertEqual((self.basis.read_bytes(), self.beside.read_bytes()), (before, self.history))
         self.assertEqual(sorted(os.listdir(self.folder)), ["basis.bin", "history.bin", "members.csv", "tables"])
+
+
+    def test_a_history_that_leads_nowhere_is_not_a_missing_one(self) -> None:
+        self.beside.unlink()
+        self.beside.symlink_to("none.bin")
+        status, _, wrong = self.value_older()
+        self.assertEqual((status, wrong), (1, f"parvusek: the history {self.beside}: No such file or directory\n"))
+
+    def test_rounded_rates_are_counted(self) -> None:
+        tables = self.folder / "tables"
+        shutil.copytree(SAMPLE / "tables", tables)
+        table = tables / "base_rates.csv"
+        table.write_text(table.read_text(encoding="utf-8").replace("20,0.000300000", "20,0.0002999999995"), encoding="utf-8")
+        out = self.folder / "m.bin"
+        status, _, wrong = self.run_command("basis", "make", tables, out)
+        self.assertEqual((status, wrong), (1, "parvusek: base_rates.csv, age 20, base_rate: '0.0002999999995' has more than "
+                                              "nine decimals; --round rounds it to nine\n"))
+        status, said, _ = self.run_command("basis", "make", tables, out, "--round")
+        self.assertEqual(status, 0)
+        self.assertIn(f"{out}: rounded to nine decimals: 1 rate\n", said)
+        self.assertEqual(out.read_bytes(), (SAMPLE / "basis.bin").read_bytes())
+
+    def test_a_basis_on_standard_output(self) -> None:
+        status, said, wrong = self.run_process("basis", "make", SAMPLE / "tables", "-")
+        self.assertEqual((status, said), (0, (SAMPLE / "basis.bin").read_bytes()))
+        self.assertIn(b"parvusek: standard output: accepted; F 2006, B 2008", wrong)
+        status, said, wrong = self.run_process("basis", "make", SAMPLE / "older" / "tables", "-")
+        self.assertEqual((status, said), (1, b""))
+        self.assertIn(b"--history names one", wrong)
+
+
+class Surprises(Command):
+    def test_a_file_that_cannot_be_read_to_its_end(self) -> None:
+        status, said, wrong = self.run_command("value", "/proc/self/mem", SAMPLE / "basis.bin", self.folder / "values.csv")
+        self.assertEqual((status, said, wrong), (1, "", "parvusek: the file of members /proc/self/mem: Input/output error\n"))
+        self.assertEqual(self.files(), [])
+
+    def test_no_traceback_for_what_is_unforeseen(self) -> None:
+        for surprise, wanted in ((MemoryError(), "there is not enough memory"), (RecursionError("deep"), "unforeseen, please")):
+            with mock.patch("parvusek.commands.read_basis", side_effect=surprise):
+                status, _, wrong = self.value("age,deferment,year\n")
+            self.assertEqual(status, 1)
+            self.assertIn(wanted, wrong)
+            self.assertEqual(self.files(), ["members.csv"])
+
+    def test_a_path_that_is_no_text(self) -> None:
+        out = os.fsencode(self.folder) + b"/\xff.csv"
+        status, said, wrong = self.run_process("value", SAMPLE / "members.csv", SAMPLE / "basis.bin", os.fsdecode(out))
+        self.assertEqual((status, wrong), (0, b""))
+        self.assertIn(b"\\udcff.csv: 9 rows", said)
+        self.assertTrue(os.path.exists(out) and os.path.exists(out + b".json"))
+
+    def test_help_for_a_reader_that_goes(self) -> None:
+        process = self.start("value", "--help")
+        assert process.stdout is not None and process.stderr is not None
+        process.stdout.close()
+        self.assertEqual(process.stderr.read(), b"")
+        self.assertIn(process.wait(timeout=60), (0, 141))  # argparse leaves out what it cannot write
 
 
 class Library(Command):

@@ -1,8 +1,9 @@
-"""Decimal notation is exact both ways, and nothing but a plain decimal number is read."""
+"""Decimal notation is exact both ways, and nothing but a decimal number is read."""
 
 import unittest
 
 from parvusek import UNIT, decimal, units
+from parvusek.decimals import rounded_units
 
 
 class Decimals(unittest.TestCase):
@@ -20,6 +21,18 @@ class Decimals(unittest.TestCase):
         self.assertEqual(units("-0.25"), -UNIT // 4)
 
     def test_not_a_number(self) -> None:
-        for text in ("", "-", ".5", "1.", "+1", "01", "1e-3", "0,5", "0.0000000001", "١", " 1", "1\n", "nan"):
+        for text in ("", "-", ".", "e5", "1e", "0,5", "0.0000000001", "1e-10", "١", " 1", "1\n", "nan", "inf", "1_0", "0x1",
+                     "1e99999", "1" * 500):
             with self.subTest(text=text), self.assertRaises(ValueError):
                 units(text)
+
+    def test_as_spreadsheets_write_them(self) -> None:
+        for text, number in (("3E-04", 300_000), (".0003", 300_000), ("1.", UNIT), ("+1", UNIT), ("01", UNIT),
+                             ("-1.5e1", -15 * UNIT), ("0.0125000000000", 12_500_000), ("1e9", UNIT * UNIT)):
+            self.assertEqual(units(text), number)
+
+    def test_rounded_as_01_rounds(self) -> None:
+        """To the nearest unit, ties up, below zero as well."""
+        for text, number in (("0.0000000005", 1), ("-0.0000000005", 0), ("-0.0000000015", -1), ("0.00000000049", 0),
+                             ("-0.00000000051", -1), ("0.0125", 12_500_000), ("1e-300", 0), ("-1e-300", 0)):
+            self.assertEqual(rounded_units(text), number, text)

@@ -13,7 +13,8 @@ from outside.older_bases import lent, older_bases
 from parvusek import Basis, Kind, Question, history_file, improvements_of
 from parvusek.history import improvement_at
 from parvusek.layout import ACTUAL_FILE, FILES
-from parvusek.tables import TableError, basis_of, show
+from parvusek.shown_tables import show
+from parvusek.tables import TableError, basis_of
 
 from . import refused_tables
 from .test_basis import outcome
@@ -201,12 +202,16 @@ class Table(unittest.TestCase):
             self.assertEqual(self.refused(self.row(87, 2006), f"\n87,2006,{text}"),
                              f"{place}: {text} {limits} (refused 5: a field outside its limits (offset 5570))")
         self.assertEqual(self.refused(self.row(87, 2006), "\n87,2006,3"), f"{place}: 3.000000000 {limits}")
-        for text in ("0.0123456789", "1e-3", "1.2%", ""):
+        self.assertEqual(self.refused(self.row(87, 2006), "\n87,2006,0.0123456789"),
+                         f"{place}: '0.0123456789' has more than nine decimals; --round rounds it to nine")
+        for text in ("1,2", "1.2%", ""):
+            text = f'"{text}"'
             self.assertEqual(self.refused(self.row(87, 2006), f"\n87,2006,{text}"),
-                             f"{place}: {text!r} is not a decimal number with at most nine decimals, such as 0.0125")
+                             f"{place}: {text[1:-1]!r} is not a decimal number with at most nine decimals, such as 0.0125")
 
     def test_header_and_cells(self) -> None:
         self.assertEqual(self.refused("age,year,improvement", "year,age,improvement"),
-                         "actual_improvements.csv begins with the row age,year,improvement; here it does not")
+                         "actual_improvements.csv begins with the row age,year,improvement; here it begins with "
+                         "'year,age,improvement'")
         self.assertEqual(self.refused(self.row(20, 2001), "\n20,2001"),
                          "actual_improvements.csv, line 2: 2 cells stand where 3 are wanted (age,year,improvement)")

@@ -10,7 +10,8 @@ from outside.basis import encode
 from outside.layout import limits
 from parvusek import Basis, Refusal
 from parvusek.layout import ACTUAL_FILE, COLUMNS, FILES, SETTINGS, field_at
-from parvusek.tables import TableError, basis_of, explained, show
+from parvusek.shown_tables import show
+from parvusek.tables import TableError, Tables, basis_of, explained
 
 from . import SAMPLE, refused_tables
 
@@ -107,11 +108,54 @@ class Messages(unittest.TestCase):
                          "age_component.csv, age 20, proportion_remaining: 256 is outside its limits, 0 to 150")
 
     def test_not_a_number(self) -> None:
-        self.assertEqual(self.refused("base_rates.csv", "20,0.000300000", "20,3e-4"),
-                         "base_rates.csv, age 20, base_rate: '3e-4' is not a decimal number with at most nine "
+        self.assertEqual(self.refused("base_rates.csv", "20,0.000300000", "20,3 %"),
+                         "base_rates.csv, age 20, base_rate: '3 %' is not a decimal number with at most nine "
                          "decimals, such as 0.0125")
-        self.assertIn("age 21, base_rate: '0.0003270001' is not a decimal number with at most nine",
-                      self.refused("base_rates.csv", "20,3e-4\n21,0.000327000", "20,0.0003\n21,0.0003270001"))
+        self.assertEqual(self.refused("base_rates.csv", "20,3 %\n21,0.000327000", "20,0.0003\n21,0.0003270001"),
+                         "base_rates.csv, age 21, base_rate: '0.0003270001' has more than nine decimals; --round rounds "
+                         "it to nine")
+
+    def test_as_spreadsheets_write_numbers(self) -> None:
+        path = self.folder / "base_rates.csv"
+        text = path.read_text(encoding="utf-8")
+        for written in ("3E-04", "3e-4", ".0003", "+0.0003", "0.00030000000000", "00.0003", "3.0E-4"):
+            path.write_text(text.replace("20,0.000300000", f"20,{written}", 1), encoding="utf-8")
+            self.assertEqual(basis_of(self.folder).to_file(), (SAMPLE / "basis.bin").read_bytes(), written)
+
+    def test_rounded_only_if_told(self) -> None:
+        path = self.folder / "base_rates.csv"
+        text = path.read_text(encoding="utf-8")
+        path.write_text(text.replace("20,0.000300000", "20,0.0002999995", 1).replace("21,0.000327000", "21,0.00032699949"),
+                        encoding="utf-8")
+        with self.assertRaisesRegex(TableError, "age 20, .* has more than nine decimals(.|\n)*age 21, "):
+            basis_of(self.folder)
+        tables = Tables(self.folder, is_rounded=True)
+        self.assertEqual(tables.basis().run[30:38],
+                         b"".join(number.to_bytes(4, "little") for number in (300_000, 326_999)))
+        self.assertEqual(tables.rounded, 2)
+
+    def test_every_error_in_one_go(self) -> None:
+        for file, old, new in (("base_rates.csv", "\n20,0.000300000", "\n20,x"), ("base_rates.csv", "\n21,", "\n21,7"),
+                               ("age_component.csv", "\n23,0.012000000,0.010000000,10", "\n23,0.3,0.3,99"),
+                               ("settings.csv", "base_year,2008", "base_year,1991"),
+                               ("cohort_component.csv", "\n1843,", "\n1842,")):
+            path = self.folder / file
+            path.write_text(path.read_text(encoding="utf-8").replace(old, new, 1), encoding="utf-8")
+        with self.assertRaises(TableError) as caught:
+            basis_of(self.folder)
+        places = [sentence.partition(": ")[0] for sentence in caught.exception.sentences]
+        self.assertEqual(places, [
+            "settings.csv, base_year", "base_rates.csv, age 20, base_rate", "base_rates.csv, age 21, base_rate",
+            "age_component.csv, age 23, initial_rate", "age_component.csv, age 23, long_term_rate",
+            "age_component.csv, age 23, convergence_period", "cohort_component.csv, line 3"])
+
+    def test_a_table_in_another_unit_is_not_told_cell_by_cell(self) -> None:
+        path = self.folder / "base_rates.csv"
+        path.write_text(path.read_text(encoding="utf-8").replace(",0.", ",9."), encoding="utf-8")
+        with self.assertRaises(TableError) as caught:
+            basis_of(self.folder)
+        self.assertEqual(len(caught.exception.sentences), 21)
+        self.assertRegex(caught.exception.sentences[-1], r"^and \d+ more errors in the tables of ")
 
     def test_rows(self) -> None:
         self.assertEqual(self.refused("base_rates.csv", "\n22,", "\n23,"),
@@ -127,7 +171,7 @@ class Messages(unittest.TestCase):
 
     def test_header_and_files(self) -> None:
         self.assertEqual(self.refused("base_rates.csv", "age,base_rate", "age,rate"),
-                         "base_rates.csv begins with the row age,base_rate; here it does not")
+                         "base_rates.csv begins with the row age,base_rate; here it begins with 'age,rate'")
         (self.folder / "base_rates.csv").unlink()
         with self.assertRaisesRegex(TableError, "has no base_rates.csv; a basis is made of settings.csv"):
             basis_of(self.folder)
@@ -141,8 +185,19 @@ class Messages(unittest.TestCase):
     def test_spaces_marks_and_fewer_decimals_do_not_matter(self) -> None:
         path = self.folder / "base_rates.csv"
         text = path.read_text(encoding="utf-8").replace("20,0.000300000", " 20 , 0.0003 ")
-        path.write_bytes(b"\xef\xbb\xbf" + text.replace("\n", "\r\n").encode())
-        self.assertEqual(basis_of(self.folder).to_file(), (SAMPLE / "basis.bin").read_bytes())
+        for written in (b"\xef\xbb\xbf" + text.replace("\n", "\r\n").encode(), text.replace(",", ";").encode(),
+                        ("sep=\t\n" + text.replace(",", "\t")).encode(), text.encode("utf-16"),
+                        text.replace("age,base_rate", "Age,BASE_RATE").replace("\n30,", "\n\n,\n30,").encode(),
+                        text.replace("\n", "\r").encode()):
+            path.write_bytes(written)
+            self.assertEqual(basis_of(self.folder).to_file(), (SAMPLE / "basis.bin").read_bytes())
+
+    def test_a_table_that_is_no_csv(self) -> None:
+        self.assertEqual(self.refused("base_rates.csv", "\n23,", '\n"23,'),
+                         "base_rates.csv is no CSV table: line 5, character 1: the quote that opens a cell there is not closed "
+                         "by the end of the file, or not within 131,072 characters; from there on the file is no CSV")
+        self.assertEqual(self.refused("base_rates.csv", '\n"23,0', '\n"23"x,0'),
+                         "base_rates.csv, line 5: character 5: something follows the quote that closes a cell")
 
     def test_other_refusals_are_told_by_their_sentence(self) -> None:
         self.assertEqual(explained(Refusal(4, 16), bytes(4554)),

@@ -22,11 +22,12 @@ fn check_of(block: &[u8]) -> u32
 {
     let mut sum: u32 = 0;
     let mut i: usize = 0;
+    let mut place: u32 = 1;
     while i < 127 {
         let word = little_endian::read_u32(block, 4 * i);
-        let place = (i + 1) as u32;
         sum = std::num::wrapping_add_u32(sum, wrapping_product(word, place));
         i += 1;
+        place += 1;
     }
     sum
 }

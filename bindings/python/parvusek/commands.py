@@ -1,0 +1,252 @@
+"""What each command does: value, and basis make, show and check. Each gives the exit status."""
+
+import argparse
+import contextlib
+import hashlib
+import os
+import sys
+from pathlib import Path
+from typing import BinaryIO, Iterator, NamedTuple, Optional
+
+from . import provenance
+from .basis import Basis
+from .basis_files import (ReadBasis, history_beside, histories_of, not_anothers, places_to_make, read_basis, sha256,
+                          write_basis)
+from .csv_source import EncodingError, Source
+from .decimals import decimal
+from .errors import Collected, CommandError, naming
+from .layout import ACTUAL_FILE, FILES
+from .members import Counts, value_members
+from .options import REFUSED_ROWS
+from .outputs import STANDARD, Draft, Place, apart, drafted, not_an_input, place_of, put_all
+from .progress import Progress
+from .shown_tables import show
+from .tables import Tables, actual_years
+
+
+def say(text: str) -> None:
+    print(text)
+
+
+def warn(text: str) -> None:
+    """One line on standard error, which may be closed."""
+    if sys.stderr is not None:
+        with contextlib.suppress(OSError, ValueError):
+            print(f"parvusek: {text}", file=sys.stderr, flush=True)
+
+
+# ---- value
+
+def value(options: argparse.Namespace) -> int:
+    started = provenance.now()
+    with contextlib.ExitStack() as stack:
+        prepared = _prepared(options, stack)
+        source, values, record = prepared.source, prepared.values, prepared.record
+        drafts = stack.enter_context(drafted(record, values))
+        written = _Hashed(drafts[-1])
+        try:
+            counts = value_members(prepared.read.basis, source, written.write, prepared.progress)
+        finally:
+            prepared.progress.end()
+        if record is not None:
+            drafts[0].write(provenance.record(started, prepared.read, (options.members, source.sha256),
+                                              (options.out, written.sha256), counts))
+            provenance.not_the_users(record)  # it may have come while the members were valued
+        put_all(drafts)
+    _tell(options, values, record, counts)
+    return REFUSED_ROWS if options.fail_on_refusal and counts.refused else 0
+
+
+class _Prepared(NamedTuple):
+    """What a valuation stands on: the basis, the members, and where values and record go."""
+
+    read: ReadBasis
+    source: Source
+    progress: Progress
+    values: Place
+    record: Optional[Place]
+
+
+def _prepared(options: argparse.Namespace, stack: contextlib.ExitStack) -> _Prepared:
+    """All that is wrong is told at once, before anything is opened for writing."""
+    wrong = Collected()
+    members = read = values = record = None
+    with wrong.check():
+        members = stack.enter_context(_members(options.members))
+    with wrong.check():
+        read = read_basis(options.basis, options.history, options.no_history)
+        _expected(options, read)
+    with wrong.check():
+        values = place_of(options.out)
+        not_an_input(values, _inputs(options))
+        record = provenance.record_place(values, options.record, options.no_record)
+        if record is not None:
+            not_an_input(record, _inputs(options))
+            apart(record, values)
+    wrong.end()
+    assert members is not None and read is not None and values is not None
+    raw, size = members
+    return _Prepared(read, _source(raw, options), Progress(raw if size else None, size), values, record)
+
+
+def _inputs(options: argparse.Namespace) -> list[tuple[str, Optional[str]]]:
+    histories = [options.history] if options.history is not None else histories_of(options.basis)
+    return [("file of members", options.members), ("basis file", options.basis)] + [("history", path) for path in histories]
+
+
+def _expected(options: argparse.Namespace, read: ReadBasis) -> None:
+    wrong = Collected()
+    for path, found, wanted in ((read.path, read.sha256, options.expect),
+                                (read.history_path, read.history_sha256, options.expect_history)):
+        if wanted is not None and found != wanted:
+            with wrong.check():
+                raise CommandError(f"{read.path} has no history, and one is expected" if found is None else
+                                   f"{path} has the SHA-256 {found}, and {wanted} is expected; nothing is valued")
+    wrong.end()
+
+
+@contextlib.contextmanager
+def _members(path: str) -> Iterator[tuple[BinaryIO, int]]:
+    """The members to read and their size; - is standard input, whose size is not known."""
+    if path == STANDARD:
+        if sys.stdin is None:
+            raise CommandError("standard input is closed, from which the members are read")
+        yield sys.stdin.buffer, 0
+        return
+    with naming(f"the file of members {path}"):
+        file = open(path, "rb")
+    with file:
+        yield file, os.fstat(file.fileno()).st_size
+
+
+def _source(raw: BinaryIO, options: argparse.Namespace) -> Source:
+    try:
+        return Source(raw, options.encoding, "standard input" if options.members == STANDARD
+                      else f"the file of members {options.members}")
+    except EncodingError as error:
+        raise CommandError(f"{options.members}: {error}") from error
+
+
+class _Hashed:
+    """A draft whose SHA-256 is worked out while it is written."""
+
+    def __init__(self, draft: Draft) -> None:
+        self._draft, self._hash = draft, hashlib.sha256()
+
+    def write(self, content: bytes) -> None:
+        self._hash.update(content)
+        self._draft.write(content)
+
+    @property
+    def sha256(self) -> str:
+        return self._hash.hexdigest()
+
+
+def _tell(options: argparse.Namespace, values: Place, record: Optional[Place], counts: Counts) -> None:
+    """What was done: on standard output, or on standard error where the values may have gone to standard output."""
+    tell = say if values.is_file else warn
+    without = "" if record is not None or options.no_record else "; no record is written for it"
+    tell(f"{values.spoken}: {_counted(counts)}{without}")
+    if record is not None:
+        tell(f"{record.name}: the record of this valuation")
+    if counts.wrong_bytes:
+        warn(f"refused for bytes of another encoding: {_number_of(counts.wrong_bytes, 'row')}, the first in "
+             f"{counts.first_wrong_byte}")
+    if counts.rows and not counts.valued:
+        warn("every row is refused")
+
+
+def _counted(counts: Counts) -> str:
+    by_number = ", ".join(f"{counts.refusals[number]:,} by {number}" for number in sorted(counts.refusals))
+    said = (f"{_number_of(counts.rows, 'row')}, {counts.valued:,} valued, {counts.refused:,} refused"
+            f"{f': {by_number}' if by_number else ''}")
+    said += f"; {_number_of(counts.blank, 'blank line')} passed over" if counts.blank else ""
+    said += f"; {_number_of(counts.over_several_lines, 'row')} over several lines" if counts.over_several_lines else ""
+    return said
+
+
+def _number_of(count: int, what: str) -> str:
+    return f"{count:,} {what}{'' if count == 1 else 's'}"
+
+
+# ---- basis make, show and check
+
+def make(options: argparse.Namespace) -> int:
+    tables = Tables(Path(options.folder), options.encoding, options.round)
+    basis = tables.basis()
+    place, history = _places(options, basis)
+    write_basis(basis, place, history)
+    tell = say if place.is_file else warn
+    tell(f"{place.spoken}: {_summary(basis)}")
+    if history is not None:
+        tell(f"{history.name}: {_years(basis)}")
+    if tables.rounded:
+        tell(f"{place.spoken}: rounded to nine decimals: {_number_of(tables.rounded, 'rate')}")
+    tell(f"{place.spoken}: SHA-256 {sha256(basis.to_file())}")
+    if history is not None:
+        tell(f"{history.name}: SHA-256 {sha256(basis.history)}")
+    elif place.is_file:
+        _foreign_history(options.out)
+    return 0
+
+
+def _places(options: argparse.Namespace, basis: Basis) -> tuple[Place, Optional[Place]]:
+    place, history = places_to_make(options.out, options.history, basis)
+    inputs = [(f"table {file}", os.path.join(options.folder, file)) for file in FILES + (ACTUAL_FILE,)]
+    wrong = Collected()
+    for each in (place, history):
+        if each is not None:
+            with wrong.check():
+                not_an_input(each, inputs)
+    if history is not None:
+        with wrong.check():
+            apart(history, place)
+    wrong.end()
+    not_anothers(place, history, options.force)
+    return place, history
+
+
+def _foreign_history(out: str) -> None:
+    """A history beside a basis that has none would keep it from being valued."""
+    try:
+        found = history_beside(out)
+    except CommandError as error:
+        warn(str(error))
+        return
+    if found is not None:
+        warn(f"{found} is no history of this basis, which has none; take it away, or value with --no-history")
+
+
+def show_tables(options: argparse.Namespace) -> int:
+    read = read_basis(options.basis, options.history, options.no_history)
+    show(read.basis, Path(options.folder), options.force, (("basis file", read.path), ("history", read.history_path)))
+    say(f"{options.folder}: the tables of {options.basis}, {_summary(read.basis)}")
+    _say_sums(read)
+    return 0
+
+
+def check(options: argparse.Namespace) -> int:
+    read = read_basis(options.basis, options.history, options.no_history)
+    say(f"{options.basis}: {_summary(read.basis)}")
+    _say_sums(read)
+    return 0
+
+
+def _say_sums(read: ReadBasis) -> None:
+    say(f"{read.path}: SHA-256 {read.sha256}")
+    if read.history_path is not None:
+        say(f"{read.history_path}: SHA-256 {read.history_sha256}")
+
+
+def _summary(basis: Basis) -> str:
+    history = f", {_years(basis)}" if basis.history else ""
+    return (f"accepted; F {basis.foundation_year}, B {basis.base_year}, "
+            f"addition {decimal(basis.constant_addition)}, discount {decimal(basis.discount_rate)}{history}")
+
+
+def _years(basis: Basis) -> str:
+    years = actual_years(basis)
+    return f"history of {years[0]} to {years[-1]}"
+
+
+COMMANDS = {"value": value, "make": make, "show": show_tables, "check": check}

@@ -1,0 +1,160 @@
+"""The command line: its commands, their options, and what the help says of them."""
+
+import argparse
+import re
+from typing import Any, Callable, Mapping
+
+from . import __version__
+
+REFUSED_ROWS = 3
+
+STATUSES = """exit status:
+  0      done; a refused row is no error
+  1      an error, which is said on standard error; no output has taken its place, unless the error is
+         that the summary itself cannot be written
+  2      a wrong command line
+  3      done, with --fail-on-refusal and at least one refused row
+  128+n  stopped by signal n, such as 130 by Ctrl-C and 143 by SIGTERM; no output has taken its place.
+         141: the reader of standard output has gone"""
+
+_DESCRIPTION = """Values pension members and makes bases, by the proved engine.
+
+  parvusek basis make TABLES basis.bin
+  parvusek value members.csv basis.bin values.csv
+"""
+
+_HISTORY = """The history of m.bin is m.history.bin beside it, if it is there and no other is named; history.bin is
+taken beside a file called basis.bin only."""
+
+_VALUE = f"""Values each member of a CSV against a basis file.
+
+MEMBERS.csv has a header row with the columns age, deferment and year, in any order and case and beside
+any others. OUT.csv has the same rows as they stand and in the same order, with eight more columns:
+
+  period_expectation, cohort_expectation, period_annuity, cohort_annuity
+      the four results with nine decimals, or nothing where the row is refused
+  refusal, first, second, message
+      the refusal's number, its two places and what it says, or nothing where the row is answered
+
+A row that is not of the form is refused as 12 with its line; the other refusals are the engine's.
+Cells beyond the header stand behind the added columns of their row, which is refused. Blank lines are
+passed over and counted. The summary counts refusals by number.
+
+The separator is a comma, a semicolon or a tab, or what a first line such as sep=; says. The text is
+UTF-8, or what its byte order mark or --encoding says. OUT.csv has the mark, the encoding, the separator
+and the line ends of MEMBERS.csv.
+
+OUT.csv is there only once it is whole, and keeps the mode and the owner of the file that it replaces. A
+pipe, a device or standard output is written to directly. No output may be one of the inputs.
+
+Beside OUT.csv stands its record, OUT.csv.json: the version, the time, the SHA-256 of the basis, the
+history, the members and the values, and the counts. There is none where OUT.csv is no regular file and
+--record names none. A file of that name that is no such record is never replaced.
+
+{_HISTORY} A basis whose base year is before its foundation year is
+valued with its history. One that does not belong to the basis is an error."""
+
+_MAKE = """Makes a basis file, and its history file, from a folder of CSV tables; the engine checks both.
+
+  settings.csv           setting,value with the rows foundation_year, base_year, constant_addition,
+                         discount_rate
+  base_rates.csv         age,base_rate for the ages 20 to 150
+  age_component.csv      age,initial_rate,long_term_rate,convergence_period,proportion_remaining
+  cohort_component.csv   birth_year and the same columns, for the birth years 1842 to 2110
+  actual_improvements.csv
+                         only where the base year is before the foundation year: age,year,improvement
+                         for the ages 20 to 150 in each year from the one after the base year to the
+                         foundation year, ages ascending within years ascending
+
+Rates are decimal numbers with at most nine decimals (0.0125 or 1.25E-2 is 1.25 per cent), convergence
+periods whole years of 1 to 50, proportions remaining at mid-point whole per cent of 0 to 150. The
+discount rate is -0.01 to 0.2, an actual improvement -0.5 to 0.5. All that is wrong is told in one go.
+
+The actual improvements go into the history file: m.history.bin with m.bin, history.bin with basis.bin,
+or what --history names. A history that may be another basis's is not written over. A basis whose base
+year is not before its foundation year has none, and no history file is written."""
+
+_SHOW = f"""Writes the tables of a basis file and its history into a folder, in the form that 'basis make' reads.
+
+Making the basis again from the folder gives the same files, byte for byte.
+{_HISTORY}"""
+
+_CHECK = f"""Says whether the engine accepts a basis file, with its history, and what their SHA-256 are.
+
+{_HISTORY}"""
+
+
+def parser(commands: Mapping[str, Callable[[argparse.Namespace], int]]) -> argparse.ArgumentParser:
+    """The parser; each command sets the function of its name."""
+    top = argparse.ArgumentParser(prog="parvusek", description=_DESCRIPTION, epilog=STATUSES,
+                                  formatter_class=argparse.RawDescriptionHelpFormatter)
+    top.add_argument("--version", action="version", version=f"parvusek {__version__}")
+    choices = top.add_subparsers(required=True, metavar="COMMAND")
+    _value(choices).set_defaults(command=commands["value"])
+    parts = _add(choices, "basis", "Makes, shows and checks basis files.").add_subparsers(required=True, metavar="COMMAND")
+    _make(parts).set_defaults(command=commands["make"])
+    _show(parts).set_defaults(command=commands["show"])
+    check = _add(parts, "check", _CHECK, ("BASIS.bin", "the basis file"))
+    _add_history(check)
+    check.set_defaults(command=commands["check"])
+    return top
+
+
+def _add(commands: Any, name: str, text: str, *paths: tuple[str, str]) -> argparse.ArgumentParser:
+    added: argparse.ArgumentParser = commands.add_parser(
+        name, help=text.splitlines()[0], description=text, epilog=STATUSES,
+        formatter_class=argparse.RawDescriptionHelpFormatter)
+    for path, help_text in paths:
+        added.add_argument(path.partition(".")[0].lower(), metavar=path, help=help_text)
+    return added
+
+
+def _add_history(added: argparse.ArgumentParser) -> None:
+    """For a command that is lent the history of a basis."""
+    history = added.add_mutually_exclusive_group()
+    history.add_argument("--history", metavar="FILE", help="the history file, instead of the one beside BASIS.bin")
+    history.add_argument("--no-history", action="store_true", help="lend no history, also where one is there")
+
+
+def _add_encoding(added: argparse.ArgumentParser, what: str) -> None:
+    added.add_argument("--encoding", metavar="NAME",
+                       help=f"the encoding of {what}, such as cp1252; otherwise UTF-8, or what a byte order mark says")
+
+
+def _value(commands: Any) -> argparse.ArgumentParser:
+    added = _add(commands, "value", _VALUE, ("MEMBERS.csv", "the members; - reads standard input"),
+                 ("BASIS.bin", "the basis file"), ("OUT.csv", "the values; - writes standard output"))
+    _add_history(added)
+    _add_encoding(added, "MEMBERS.csv and OUT.csv")
+    added.add_argument("--expect", metavar="SHA256", type=_sha256, help="value only with the basis file that has this SHA-256")
+    added.add_argument("--expect-history", metavar="SHA256", type=_sha256, help="and with the history that has this one")
+    added.add_argument("--fail-on-refusal", action="store_true",
+                       help=f"end with status {REFUSED_ROWS} if a row is refused; OUT.csv is written all the same")
+    record = added.add_mutually_exclusive_group()
+    record.add_argument("--record", metavar="FILE", help="where the record goes, instead of OUT.csv.json")
+    record.add_argument("--no-record", action="store_true", help="write no record")
+    return added
+
+
+def _make(commands: Any) -> argparse.ArgumentParser:
+    added = _add(commands, "make", _MAKE, ("FOLDER", "the folder of the tables"), ("OUT.bin", "the basis file to write"))
+    added.add_argument("--history", metavar="FILE", help="the history file to write, if the basis has one")
+    added.add_argument("--force", action="store_true",
+                       help="write over a file that --history names, unless it is named as another basis's history")
+    added.add_argument("--round", action="store_true",
+                       help="round rates with more than nine decimals to the nearest unit, ties up, and say how many")
+    _add_encoding(added, "the tables")
+    return added
+
+
+def _show(commands: Any) -> argparse.ArgumentParser:
+    added = _add(commands, "show", _SHOW, ("BASIS.bin", "the basis file"), ("FOLDER", "the folder to write, made if need be"))
+    _add_history(added)
+    added.add_argument("--force", action="store_true", help="write over tables that are there")
+    return added
+
+
+def _sha256(text: str) -> str:
+    if not re.fullmatch(r"[0-9a-fA-F]{64}", text):
+        raise argparse.ArgumentTypeError(f"{text!r} is no SHA-256, which has 64 hexadecimal digits")
+    return text.lower()
