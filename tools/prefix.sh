@@ -60,7 +60,7 @@ take_out() { # kind, sum or target, path
     file) [ -f "$at" ] && [ ! -L "$at" ] && [ "$(sum_of "$at")" = "$2" ] ;;
     link) [ -L "$at" ] && [ "$(readlink "$at")" = "$2" ] ;;
   esac || return 1
-  rm "$at"
+  rm "$at" || fail "$at cannot be taken out"
   # What Python has made of a module is nobody's.
   case $3 in
     *.py) rm -f "${at%/*}/__pycache__/$(basename "$at" .py)".*.pyc; rmdir "${at%/*}/__pycache__" 2> /dev/null || true ;;
