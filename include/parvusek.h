@@ -5,17 +5,17 @@
    Units: 1,000,000,000 to one.
 
    A basis comes as a file; parvusek_read_basis makes of it, once, the data run that every other call is lent. Every
-   call checks its data run afresh (1, 4, 5), so nothing hangs on where the host keeps it.
+   call checks its data run afresh (1, 4, 5), so nothing depends on where the host keeps it.
 
    A basis whose base year B is before its foundation year F needs a history: a second file, lent as it is, with the
    actual improvements of each year from B + 1 to F. It has 1,024 bytes for each of these years, two blocks of the basis
    file's kind, numbered from 0: ages 20 to 85, then 86 to 150, signed 4 bytes each, -500,000,000 to 500,000,000 units,
    the remaining data bytes zero. With B at F or later none is needed: its length is then 0, with any pointer.
-   Every call but the first four is lent the history directly after its data run, and checks it afresh after the run's
-   own 1, 4, 5: 13 (any other length: the length needed), blocks ascending 2 (check) before 3 (number), then 4 (a byte
-   that must be zero), then 5 (an improvement beyond its limits). Offsets are counted in its joined data, of which block
-   i has the 506 bytes from 506 x i on. A refused history counts as a refused basis: what is refused "by the basis"
-   below is so by 1, 4, 5 of the data run, then by 13, 2, 3, 4, 5 of the history.
+   Every call but parvusek_version and the four that follow it is lent the history directly after its data run, and
+   checks it afresh after the run's own 1, 4, 5: 13 (any other length: the length needed), blocks ascending 2 (check)
+   before 3 (number), then 4 (a byte that must be zero), then 5 (an improvement beyond its limits). Offsets are counted
+   in its joined data, of which block i has the 506 bytes from 506 x i on. A refused history counts as a refused basis:
+   what is refused "by the basis" below is so by 1, 4, 5 of the data run, then by 13, 2, 3, 4, 5 of the history.
 
    A refusal is a number and two places; the first in the order below decides. Nothing in it says whether a 4 or 5 is
    the data run's or the history's: it is the history's if parvusek_check_basis accepts the run. docs/REFUSALS.md has
@@ -30,6 +30,7 @@
 extern "C" {
 #endif
 
+#define PARVUSEK_VERSION 400u        /* of this header, 0.4.0: 10,000 x major + 100 x minor + patch */
 #define PARVUSEK_UNIT 1000000000u    /* U, units to one */
 #define PARVUSEK_FILE_LENGTH 4608u   /* bytes of a basis file */
 #define PARVUSEK_RUN_LENGTH 4554u    /* bytes of a data run */
@@ -50,6 +51,11 @@ typedef struct { parvusek_refusal_t refusal; parvusek_point_answer_t points[6]; 
 typedef struct { uint32_t age, deferment, year, refusal; uint64_t results[4]; uint64_t first, second; } parvusek_point_t;
 /* where a lifeline stands after a start or a step, and whether it has ended (1) */
 typedef struct { parvusek_refusal_t refusal; uint64_t survivors; uint32_t age, year, ended; } parvusek_lifeline_t;
+
+/* The version of the archive or shared library that is linked, as PARVUSEK_VERSION writes it. A minor version may change
+   what a function takes or answers, a patch does neither: where parvusek_version() / 100 is not PARVUSEK_VERSION / 100,
+   call no other function. */
+uint32_t parvusek_version(void);
 
 /* ---- the data run: a file of 4,608 bytes, a run of 4,554. No history is lent here, and none is missed */
 

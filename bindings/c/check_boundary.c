@@ -89,7 +89,11 @@ void sample_beyond(uint8_t *run) {
     memset(run + 1733, 150, 131);
 }
 
-/* ---- layouts */
+/* ---- version and layouts */
+
+static void check_version(void) {
+    HOLDS(parvusek_version() == PARVUSEK_VERSION);
+}
 
 static void check_layouts(void) {
     HOLDS(sizeof(parvusek_refusal_t) == 24);
@@ -319,6 +323,7 @@ static void check_values(void) {
 }
 
 int main(void) {
+    check_version();
     check_layouts();
     check_runs();
     check_files();

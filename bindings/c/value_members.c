@@ -4,7 +4,8 @@
 
    MEMBERS.csv has the header row member,age,deferment,year; without it the three members below are valued. HISTORY.bin
    is needed where the base year of the basis is before its foundation year.
-   Exit status: 0 done (refused members are part of the table), 1 the basis is refused or a file cannot be used, 2 usage. */
+   Exit status: 0 done (refused members are part of the table), 1 the basis is refused, a file cannot be used or the
+   library is another, 2 usage. */
 #include <errno.h>
 #include <stdio.h>
 #include <string.h>
@@ -172,6 +173,12 @@ int main(int count, char **words) {
     if (count < 2 || count > 4) {
         fprintf(stderr, "usage: value_members BASIS.bin [MEMBERS.csv [HISTORY.bin]]\n");
         return 2;
+    }
+    /* A minor version may change answers, so none is given by a library of another. */
+    if (parvusek_version() / 100 != PARVUSEK_VERSION / 100) {
+        fprintf(stderr, "value_members: compiled for version %u, linked with %" PRIu32 "\n", PARVUSEK_VERSION,
+                parvusek_version());
+        return 1;
     }
     if (read_run(words[1], &basis) != 0 || read_history(count == 4 ? words[3] : NULL, &basis) != 0) {
         return 1;

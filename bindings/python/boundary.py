@@ -110,6 +110,7 @@ class Engine:
 
     def __init__(self, path):
         library = ctypes.CDLL(path)
+        self.version = self.declared(library, "version", c_uint32, [])
         lent = [ctypes.c_char_p, c_size_t]
         for name, (gives, takes) in OF_A_RUN.items():
             f = self.declared(library, name, gives, lent + takes)

@@ -7,11 +7,19 @@ Prints one line, and each check that failed.
 import struct
 import sys
 from ctypes import sizeof
+from pathlib import Path
 
 import boundary
 from boundary import (FILE, FURTHER, GRID, KEPT, LAYOUTS, RUN, UNIT, Engine, Point, Question, Questions, answers_of_grid,
                       asked_of_grid, beyond, file_of, lent, places, same, sample, stand, worsening)
 from check_histories import check_histories
+
+
+def check_version(e):
+    """The library tells the version of bindings/VERSION: 10,000 for a major, 100 for a minor version, 1 for a patch."""
+    with open(Path(__file__).parents[1] / "VERSION", encoding="ascii") as file:
+        major, minor, patch = map(int, file.read().split("."))
+    same("the version", e.version(), 10_000 * major + 100 * minor + patch)
 
 
 def check_layouts():
@@ -243,6 +251,7 @@ def check_lifelines(e):
 
 def main():
     engine = Engine(sys.argv[1])
+    check_version(engine)
     check_layouts()
     check_bases(engine)
     check_enquiries(engine)

@@ -11,13 +11,12 @@ line, `python3 -m parvusek --help`, values a CSV of members and makes a basis fr
 """
 
 from ._library import LibraryNotFound
+from ._version import __version__
 from .basis import (FILE_LENGTH, RUN_LENGTH, Answer, Basis, Kind, Lifeline, Question, Results,
                     Standing)
 from .history import history_file, improvements_of
 from .refusals import Refusal
 from .decimals import UNIT, decimal, units
-
-__version__ = "0.3.0"
 
 __all__ = [
     "Answer", "Basis", "FILE_LENGTH", "Kind", "LibraryNotFound", "Lifeline", "Question", "RUN_LENGTH",

@@ -1,18 +1,19 @@
 """The shared library, found and loaded once, with the functions and structures of include/parvusek.h."""
 
 import ctypes
-import ctypes.util
 import functools
 import os
 from pathlib import Path
 from typing import Any, Iterator
+
+from ._version import __version__
 
 SMALL_SET_POINTS = 6
 GRID_RECORDS = 119
 
 
 class LibraryNotFound(OSError):
-    """There is no libparvusek.so in any of the places where it is looked for."""
+    """There is no libparvusek.so of this version in the places where it is looked for."""
 
 
 # ---- the structures of the header
@@ -56,19 +57,21 @@ class CLifeline(ctypes.Structure):
                 ("year", ctypes.c_uint32), ("ended", ctypes.c_uint32)]
 
 
-# ---- its functions: what each takes after the run and its length, and what it hands back
+# ---- its functions: what each takes, and what it hands back
 
 _BYTES: list[Any] = [ctypes.c_char_p, ctypes.c_size_t]
 
-# The history and its length come next, in every call that answers of a basis.
-_CELL = _BYTES + [ctypes.c_uint32] * 2
-_VALUE = _BYTES + [ctypes.c_uint32] * 3
+# A data run and a history, each with its length, in every call that answers of a basis.
+_BASIS = _BYTES + _BYTES
+_CELL = _BASIS + [ctypes.c_uint32] * 2
+_VALUE = _BASIS + [ctypes.c_uint32] * 3
 
 FUNCTIONS: dict[str, tuple[list[Any], Any]] = {
-    "parvusek_check_basis": ([], CRefusal),
-    "parvusek_read_basis": (_BYTES, CRefusal),
-    "parvusek_write_basis": (_BYTES, CRefusal),
-    "parvusek_short_form": ([ctypes.c_int32] + _BYTES, CRefusal),
+    "parvusek_version": ([], ctypes.c_uint32),
+    "parvusek_check_basis": (_BYTES, CRefusal),
+    "parvusek_read_basis": (_BYTES + _BYTES, CRefusal),
+    "parvusek_write_basis": (_BYTES + _BYTES, CRefusal),
+    "parvusek_short_form": (_BYTES + [ctypes.c_int32] + _BYTES, CRefusal),
     "parvusek_improvement": (_CELL, CSignedAnswer),
     "parvusek_factor": (_CELL, CAnswer),
     "parvusek_rate": (_CELL, CAnswer),
@@ -78,8 +81,8 @@ FUNCTIONS: dict[str, tuple[list[Any], Any]] = {
     "parvusek_cohort_expectation": (_VALUE, CAnswer),
     "parvusek_period_annuity": (_VALUE, CAnswer),
     "parvusek_cohort_annuity": (_VALUE, CAnswer),
-    "parvusek_small_set": (_BYTES + [CQuestions], CSmallSet),
-    "parvusek_grid": (_BYTES + [ctypes.POINTER(CPoint), ctypes.c_size_t], CRefusal),
+    "parvusek_small_set": (_BASIS + [CQuestions], CSmallSet),
+    "parvusek_grid": (_BASIS + [ctypes.POINTER(CPoint), ctypes.c_size_t], CRefusal),
     "parvusek_lifeline_start": (_CELL, CLifeline),
     "parvusek_lifeline_step": (_CELL + [ctypes.c_uint64], CLifeline),
 }
@@ -87,45 +90,83 @@ FUNCTIONS: dict[str, tuple[list[Any], Any]] = {
 
 # ---- where it is
 
-def places() -> Iterator[Path]:
-    """Where the library is looked for, in order.
+FILE_NAME = "libparvusek.so"
 
-    The environment's PARVUSEK_LIB, a file or a folder, is the only place where it is set. Otherwise
-    the folders above this module: `lib` where it was installed, `target/bindings` in the repository.
+# The name under which the system's loader knows the library of this minor version.
+LOADER_NAME = f"{FILE_NAME}.{__version__.rpartition('.')[0]}"
+
+
+def places() -> Iterator[Path]:
+    """The files that may be the library, in order.
+
+    Where the environment's PARVUSEK_LIB is set, a file or a folder, that is the only one. Otherwise there is one for
+    each way in which this module comes to a machine, and no other folder is looked into.
     """
     named = os.environ.get("PARVUSEK_LIB")
     if named:
-        yield Path(named, "libparvusek.so") if Path(named).is_dir() else Path(named)
+        yield Path(named, FILE_NAME) if Path(named).is_dir() else Path(named)
         return
-    for folder in Path(__file__).resolve().parents:
-        yield folder / "lib" / "libparvusek.so"
-        yield folder / "target" / "bindings" / "libparvusek.so"
+    here = Path(__file__).resolve().parent
+    yield here / FILE_NAME  # a wheel
+    if here.parts[-4:] == ("share", "parvusek", "python", "parvusek"):  # ./install
+        yield here.parents[3] / "lib" / FILE_NAME
+    if here.parts[-3:] == ("bindings", "python", "parvusek"):  # the repository
+        yield here.parents[2] / "target" / "bindings" / FILE_NAME
 
 
-def find() -> str:
-    """The path of the library, or the name by which the system's loader knows it."""
+def _opened() -> tuple[str, ctypes.CDLL]:
+    """The library and its path, or the name by which the system's loader has found it."""
     for place in places():
         if place.is_file():
-            return str(place)
-    known = None if os.environ.get("PARVUSEK_LIB") else ctypes.util.find_library("parvusek")
-    if known is None:
-        raise LibraryNotFound(
-            "libparvusek.so is not there. Set PARVUSEK_LIB to it or to its folder, install it with "
-            "'./install PREFIX', or make it with 'bindings/build'. Looked for: "
-            + ", ".join(str(place) for place in places()))
-    return known
+            return str(place), ctypes.CDLL(str(place))
+    if not os.environ.get("PARVUSEK_LIB"):
+        try:
+            return LOADER_NAME, ctypes.CDLL(LOADER_NAME)
+        except OSError:
+            pass  # what is said below names all the places
+    raise LibraryNotFound(
+        f"{FILE_NAME} is not there. Set PARVUSEK_LIB to it or to its folder, install it with './install PREFIX', or "
+        f"make it with 'bindings/build'. Looked for: {', '.join(map(str, places()))}"
+        + ("" if os.environ.get("PARVUSEK_LIB") else f", and {LOADER_NAME} where the system's loader looks"))
+
+
+# ---- whether it is the right one
+
+def version_text(number: int) -> str:
+    """The version that parvusek_version tells as one number.
+
+    >>> version_text(400), version_text(1_02_03)
+    ('0.4.0', '1.2.3')
+    """
+    return f"{number // 10_000}.{number // 100 % 100}.{number % 100}"
+
+
+def _check_version(path: str, loaded: ctypes.CDLL) -> None:
+    """Refuses a library of another minor version, which may take or answer something else; a patch does neither."""
+    remedy = "install both from one version, or set PARVUSEK_LIB to the library that belongs to the module"
+    if not hasattr(loaded, "parvusek_version"):
+        raise LibraryNotFound(f"{path} is older than this module, which is {__version__}: it does not tell its "
+                              f"version; {remedy}")
+    found = version_text(loaded.parvusek_version())
+    if found.rpartition(".")[0] != __version__.rpartition(".")[0]:
+        raise LibraryNotFound(f"{path} is version {found} and this module {__version__}, and a minor version may "
+                              f"change answers; {remedy}")
 
 
 @functools.cache
 def library() -> ctypes.CDLL:
-    """The library, loaded at the first call. Calls let other threads run meanwhile."""
-    path = find()
+    """The library, loaded and its version checked at the first call. Calls let other threads run meanwhile."""
     try:
-        loaded = ctypes.CDLL(path)
-        for name, (arguments, result) in FUNCTIONS.items():
-            function = getattr(loaded, name)
-            function.argtypes = _BYTES + arguments
-            function.restype = result
-    except (OSError, AttributeError) as error:
-        raise LibraryNotFound(f"{path} is no library of this version: {error}") from error
+        path, loaded = _opened()
+    except LibraryNotFound:
+        raise
+    except OSError as error:
+        raise LibraryNotFound(f"{FILE_NAME} cannot be loaded: {error}") from error
+    _check_version(path, loaded)
+    for name, (arguments, result) in FUNCTIONS.items():
+        function = getattr(loaded, name, None)
+        if function is None:
+            raise LibraryNotFound(f"{path} has no function {name}, and so is no library of parvusek {__version__}")
+        function.argtypes = arguments
+        function.restype = result
     return loaded

@@ -2,14 +2,18 @@
 
 import ctypes
 import enum
+import operator
 import os
 from pathlib import Path
-from typing import Any, Iterable, NamedTuple, Optional, Sequence, Union
+from typing import TYPE_CHECKING, Any, Iterable, NamedTuple, Optional, Sequence, SupportsIndex, Union
 
 from ._library import (GRID_RECORDS, SMALL_SET_POINTS, CPoint, CQuestion, CQuestions, CRefusal,
                        library)
 from .history import YEAR_LENGTH
 from .refusals import Refusal
+
+if TYPE_CHECKING:
+    from .arrays import Values
 
 RUN_LENGTH = 4_554
 FILE_LENGTH = 4_608
@@ -72,7 +76,7 @@ class Basis:
         """
         self._run = bytes(run)
         self._history = b"" if history is None else bytes(history)
-        _accepted(library().parvusek_check_basis(self._run, len(self._run)))
+        accepted(library().parvusek_check_basis(self._run, len(self._run)))
         if history is not None:
             # The start of a lifeline at age 20 in B is refused by the basis alone, and uses no rate.
             Lifeline(self, 20, self.base_year)
@@ -81,7 +85,7 @@ class Basis:
     def from_file(cls, file: bytes, history: Optional[bytes] = None) -> "Basis":
         """The basis of the 4,608 bytes of a basis file, refused by 1 to 5, and of its history file."""
         run = ctypes.create_string_buffer(RUN_LENGTH)
-        _accepted(library().parvusek_read_basis(bytes(file), len(file), run, RUN_LENGTH))
+        accepted(library().parvusek_read_basis(bytes(file), len(file), run, RUN_LENGTH))
         return cls(run.raw, history)
 
     @classmethod
@@ -115,7 +119,7 @@ class Basis:
     def to_file(self) -> bytes:
         """The 4,608 bytes of the basis file; reading them gives this basis again."""
         file = ctypes.create_string_buffer(FILE_LENGTH)
-        _accepted(library().parvusek_write_basis(self._run, RUN_LENGTH, file, FILE_LENGTH))
+        accepted(library().parvusek_write_basis(self._run, RUN_LENGTH, file, FILE_LENGTH))
         return file.raw
 
     def write(self, path: _Path) -> None:
@@ -128,8 +132,8 @@ class Basis:
         Its history stays.
         """
         run = ctypes.create_string_buffer(RUN_LENGTH)
-        rate = _fits("long_term_rate", long_term_rate, -2**31, 2**31 - 1)
-        _accepted(library().parvusek_short_form(self._run, RUN_LENGTH, rate, run, RUN_LENGTH))
+        rate = fits("long_term_rate", long_term_rate, -2**31, 2**31 - 1)
+        accepted(library().parvusek_short_form(self._run, RUN_LENGTH, rate, run, RUN_LENGTH))
         return Basis(run.raw, self._history or None)
 
     def __eq__(self, other: object) -> bool:
@@ -196,9 +200,9 @@ class Basis:
         return self._answer(f"{kind.value}_annuity", age=age, deferment=deferment, year=year)
 
     def _answer(self, enquiry: str, **numbers: int) -> int:
-        asked = [_fits(name, number) for name, number in numbers.items()]
+        asked = [fits(name, number) for name, number in numbers.items()]
         answer = self._ask(enquiry, *asked)
-        _accepted(answer.refusal)
+        accepted(answer.refusal)
         return int(answer.value)
 
     def _ask(self, call: str, *arguments: Any) -> Any:
@@ -214,13 +218,13 @@ class Basis:
             raise ValueError(f"the small set has six questions, not {len(questions)}")
         asked = CQuestions((CQuestion * SMALL_SET_POINTS)(*map(_asked, questions)))
         answers = self._ask("small_set", asked)
-        _accepted(answers.refusal)
+        accepted(answers.refusal)
         return [_refused(point.refusal) or Results(*point.results) for point in answers.points]
 
     def grid(self, questions: Sequence[Question]) -> list[Answer]:
         """The answers to the first 119 questions; fewer are refused by 11."""
         records = (CPoint * len(questions))(*map(_asked, questions))
-        _accepted(self._ask("grid", records, len(questions)))
+        accepted(self._ask("grid", records, len(questions)))
         return [Refusal(record.refusal, record.first, record.second) if record.refusal
                 else Results(*record.results) for record in records[:GRID_RECORDS]]
 
@@ -233,6 +237,19 @@ class Basis:
             # Records of age 0 fill the grid up: they are refused at once and cost nothing.
             answers += self.grid(part + [Question(0, 0, 0)] * (GRID_RECORDS - len(part)))[:len(part)]
         return answers
+
+    def value_arrays(self, age: Any, deferment: Any, year: Any) -> "Values":
+        """The answers to arrays of ages, deferments and years, as arrays of whole units; it needs numpy.
+
+        One number stands for as many as the others have. See `parvusek.arrays`.
+        """
+        from .arrays import value_arrays
+        return value_arrays(self, age, deferment, year)
+
+    def value_frame(self, frame: Any, age: str = "age", deferment: str = "deferment", year: str = "year") -> Any:
+        """The rows of a DataFrame, with columns for the answers; it needs pandas. See `parvusek.arrays`."""
+        from .arrays import value_frame
+        return value_frame(self, frame, age, deferment, year)
 
     def lifeline(self, age: int, year: int) -> "Lifeline":
         """A life from this age and year on, to be followed year by year."""
@@ -250,8 +267,8 @@ class Lifeline:
 
     def __init__(self, basis: Basis, age: int, year: int) -> None:
         self._basis = basis
-        start = basis._ask("lifeline_start", _fits("age", age), _fits("year", year))
-        _accepted(start.refusal)
+        start = basis._ask("lifeline_start", fits("age", age), fits("year", year))
+        accepted(start.refusal)
         self._standing = Standing(start.age, start.year, start.survivors)
 
     @property
@@ -262,7 +279,7 @@ class Lifeline:
     def step(self) -> bool:
         """One year on. False, with nothing changed, where the life has ended at age 150."""
         step = self._basis._ask("lifeline_step", *self._standing)
-        _accepted(step.refusal)
+        accepted(step.refusal)
         self._standing = Standing(step.age, step.year, step.survivors)
         return not step.ended
 
@@ -285,20 +302,28 @@ def _refused(refusal: CRefusal) -> Union[Refusal, None]:
     return Refusal(refusal.number, refusal.first, refusal.second) if refusal.number else None
 
 
-def _accepted(refusal: CRefusal) -> None:
+def accepted(refusal: CRefusal) -> None:
     refused = _refused(refusal)
     if refused is not None:
         raise refused
 
 
-def _fits(name: str, number: int, least: int = 0, greatest: int = 2**32 - 1) -> int:
-    """The number itself. ctypes would cut a longer one short and ask about another age."""
-    if not isinstance(number, int) or isinstance(number, bool):
+def fits(name: str, number: SupportsIndex, least: int = 0, greatest: int = 2**32 - 1) -> int:
+    """The number, of Python's type of whole numbers or of any other, such as numpy's.
+
+    ctypes would cut a longer one short and ask about another age.
+    """
+    is_truth_value = isinstance(number, bool) or getattr(getattr(number, "dtype", None), "kind", None) == "b"
+    try:
+        whole = None if is_truth_value else operator.index(number)
+    except TypeError:
+        whole = None
+    if whole is None:
         raise TypeError(f"{name} is a whole number, not {number!r}")
-    if not least <= number <= greatest:
-        raise ValueError(f"{name} {number} is not within {least} to {greatest}")
-    return number
+    if not least <= whole <= greatest:
+        raise ValueError(f"{name} {whole} is not within {least} to {greatest}")
+    return whole
 
 
 def _asked(question: Question) -> tuple[int, ...]:
-    return tuple(map(_fits, Question._fields, question))
+    return tuple(map(fits, Question._fields, question))

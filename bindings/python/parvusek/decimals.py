@@ -1,5 +1,6 @@
 """Units: whole numbers, 1,000,000,000 of them to one, and their exact decimal notation."""
 
+import operator
 import re
 from decimal import Decimal
 
@@ -20,6 +21,7 @@ def decimal(units: int) -> str:
     >>> decimal(2_210_000_000), decimal(-1)
     ('2.210000000', '-0.000000001')
     """
+    units = operator.index(units)
     whole, part = divmod(abs(units), UNIT)
     return f"{'-' if units < 0 else ''}{whole}.{part:09d}"
 

@@ -1,5 +1,6 @@
 """A history file: the actual improvements of the years B + 1 to F, each year in two blocks of the basis kind."""
 
+import operator
 from typing import Sequence
 
 from .layout import AGES, FIRST_AGE
@@ -69,7 +70,7 @@ def _place(entry: int) -> int:
 
 def _written(improvement: int) -> bytes:
     try:
-        return improvement.to_bytes(4, "little", signed=True)
+        return operator.index(improvement).to_bytes(4, "little", signed=True)
     except OverflowError as error:
         raise ValueError(f"{improvement} units do not fit four bytes") from error
 

@@ -7,6 +7,7 @@ use std::io::{self, Read};
 use std::path::Path;
 
 use crate::ffi;
+use crate::version::check_linked_version;
 use crate::Refusal;
 
 /// Bytes of a data run.
@@ -52,6 +53,7 @@ impl Basis {
     /// assert_eq!((refusal.number, refusal.first, refusal.second), (1, 0, 0));
     /// ```
     pub fn from_run(run: &[u8]) -> Result<Basis, Refusal> {
+        check_linked_version();
         // SAFETY: the pointer and the length are those of a slice.
         unsafe { ffi::parvusek_check_basis(run.as_ptr(), run.len()) }.unless_none()?;
         let run = Box::new(run.try_into().expect("an accepted data run has 4,554 bytes"));
@@ -68,6 +70,7 @@ impl Basis {
     /// # Ok::<(), std::io::Error>(())
     /// ```
     pub fn from_file(file: &[u8]) -> Result<Basis, Refusal> {
+        check_linked_version();
         let mut run = Box::new([0; RUN_LENGTH]);
         // SAFETY: the pointers and lengths are those of two slices, which do not overlap.
         unsafe { ffi::parvusek_read_basis(file.as_ptr(), file.len(), run.as_mut_ptr(), run.len()) }.unless_none()?;

@@ -47,6 +47,7 @@ pub type Cell = unsafe extern "C" fn(*const u8, usize, *const u8, usize, u32, u3
 pub type Value = unsafe extern "C" fn(*const u8, usize, *const u8, usize, u32, u32, u32) -> Answer;
 
 extern "C" {
+    pub fn parvusek_version() -> u32;
     pub fn parvusek_check_basis(run: *const u8, run_len: usize) -> Refusal;
     pub fn parvusek_read_basis(file: *const u8, file_len: usize, run: *mut u8, run_len: usize) -> Refusal;
     pub fn parvusek_write_basis(run: *const u8, run_len: usize, file: *mut u8, file_len: usize) -> Refusal;

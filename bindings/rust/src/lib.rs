@@ -17,7 +17,8 @@
 //! year is before its foundation year is opened with its history, [`Basis::open_with_history`].
 //!
 //! The archive is linked from the folder that `PARVUSEK_LIB_DIR` names when this crate is built, or else from the
-//! repository's `target/staticlib`.
+//! repository's `target/staticlib`. An archive of another minor version may answer otherwise: where [`linked_version`]
+//! differs from [`VERSION`] in more than the patch, making a [`Basis`] panics and says so.
 
 mod basis;
 mod enquiries;
@@ -26,12 +27,14 @@ mod lifeline;
 mod points;
 mod refusal;
 mod units;
+mod version;
 
 pub use basis::{Basis, OpenError, FILE_LENGTH, HISTORY_YEAR, RUN_LENGTH};
 pub use lifeline::{Lifeline, Standing};
 pub use points::{Question, Record, Results, GRID, SMALL_SET};
 pub use refusal::Refusal;
 pub use units::{decimal, Decimal, UNIT};
+pub use version::{linked_version, Version, VERSION};
 
 /// Whose rates a life meets.
 #[derive(Clone, Copy, Debug, PartialEq, Eq, Hash)]

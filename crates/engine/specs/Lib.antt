@@ -1,2 +1,3 @@
 pub mod Enquiry
 pub mod Lifelines
+pub mod Version

@@ -6,6 +6,7 @@ pub mod files;
 pub mod lifelines;
 pub mod points;
 pub mod values;
+pub mod version;
 
 use basis::Refusal;
 
