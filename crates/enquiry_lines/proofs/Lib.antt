@@ -2,3 +2,4 @@ mod Parting
 pub mod State
 pub mod Opened
 mod SoFar
+mod Printed

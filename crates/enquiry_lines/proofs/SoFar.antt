@@ -4,15 +4,16 @@ use mathlib.Core.Path.{_≡_, refl, ap, sym, _∙_}
 use mathlib.Core.List.{List, [], _∷_, _++_}
 use native.Mathlib.Omega.{arith}
 use native.Mathlib.Numerals.{add-one}
-use lib.ListN.{length, getD, take, set, length-append}
-use lib.Seq.{take-suc, take-suc-set, take-all, take-append-le, length-take-le}
+use lib.ListN.{length, getD, take, drop, set, length-append, length-drop}
+use lib.Seq.{take-suc, take-suc-set, take-all, take-append-le, length-take-le, take-add}
 use Rattle.basis.specs.Basis.{Basis}
 use Rattle.enquiry_text.specs.Line.{lineOf}
 use Rattle.reply_text.specs.Inner.Put.{Put}
 use Rattle.reply_text.proofs.Puts.{nothing, then, being}
 use Rattle.enquiry_lines.specs.Lines.{ended, unfinished, replyTo, replies}
-use Rattle.enquiry_lines.specs.Inner.State.{kept, Sound}
+use Rattle.enquiry_lines.specs.Inner.State.{pendingOf, kept, Sound}
 use Rattle.enquiry_lines.specs.declared.Pending.{Pending}
+use Rattle.enquiry_lines.proofs.State.{held-sound, held-kept, held-complete}
 use Rattle.enquiry_lines.proofs.Parting.{ended-one, ended-none, unfinished-none, unfinished-more, no-replies, reply-alone, Left, left-next, said-next}
 
 -- ---- one byte
@@ -100,6 +101,24 @@ module _ (basis : Basis) (part first : List ℕ) (from : ℕ) (s : Pending) wher
     byte-turns l out′ next at′ k p m d =
         let grown = sym (ap (λ n. take n part) (add-one i) ∙ take-suc part i 0 l) in
         turns (getD part i 0 ∷ []) grown (omega arith) out′ next at′ k p (omega arith) d
+
+    -- a part of n bytes, as `feed` takes it
+    module _ (n m : ℕ) (e : m ≡ n) (l : i + n ≤ length part) where
+      part-is : take m (drop i part) ≡ take n (drop i part)
+      part-is = ap (λ k. take k (drop i part)) e
+
+      pub part-length : length (take m (drop i part)) ≡ n
+      part-length = ap length part-is ∙ length-take-le n (drop i part) (rw (length-drop i part) (omega arith))
+
+      pub part-turns : (out′ : List ℕ) (next : Pending) (at′ : ℕ) → let t = take m (drop i part) in
+          next ≡ pendingOf (unfinished (kept pending) t) (pending .complete + length (ended (kept pending) t)) →
+          Put out at (replies basis (pending .complete + 1) (ended (kept pending) t)) out′ at′ → at′ ≤ at + 192 * length t →
+          SoFar basis part first from s out′ next at′ (i + n)
+      part-turns out′ next at′ d p q =
+          let t = take m (drop i part) in
+          let grown = ap (λ r. take i part ++ r) part-is ∙ sym (take-add i n part) ∙ ap (λ k. take (i + k) part) (sym part-length) in
+          let left : Left (kept pending) (pending .complete) t (kept next) (next .complete) = record { begun = held-kept _ _ next d; complete = held-complete _ _ next d } in
+          rw part-length at (turns t grown (omega (arith, part-length)) out′ next at′ left p q (held-sound _ _ next d))
 
     pub ends : length part ≤ i →
         Left (kept s) (s .complete) part (kept pending) (pending .complete) × Put first from (replies basis (s .complete + 1) (ended (kept s) part)) out at

@@ -1,7 +1,7 @@
 -- The laws of the state that is held of an unfinished line. Assumes nothing.
 use Prim.Native.Nat.{ℕ, suc, _+_, _-_, _≤_, _<_}
 use mathlib.Core.Path.{_≡_, refl, ap, sym, _∙_}
-use mathlib.Core.List.{List, _++_}
+use mathlib.Core.List.{List, [], _++_}
 use native.Mathlib.Omega.{arith}
 use native.Mathlib.Numerals.{add-one}
 use lib.ListN.{length, take, drop, set, replicate, length-append, length-set, length-replicate, length-take, take-append-drop}
@@ -12,6 +12,13 @@ use Rattle.enquiry_lines.specs.Inner.State.{pendingOf, kept, Sound}
 use Rattle.enquiry_lines.proofs.Parting.{ended-few}
 
 -- nothing is kept
+abbrev pub nothingRead : Pending
+nothingRead = record { bytes = replicate 16 0; len = 0; complete = 0 }
+
+pub nothing-read : pendingOf [] 0 ≡ nothingRead
+unfolding pendingOf
+nothing-read = refl
+
 pub sound-empty : (n : ℕ) → Sound (record { bytes = replicate 16 0; len = 0; complete = n })
 sound-empty n = record { short = omega arith; room = refl; rest = refl }
 

@@ -4,6 +4,7 @@ use basis::Check;
 
 pub mod lines;
 pub mod open_basis;
+pub mod whole;
 
 // An unfinished line: its first 16 bytes, which tell whether it can be an enquiry, and how many lines were complete
 // before it.

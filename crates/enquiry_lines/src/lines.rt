@@ -27,7 +27,8 @@ fn put_line(
     number: u64,
     text: &[u8],
 ) -> usize
-    requires { ⌜ AcceptedWith (now run) (now history) × Workings (basisWith (now run) (now history)) (now workings) ⌝ }
+    requires { ⌜ AcceptedWith (now run) (now history) ⌝ }
+    requires { ⌜ Workings (basisWith (now run) (now history)) (now workings) ⌝ }
     requires { ⌜ at + 192 ≤ length (now out) ⌝ }
     ensures { λ r. ⌜ Put (now (out .entry)) at (replyTo (basisWith (now (run .entry)) (now (history .entry))) number (lineOf (now (text .entry)))) (now (out .exit)) r ⌝ }
     ensures { λ r. ⌜ r ≤ at + 192 ⌝ }

@@ -38,6 +38,7 @@ pub fn open_files(file: &[u8], history: &[u8], run: &mut [u8], out: &mut [u8]) -
     ensures { λ r. ⌜ r .check ≡ filesCheck (now (file .entry)) (now (history .entry)) ⌝ }
     ensures { λ r. ⌜ now (run .exit) ≡ written (r .check) (runIn (now (file .entry))) (now (run .entry)) ⌝ }
     ensures { λ r. ⌜ Put (now (out .entry)) 0 (printed (filesCheck (now (file .entry)) (now (history .entry))) []) (now (out .exit)) (r .at) ⌝ }
+    ensures { λ r. ⌜ r .at ≤ 192 ⌝ }
 {
     match read_files(file, history, run) {
         Check::Passed => {

@@ -69,12 +69,12 @@ pub fn all_within(run: &[u8], f: Field) -> bool
     let high = f.3;
     let width = width_of(kind);
     let mut at = f.4;
-    let mut left = f.5;
+    let mut more = f.5;
     let mut all = true;
-    while 0 < left {
+    while 0 < more {
         all = all & entry_ok(run, kind, low, high, at);
         at += width;
-        left -= 1;
+        more -= 1;
     }
     all
 }

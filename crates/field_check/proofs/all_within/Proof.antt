@@ -15,12 +15,12 @@ use Rattle.field_check.proofs.all_within.Statement.{statement}
 use Rattle.field_check.proofs.all_within.Tie as tie
 
 abbrev Inv-loop : tie.InvT-loop
-Inv-loop run kind low high width at₀ left₀ all₀ at left all =
-    (at + left * widthOf kind ≤ length run)
-    × ((all && passes (entriesCheck run 0 kind (toZ w64 low) (toZ w64 high) at left)) ≡ passes (entriesCheck run 0 kind (toZ w64 low) (toZ w64 high) at₀ left₀))
+Inv-loop run kind low high width at₀ more₀ all₀ at more all =
+    (at + more * widthOf kind ≤ length run)
+    × ((all && passes (entriesCheck run 0 kind (toZ w64 low) (toZ w64 high) at more)) ≡ passes (entriesCheck run 0 kind (toZ w64 low) (toZ w64 high) at₀ more₀))
 
 abbrev μ-loop : tie.MeasureT-loop
-μ-loop run kind low high width at₀ left₀ all₀ at left all = left
+μ-loop run kind low high width at₀ more₀ all₀ at more all = more
 
 width-of-requires : tie.Need-width-of-requires Inv-loop μ-loop
 width-of-requires c κs = search needs
@@ -31,15 +31,15 @@ loop-holds c = search needs
 entry-ok-requires : tie.Need-entry-ok-requires Inv-loop μ-loop
 entry-ok-requires c κs =
     let l = c .before in
-    omega (arith, room (l .loop .left) (widthOf (l .before .before .before .before .before .args .f .1)) (c .loop-test .taken))
+    omega (arith, room (l .loop .more) (widthOf (l .before .before .before .before .before .args .f .1)) (c .loop-test .taken))
 
 add-at : tie.Need-add-at Inv-loop μ-loop
 add-at c =
     let l = c .before .before in
-    omega (arith, room (l .loop .left) (widthOf (l .before .before .before .before .before .args .f .1)) (c .before .loop-test .taken))
+    omega (arith, room (l .loop .more) (widthOf (l .before .before .before .before .before .args .f .1)) (c .before .loop-test .taken))
 
-sub-left : tie.Need-sub-left Inv-loop μ-loop
-sub-left c = omega arith
+sub-more : tie.Need-sub-more Inv-loop μ-loop
+sub-more c = omega arith
 
 loop-less : tie.Need-loop-less Inv-loop μ-loop
 loop-less c = omega arith
@@ -49,8 +49,8 @@ loop-again c =
     let l = c .before .before in
     let f = l .before .before .before .before .before .args .f in
     let test = c .before .loop-test .taken in (
-      omega (arith, room (l .loop .left) (widthOf (f .1)) test),
-      rw (l .before .width-of .ensures) (also _ 0 (f .1) _ _ _ (l .loop .left) test (l .loop .all) (c .entry-ok .ensures) ∙ l .loop .inv .1),
+      omega (arith, room (l .loop .more) (widthOf (f .1)) test),
+      rw (l .before .width-of .ensures) (also _ 0 (f .1) _ _ _ (l .loop .more) test (l .loop .all) (c .entry-ok .ensures) ∙ l .loop .inv .1),
     )
 
 returns : tie.Need-returns Inv-loop μ-loop
@@ -58,7 +58,7 @@ unfolding fieldCheck
 returns c =
     let l = c .before in
     let f = l .before .before .before .before .before .args .f in
-    let e : l .loop .left ≡ 0 = omega arith in
+    let e : l .loop .more ≡ 0 = omega arith in
     let out = sym (ended _ 0 (f .1) _ _ (l .loop .all) _ _ e) ∙ l .loop .inv .1 ∙ any-number _ (f .0) (f .1) _ _ 0 _ _ in
     simp (toZ-ofZ {w = w64} {z = f .2} (search needs), toZ-ofZ {w = w64} {z = f .3} (search needs)) at out
 
@@ -72,7 +72,7 @@ all-within-spec =
     loop-holds
     entry-ok-requires
     add-at
-    sub-left
+    sub-more
     loop-less
     loop-again
     returns)

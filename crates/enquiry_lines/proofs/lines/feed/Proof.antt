@@ -60,7 +60,7 @@ slice-aggregate-put-line c = let l = c .before .before .before .before .before .
 put-line-requires : tie.Need-put-line-requires Inv-loop μ-loop
 put-line-requires c κs = let l = c .before .before .before .before .before in
     let s = l .before .before .before .before .before .before .before in
-    (s .pre .0, omega (arith, l .loop .inv .most, l .loop .inv .put .same, s .pre .1 .0, c .before .before .before .before .loop-test .taken))
+    (s .pre .0 .0, (s .pre .0 .1, omega (arith, l .loop .inv .most, l .loop .inv .put .same, s .pre .1 .0, c .before .before .before .before .loop-test .taken)))
 
 add-complete : tie.Need-add-complete Inv-loop μ-loop
 add-complete c = let l = c .before .before .before .before .before .before .before .before in

@@ -1,14 +1,20 @@
 -- The opening is by the two cases of the check.
-use mathlib.Core.Path.{refl, ap, sym, _∙_}
+use mathlib.Core.Path.{_≡_, refl, ap, sym, _∙_}
 use mathlib.Core.List.{[]}
+use native.Mathlib.Omega.{arith}
+use lib.ListN.{length}
 use Rattle.basis.specs.declared.Check.{Check}
 use Rattle.lent.specs.Lent.{written}
 use Rattle.basis_file.specs.File.{runIn}
+use Rattle.reply_text.specs.Reply.{headerLine}
 use Rattle.reply_text.proofs.Puts.{being}
 use Rattle.enquiry_lines.specs.Output.{printed}
 use borrow.Author.Needs.{needs}
 use Rattle.enquiry_lines.proofs.open_basis.open_files.Statement.{statement}
 use Rattle.enquiry_lines.proofs.open_basis.open_files.Tie as tie
+
+header : length headerLine ≡ 69
+header = refl
 
 read-files-requires : tie.Need-read-files-requires
 read-files-requires c κs = search needs
@@ -38,7 +44,7 @@ returns c = let told = c .before .before .before .before in
     let is = sym (told .enum-told .given .1) ∙ f .0 in
     let a = read .before .before .before .before .before .before .args in
     let run = f .1 ∙ ap (λ (k : Check). written k (runIn (a .file .now)) (a .run .now)) (told .enum-told .given .1) in
-    (is, (run, being (ap (λ k. printed k []) is) refl (c .before .before .put-header .ensures)))
+    (is, (run, (being (ap (λ k. printed k []) is) refl (c .before .before .put-header .ensures), omega (arith, c .before .before .put-header .ensures .next, header))))
 
 same-length-3 : tie.Need-same-length-3
 same-length-3 c = search needs
@@ -53,7 +59,7 @@ returns-2 c = let told = c .before .before .before .before .before in
     let is = sym (told .x .given .1) ∙ f .0 in
     let a = read .before .before .before .before .before .before .args in
     let run = f .1 ∙ ap (λ (k : Check). written k (runIn (a .file .now)) (a .run .now)) (told .x .given .1) in
-    (is, (run, being (ap (λ k. printed k []) is) refl (c .before .before .put-refusal .ensures .0)))
+    (is, (run, (being (ap (λ k. printed k []) is) refl (c .before .before .put-refusal .ensures .0), omega (arith, c .before .before .put-refusal .ensures .1))))
 
 pub open-files-spec : {M : Type 1} → statement M
 open-files-spec =

@@ -1,0 +1,131 @@
+-- What is read is the run that the lines are answered by, and what is put one after the other is the definition's output.
+use mathlib.Core.Path.{_≡_, refl, ap, sym, _∙_}
+use mathlib.Core.List.{[], _++_}
+use Prim.Native.Nat.{ℕ}
+use native.Mathlib.Omega.{arith}
+use lib.ListN.{replicate, length-replicate}
+use Rattle.basis.specs.declared.Check.the-variants.{Passed}
+use Rattle.basis_file.specs.File.{runIn}
+use Rattle.history.specs.History.{basisWith, AcceptedWith}
+use Rattle.reply_text.proofs.Puts.{being, then}
+use Rattle.enquiry_lines.specs.Lines.{linesOf, replies}
+use Rattle.enquiry_lines.specs.Output.{filesCheck, printed}
+use Rattle.enquiry_lines.proofs.Parting.{ended-few}
+use Rattle.enquiry_lines.proofs.State.{held-sound, held-kept, held-complete}
+use Rattle.enquiry_lines.proofs.Opened.{opened-run, opened-with}
+use Rattle.enquiry_lines.proofs.Printed.{last-reply, accepted-output, refused-output}
+use borrow.Author.Needs.{needs}
+use Rattle.enquiry_lines.proofs.whole.output.Statement.{statement}
+use Rattle.enquiry_lines.proofs.whole.output.Tie as tie
+
+-- the run of files that are accepted
+run-is : (o : tie.After-open-files) → o .open-files .result .check ≡ Passed → o .open-files .last .1 .1 .0 ≡ runIn (o .before .before .before .before .before .before .before .before .args .file .now)
+run-is o h =
+    let a = o .before .before .before .before .before .before .before .before .args in
+    o .open-files .ensures .1 .0
+    ∙ opened-run (a .file .now) (a .history .now) (replicate 4554 0) (length-replicate {A = ℕ} 4554 0) _ (o .open-files .ensures .0) h
+
+accepted : (o : tie.After-open-files) → o .open-files .result .check ≡ Passed → AcceptedWith (o .open-files .last .1 .1 .0) (o .before .before .before .before .before .before .before .before .args .history .now)
+accepted o h =
+    let a = o .before .before .before .before .before .before .before .before .args in
+    rw (run-is o h) (opened-with (a .file .now) (a .history .now) (sym (o .open-files .ensures .0) ∙ h))
+
+slice-aggregate-open-files : tie.Need-slice-aggregate-open-files
+slice-aggregate-open-files c = search needs
+
+open-files-requires : tie.Need-open-files-requires
+open-files-requires c κs = search needs
+
+enum-told : tie.Need-enum-told
+enum-told c = search needs
+
+enum-told-2 : tie.Need-enum-told-2
+enum-told-2 c = search needs
+
+same-length : tie.Need-same-length
+same-length c = search needs
+
+returns : tie.Need-returns
+returns c = let o = c .before .before .before .before .before in
+    let a = o .before .before .before .before .before .before .before .before .args in
+    let e = sym (o .open-files .ensures .0) ∙ c .enum-told2 .given .1 in
+    being (refused-output (a .file .now) (a .history .now) (a .text .now) _ e) refl (o .open-files .ensures .1 .1 .0)
+
+slice-aggregate-work-out : tie.Need-slice-aggregate-work-out
+slice-aggregate-work-out c = search needs
+
+slice-aggregate-work-out-2 : tie.Need-slice-aggregate-work-out-2
+slice-aggregate-work-out-2 c = search needs
+
+work-out-requires : tie.Need-work-out-requires
+work-out-requires c κs = let t = c .before .before in
+    let o = t .before .before .before .before .before in
+    (accepted o (t .enum-told .given .1), length-replicate {A = ℕ} 18340 0)
+
+slice-aggregate-feed-parts : tie.Need-slice-aggregate-feed-parts
+slice-aggregate-feed-parts c = search needs
+
+slice-aggregate-feed-parts-2 : tie.Need-slice-aggregate-feed-parts-2
+slice-aggregate-feed-parts-2 c = search needs
+
+feed-parts-requires : tie.Need-feed-parts-requires
+feed-parts-requires c κs = let w = c .before .before .before .before in
+    let t = w .before .before .before in
+    let o = t .before .before .before .before .before in
+    let s = o .before .before .before .before .before .before .before .before in
+    ((accepted o (t .enum-told .given .1), w .work-out .ensures), (omega (arith, o .open-files .ensures .1 .1 .0 .same, o .open-files .ensures .1 .1 .1, s .pre .0), s .pre .1))
+
+slice-aggregate-finish : tie.Need-slice-aggregate-finish
+slice-aggregate-finish c = search needs
+
+slice-aggregate-finish-2 : tie.Need-slice-aggregate-finish-2
+slice-aggregate-finish-2 c = search needs
+
+finish-requires : tie.Need-finish-requires
+finish-requires c κs = let f = c .before .before .before .before .before in
+    let w = f .before .before .before .before .before in
+    let t = w .before .before .before in
+    let o = t .before .before .before .before .before in
+    let s = o .before .before .before .before .before .before .before .before in
+    let e = f .feed-parts .ensures in
+    ((accepted o (t .enum-told .given .1), w .work-out .ensures), (omega (arith, o .open-files .ensures .1 .1 .0 .same, o .open-files .ensures .1 .1 .1, e .1 .0 .same, e .1 .1, s .pre .0), (held-sound _ _ _ (e .0), omega (arith, held-complete _ _ _ (e .0), ended-few [] (s .args .text .now), s .pre .1 .0))))
+
+same-length-2 : tie.Need-same-length-2
+same-length-2 c = search needs
+
+returns-2 : tie.Need-returns-2
+returns-2 c = let g = c .before .before in
+    let f = g .before .before .before .before .before .before in
+    let t = f .before .before .before .before .before .before .before .before in
+    let o = t .before .before .before .before .before in
+    let a = o .before .before .before .before .before .before .before .before .args in
+    let b = basisWith (o .open-files .last .1 .1 .0) (a .history .now) in
+    let d = f .feed-parts .ensures .0 in
+    let n = f .feed-parts .result .pending .complete in
+    let lines = being (last-reply b n (a .text .now) _ (held-kept _ _ _ d) (held-complete _ _ _ d)) refl (then (f .feed-parts .ensures .1 .0) (g .finish .ensures)) in
+    let all = then (o .open-files .ensures .1 .1 .0) lines in
+    let e = sym (o .open-files .ensures .0) ∙ t .enum-told .given .1 in
+    let same = ap (λ r. printed (filesCheck (a .file .now) (a .history .now)) [] ++ replies (basisWith r (a .history .now)) 1 (linesOf (a .text .now))) (run-is o (t .enum-told .given .1)) in
+    being (same ∙ accepted-output (a .file .now) (a .history .now) (a .text .now) e) refl all
+
+pub output-spec : {M : Type 1} → statement M
+output-spec =
+    tie.close
+    (tie.spec
+    slice-aggregate-open-files
+    open-files-requires
+    enum-told
+    enum-told-2
+    same-length
+    returns
+    slice-aggregate-work-out
+    slice-aggregate-work-out-2
+    work-out-requires
+    slice-aggregate-feed-parts
+    slice-aggregate-feed-parts-2
+    feed-parts-requires
+    slice-aggregate-finish
+    slice-aggregate-finish-2
+    finish-requires
+    same-length-2
+    returns-2)

@@ -1,0 +1,74 @@
+// The whole output of the points program for a text that is lent at once, whatever parts it is fed in.
+ghost use mathlib.Core.Path.{_≡_};
+ghost use mathlib.Core.List.{[]};
+ghost use Prim.Native.Nat.{_+_, _*_, _≤_, _<_};
+ghost use lib.ListN.{length};
+ghost use Rattle.history.specs.History.{basisWith, AcceptedWith};
+ghost use Rattle.workings.specs.Workings.{Workings};
+ghost use Rattle.reply_text.specs.Inner.Put.{Put};
+ghost use Rattle.enquiry_lines.specs.Lines.{ended, unfinished, replies};
+ghost use Rattle.enquiry_lines.specs.Output.{outputOf};
+ghost use Rattle.enquiry_lines.specs.Inner.State.{pendingOf};
+use crate::Fed;
+use crate::lines;
+use crate::open_basis;
+use basis::Check;
+
+fn least(a: usize, b: usize) -> usize
+    ensures { λ r. ⌜ (r ≤ a) × (r ≤ b) ⌝ }
+{
+    if a < b { a } else { b }
+}
+
+// The text in parts of the lengths given, as far as it goes, and then what is left of it.
+fn feed_parts(
+    run: &[u8],
+    history: &[u8],
+    workings: &[u32],
+    text: &[u8],
+    lengths: &[usize],
+    out: &mut [u8],
+    from: usize,
+) -> Fed
+    requires { ⌜ AcceptedWith (now run) (now history) × Workings (basisWith (now run) (now history)) (now workings) ⌝ }
+    requires { ⌜ from + 192 * length (now text) ≤ length (now out) ⌝ }
+    requires { ⌜ (length (now text) < 18446744073709551615) × (length (now lengths) < 2305843009213693952) ⌝ }
+    ensures { λ r. ⌜ r .pending ≡ pendingOf (unfinished [] (now (text .entry))) (length (ended [] (now (text .entry)))) ⌝ }
+    ensures { λ r. ⌜ Put (now (out .entry)) from (replies (basisWith (now (run .entry)) (now (history .entry))) 1 (ended [] (now (text .entry)))) (now (out .exit)) (r .at) ⌝ }
+    ensures { λ r. ⌜ r .at ≤ from + 192 * length (now (text .entry)) ⌝ }
+{
+    let mut pending = lines::begin();
+    let mut at = from;
+    let mut i: usize = 0;
+    let mut k: usize = 0;
+    while k < lengths.len() {
+        let end = i + least(lengths[k], text.len() - i);
+        let f = lines::feed(run, history, workings, pending, &text[i..end], out, at);
+        let next = f.pending;
+        pending = next;
+        at = f.at;
+        i = end;
+        k += 1;
+    }
+    lines::feed(run, history, workings, pending, &text[i..], out, at)
+}
+
+// What the points program prints on a basis file, a history file and a text, into the front of `out`: 192 bytes of room for
+// the opening line, for each byte of the text and for a last line that lacks its byte 10.
+pub fn output(file: &[u8], history: &[u8], text: &[u8], lengths: &[usize], out: &mut [u8]) -> usize
+    requires { ⌜ 192 * (length (now text) + 2) ≤ length (now out) ⌝ }
+    requires { ⌜ (length (now text) < 18446744073709551615) × (length (now lengths) < 2305843009213693952) ⌝ }
+    ensures { λ r. ⌜ Put (now (out .entry)) 0 (outputOf (now (file .entry)) (now (history .entry)) (now (text .entry))) (now (out .exit)) r ⌝ }
+{
+    let mut run = [0u8; 4554];
+    let mut workings = [0u32; 18340];
+    let o = open_basis::open_files(file, history, &mut run, out);
+    let at = o.at;
+    let check = o.check;
+    let Check::Passed = check else {
+        return at;
+    };
+    workings::work_out(&run, history, &mut workings);
+    let f = feed_parts(&run, history, &workings, text, lengths, out, at);
+    lines::finish(&run, history, &workings, f.pending, out, f.at)
+}
