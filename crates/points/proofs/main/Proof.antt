@@ -69,7 +69,7 @@ array-share-prefix-out c = search needs
 
 slice-aggregate-write-out : tie.Need-slice-aggregate-write-out
 slice-aggregate-write-out c = let f = c .before .before .before .open-files in
-    let p = f .ensures .1 .1 in
+    let p = f .ensures .1 .1 .0 in
     sym (length-take-le (f .result .at) (f .last .1 .1 .1 .0) (omega (arith, p .next, p .fits, p .same)))
 
 write-out-requires : tie.Need-write-out-requires
@@ -115,7 +115,7 @@ answer-input-requires c κs = let w = c .before .before .before .before .before 
     let r = o .before .before .before .before .before .before .before .before .before .before .before .before .before .before .before in
     let e = sym (o .open-files .ensures .0) ∙ t .enum-told .given .1 in (
       (rw (o .open-files .ensures .1 .0 ∙ opened-run _ _ (r .before .run-room .result) (sym (r .before .run-room .ensures)) _ (o .open-files .ensures .0) (t .enum-told .given .1)) (opened-with _ _ e), sym (w .workings-room .ensures)),
-      (omega (arith, w .before .block-room .ensures), omega (arith, o .open-files .ensures .1 .1 .same, r .reply-room .ensures)),
+      (omega (arith, w .before .block-room .ensures), omega (arith, o .open-files .ensures .1 .1 .0 .same, r .reply-room .ensures)),
     )
 
 returns-2 : tie.Need-returns-2
