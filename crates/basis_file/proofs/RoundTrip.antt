@@ -12,7 +12,8 @@ use Rattle.basis.proofs.Outcome.{both-passed}
 use Rattle.block.specs.Block.{blockCheck, blockOf}
 use Rattle.block.proofs.Blocks.{block-length, data-stand, block-accepted, block-back}
 use Rattle.block.specs.Blocks.{partsOf, blocksOf, blocksCheck}
-use Rattle.basis_file.specs.File.{runIn, fileOf, fileCheck}
+use Rattle.basis_file.specs.File.{runIn, fileOf, nineCheck, fileCheck}
+use Rattle.basis_file.specs.RoundTrips.{RoundTrips}
 use Rattle.basis_file.proofs.Files.{file-length, right-size, outer-passed, file-passed, accepted-run}
 
 -- ---- from a run to its file and back
@@ -56,7 +57,7 @@ pub file-accepted : (run : List ℕ) → runCheck run ≡ Passed → fileCheck (
 unfolding fileCheck
 file-accepted run h =
     let l = accepted-run run h in
-    rw (right-size (fileOf run) (file-length run l), nine-accepted run l, run-back run l) h
+    simp (right-size (fileOf run) (file-length run l), nine-accepted run l, run-back run l) h
 
 -- ---- from a file to its run and back
 part-of : (file : List ℕ) → take 506 (drop 2 (take 512 file)) ≡ take 506 (drop 2 file)
@@ -88,4 +89,11 @@ run-accepted file h = file-passed file h .1
 -- a basis read and written back is the same file (its elements are bytes, as those of every lent file are)
 pub file-back : (file : List ℕ) → ((i : ℕ) → getD file i 0 < 256) → fileCheck file ≡ Passed → fileOf (runIn file) ≡ file
 unfolding fileOf runIn
-file-back file b h = let o = outer-passed file (file-passed file h .0) in blocks-back 9 0 file (o .0) b (o .1)
+file-back file b h = let o = outer-passed file (file-passed file h .0) in blocks-back 9 0 file (o .0) b (nine (o .1))
+  where
+    nine : nineCheck file ≡ Passed → blocksCheck 0 9 file ≡ Passed
+    nine e = cc
+
+-- ---- both ways round
+pub round-trips : RoundTrips
+round-trips = record { sameFile = file-back; sameBasis = λ run h. (file-accepted run h, run-back run (accepted-run run h)) }
