@@ -43,28 +43,20 @@ module _ (run history : List ℕ) (age year : ℕ) where
   at-start h = ap standBegun (start-passed run history age year h)
 
   -- ---- as long as each step advances, the lifeline stands n years on with the survivors after n years
-  pub steps-are-survivorship : (n : ℕ) → valuationCheck run history age 0 year ≡ Passed → Advances run history age year n
+  -- a step that advanced moves a year on, with the year's survivors
+  abbrev MovesOn : Type 0
+  MovesOn = (age year s : ℕ) → stepAt run history age year s .status ≡ status.Advanced
+      → (t : ℤ) × (survivorsAfterYear (basisWith run history) age year (pos s) ≡ value t) × (stepAt run history age year s ≡ moved (age + 1) (year + 1) (natAbs t) status.Advanced)
+
+  stands-after : MovesOn → (n : ℕ) → valuationCheck run history age 0 year ≡ Passed → Advances run history age year n
       → (s : ℕ) × (standAfter run history age year n ≡ standAt (age + n) (year + n) s) × (survivorsOf (basisWith run history) Cohort age year n ≡ value (pos s))
-  unfolding stepAt lived
-  steps-are-survivorship zero h a = (U, at-start h ∙ stand-same (omega arith) (omega arith) refl, survivors-first (basisWith run history) Cohort age year)
-  steps-are-survivorship (suc n) h a =
-      let p = steps-are-survivorship n h (λ k l. a k (omega arith)) in
-      let went = advanced (age + n) (year + n) (p .0) (ap (λ (x : Stand). stepFrom run history x .status) (sym (p .1)) ∙ a n (omega arith)) in
+  stands-after moves-on zero h a = (U, at-start h ∙ stand-same (omega arith) (omega arith) refl, survivors-first (basisWith run history) Cohort age year)
+  stands-after moves-on (suc n) h a =
+      let p = stands-after moves-on n h (λ k l. a k (omega arith)) in
+      let went = moves-on (age + n) (year + n) (p .0) (ap (λ (x : Stand). stepFrom run history x .status) (sym (p .1)) ∙ a n (omega arith)) in
       let next = survivors-next (basisWith run history) Cohort age year n (pos (p .0)) (value (went .0)) refl (p .2) (sym (went .1)) in
       let m = survivors-natural (basisWith run history) Cohort age year (suc n) (went .0) next in
       (m .0, after-suc n _ (p .1) ∙ ap standMoved (went .2) ∙ stand-same (omega arith) (omega arith) (ap natAbs (m .1)), next ∙ ap value (m .1))
-    where
-      -- a step that advanced: the year's survivors were answered
-      advanced : (age year s : ℕ) → stepAt run history age year s .status ≡ status.Advanced
-          → (t : ℤ) × (survivorsAfterYear (basisWith run history) age year (pos s) ≡ value t) × (stepAt run history age year s ≡ moved (age + 1) (year + 1) (natAbs t) status.Advanced)
-      advanced age year s h = by (stepCheck run history age year s) (eqb age 150) (survivorsAfterYear (basisWith run history) age year (pos s)) h
-        where
-          by : (c : Check) (e : Bool) (o : Outcome ℤ) → unlessRefused age year s c (cond e (moved age year s status.Ended) (yearLater age year s o)) .status ≡ status.Advanced
-              → (t : ℤ) × (o ≡ value t) × (unlessRefused age year s c (cond e (moved age year s status.Ended) (yearLater age year s o)) ≡ moved (age + 1) (year + 1) (natAbs t) status.Advanced)
-          by Passed false (value t) g = (t, refl, refl)
-          by Passed false (refused r) g = let z : _≡_ {A = ℕ} 0 1 = cc in absurd (omega arith)
-          by Passed true o g = let z : _≡_ {A = ℕ} 0 1 = cc in absurd (omega arith)
-          by (Refused r) e o g = let z : _≡_ {A = ℕ} 0 1 = cc in absurd (omega arith)
 
   -- ---- and as long as survivorship is answered each step advances
   -- what an enquiry for n years checks lets a lifeline start
@@ -118,15 +110,29 @@ module _ (run history : List ℕ) (age year : ℕ) where
           let last = ap (λ (x : Stand). stepFrom run history x .status) (p .1) ∙ ap (λ (x : Moved). x .status) went in
           (and-one k (p .0) last, after-suc k _ (p .1) ∙ ap standMoved went ∙ stand-same (omega arith) (omega arith) refl)
 
-  -- an answered survivorship after n years is where the lifeline stands after n steps, all of which advanced
-  pub survivorship-is-steps : (n s : ℕ) → survivorshipEnquiry run history Cohort age n year ≡ value (pos s) → Advances run history age year n × (standAfter run history age year n ≡ standAt (age + n) (year + n) s)
-  unfolding survivorshipEnquiry ageCheck standingYearCheck survivorsCheck standingCheck
-  survivorship-is-steps n s h =
-      let p = checked-value (valuationCheck run history age n year) (survivorsOf (basisWith run history) Cohort age year n) (pos s) h in
-      advances-to n n s (p .0) (let-through (p .0)) (omega arith) (p .1)
+  -- ---- both ways round
+  pub is-cohort-survivorship : IsCohortSurvivorship run history age year
+  unfolding survivorshipEnquiry stepAt lived ageCheck standingYearCheck survivorsCheck standingCheck
+  is-cohort-survivorship =
+      record {
+        stepsAreSurvivorship = stands-after moves-on;
+        survivorshipIsSteps = λ n s h.
+            let p = checked-value (valuationCheck run history age n year) (survivorsOf (basisWith run history) Cohort age year n) (pos s) h in
+            advances-to n n s (p .0) (let-through n (p .0)) (omega arith) (p .1);
+      }
     where
-      let-through : valuationCheck run history age n year ≡ Passed → LetThrough n
-      let-through h k s l u =
+      moves-on : MovesOn
+      moves-on age year s h = by (stepCheck run history age year s) (eqb age 150) (survivorsAfterYear (basisWith run history) age year (pos s)) h
+        where
+          by : (c : Check) (e : Bool) (o : Outcome ℤ) → unlessRefused age year s c (cond e (moved age year s status.Ended) (yearLater age year s o)) .status ≡ status.Advanced
+              → (t : ℤ) × (o ≡ value t) × (unlessRefused age year s c (cond e (moved age year s status.Ended) (yearLater age year s o)) ≡ moved (age + 1) (year + 1) (natAbs t) status.Advanced)
+          by Passed false (value t) g = (t, refl, refl)
+          by Passed false (refused r) g = let z : _≡_ {A = ℕ} 0 1 = cc in absurd (omega arith)
+          by Passed true o g = let z : _≡_ {A = ℕ} 0 1 = cc in absurd (omega arith)
+          by (Refused r) e o g = let z : _≡_ {A = ℕ} 0 1 = cc in absurd (omega arith)
+
+      let-through : (n : ℕ) → valuationCheck run history age n year ≡ Passed → LetThrough n
+      let-through n h k s l u =
           let v = valuation-passed run history age n year h in
           rw (
             both-passed (basisCheck run history) (questionCheck (basisWith run history .base) age n year) h .0,
@@ -138,5 +144,10 @@ module _ (run history : List ℕ) (age year : ℕ) where
           )
           refl
 
-  pub is-cohort-survivorship : IsCohortSurvivorship run history age year
-  is-cohort-survivorship = record { stepsAreSurvivorship = steps-are-survivorship; survivorshipIsSteps = survivorship-is-steps }
+  pub steps-are-survivorship : (n : ℕ) → valuationCheck run history age 0 year ≡ Passed → Advances run history age year n
+      → (s : ℕ) × (standAfter run history age year n ≡ standAt (age + n) (year + n) s) × (survivorsOf (basisWith run history) Cohort age year n ≡ value (pos s))
+  steps-are-survivorship = is-cohort-survivorship .stepsAreSurvivorship
+
+  pub survivorship-is-steps : (n s : ℕ) → survivorshipEnquiry run history Cohort age n year ≡ value (pos s)
+      → Advances run history age year n × (standAfter run history age year n ≡ standAt (age + n) (year + n) s)
+  survivorship-is-steps = is-cohort-survivorship .survivorshipIsSteps

@@ -10,7 +10,7 @@ use Rattle.little_endian.specs.Bytes.{signed32}
 use Rattle.basis.specs.Basis.{Basis, basisOf, termsAt, ConvergenceLimits, Limited, Accepted}
 use Rattle.basis.specs.declared.Convergence.{Convergence}
 use Rattle.run_check.proofs.Acceptance.{passes}
-use Rattle.short_form.specs.ShortForm.{everyPeriod, everyProportion, longTermOf, shortFormOf, Shortened, ShortFormStands}
+use Rattle.short_form.specs.ShortForm.{everyPeriod, everyProportion, longTermOf, shortFormOf, ShortFormStands}
 use Rattle.short_form.proofs.Checking.{passed}
 use Rattle.short_form.proofs.LongTerm.{long-term-size}
 use Rattle.short_form.proofs.Placing.{length-short-form}
@@ -31,19 +31,6 @@ module _ (run : List ℕ) (rate : ℤ) (long : length run ≡ 4554) (h : natAbs 
       → termsAt (shortFormOf run rate) 1864 2940 4016 4285 i ≡ houseTerms (termsAt run 1864 2940 4016 4285 i .initial) (pos 0)
   birth-year-terms i l =
       rw (birth-initial run rate long i l, birth-rate run rate long i l, birth-period run rate long i l, birth-proportion run rate long i l) refl
-
-  pub stands : Shortened (basisOf run) rate (basisOf (shortFormOf run rate))
-  unfolding basisOf
-  stands =
-      record {
-        foundation = half-kept run rate long 4 (omega arith);
-        base = half-kept run rate long 6 (omega arith);
-        addition = ap signed32 (word-kept run rate long 8 (omega arith));
-        discount = ap signed32 (word-kept run rate long 12 (omega arith));
-        baseRate = λ age l m. word-kept run rate long (30 + 4 * (age - 20)) (omega arith);
-        byAge = λ age l m. let e : 20 + (age - 20) ≡ age = omega arith in rw e at (age-terms (age - 20) (omega arith));
-        byBirthYear = λ year l m. birth-year-terms (year - 1842) (omega arith);
-      }
 
 -- ---- it is accepted: what stands where the run has its mark, its zero bytes and its fields is within their limits
 terms-limited : (initial long : ℤ) → natAbs initial ≤ 200_000_000 → natAbs long ≤ 200_000_000 → ConvergenceLimits (houseTerms initial long)
@@ -80,7 +67,7 @@ module _ (run : List ℕ) (rate : ℤ) (a : Accepted run) (h : natAbs rate ≤ 2
             (terms-limited _ _ (l .byBirthYear year p q .initial) (omega arith));
       }
 
-  pub short-form-accepted : Accepted (shortFormOf run rate)
+  short-form-accepted : Accepted (shortFormOf run rate)
   short-form-accepted =
       record {
         size = length-short-form run rate (a .size);
@@ -91,8 +78,21 @@ module _ (run : List ℕ) (rate : ℤ) (a : Accepted run) (h : natAbs rate ≤ 2
 
 -- ---- where the short form's check passes
 pub short-form-stands : (run : List ℕ) (rate : ℤ) → ShortFormStands run rate
+unfolding basisOf
 short-form-stands run rate =
     record {
-      differs = λ c. let p = passed run rate c in stands run rate (p .0 .size) (omega (arith, p .1));
+      differs = λ c.
+          let p = passed run rate c in
+          let n = p .0 .size in
+          let h : natAbs rate < 2_147_483_648 = omega (arith, p .1) in
+          record {
+            foundation = half-kept run rate n 4 (omega arith);
+            base = half-kept run rate n 6 (omega arith);
+            addition = ap signed32 (word-kept run rate n 8 (omega arith));
+            discount = ap signed32 (word-kept run rate n 12 (omega arith));
+            baseRate = λ age l m. word-kept run rate n (30 + 4 * (age - 20)) (omega arith);
+            byAge = λ age l m. let e : 20 + (age - 20) ≡ age = omega arith in rw e at (age-terms run rate n h (age - 20) (omega arith));
+            byBirthYear = λ year l m. birth-year-terms run rate n h (year - 1842) (omega arith);
+          };
       accepted = λ c. let p = passed run rate c in passes _ (short-form-accepted run rate (p .0) (omega (arith, p .1)));
     }
