@@ -4,8 +4,7 @@ use mathlib.Core.Path.{_≡_, refl, ap, _∙_}
 use mathlib.Core.List.{List, [], _++_, append-nil}
 use native.Mathlib.Omega.{arith}
 use lib.ListN.{length, drop-of-length-le}
-use Rattle.basis.specs.declared.Check.the-variants.{Passed, Refused}
-use Rattle.basis.specs.declared.Refusal.{Refusal}
+use Rattle.basis.specs.declared.Check.the-variants.{Passed}
 use Rattle.basis.specs.Basis.{basisOf, Accepted}
 use Rattle.basis.proofs.Outcome.{both-passed}
 use Rattle.lent.specs.Lent.{written}
@@ -15,8 +14,10 @@ use Rattle.basis_file.specs.File.{fileCheck, runIn}
 use Rattle.basis_file.proofs.RoundTrip.{run-accepted}
 use Rattle.history.specs.History.{basisWith, historyCheck, basisCheck, AcceptedWith}
 use Rattle.history.proofs.Acceptance.{accepted-with}
-use Rattle.enquiry_lines.specs.Output.{filesCheck, printed, outputOf}
-use Rattle.enquiry_lines.proofs.Whole.{joined, said, whole-in-parts}
+use Rattle.enquiry_lines.specs.Lines.{linesOf}
+use Rattle.enquiry_lines.specs.Output.{filesCheck, outputOf}
+use Rattle.enquiry_lines.specs.InParts.{OutputInParts}
+use Rattle.enquiry_lines.proofs.Whole.{gathered}
 
 -- ---- the run
 module _ (file run : List ℕ) (l : length run ≡ 4554) (h : fileCheck file ≡ Passed) where
@@ -39,12 +40,11 @@ module _ (file history : List ℕ) where
   pub opened-with : (run : List ℕ) → length run ≡ 4554 → filesCheck file history ≡ Passed → AcceptedWith (written (fileCheck file) (runIn file) run) history
   opened-with run l h = let p = both h in rw (opened-run file run l (p .0)) (accepted-with (runIn file) history (p .1))
 
-  -- ---- The program's output, however its input is cut.
-  pub accepted-output : (ps : List (List ℕ)) → filesCheck file history ≡ Passed →
-      printed (filesCheck file history) [] ++ said (basisWith (runIn file) history) [] 0 ps ≡ outputOf file history (joined ps)
-  unfolding outputOf
-  accepted-output ps e = rw (e, whole-in-parts (basisWith (runIn file) history) ps) refl
-
-  pub refused-output : (input : List ℕ) (r : Refusal) → filesCheck file history ≡ Refused r → printed (filesCheck file history) [] ≡ outputOf file history input
-  unfolding outputOf
-  refused-output input r e = rw e refl
+  -- ---- the program's output, however its input is cut
+  pub output-in-parts : OutputInParts file history
+  unfolding outputOf linesOf
+  output-in-parts =
+      record {
+        accepted = λ ps e. rw (e, gathered (basisWith (runIn file) history) [] 0 ps) refl;
+        refused = λ input r e. rw e refl;
+      }

@@ -6,20 +6,11 @@ use native.Mathlib.Omega.{arith}
 use lib.ListN.{length, take}
 use Rattle.basis.specs.Basis.{Basis}
 use Rattle.enquiry_lines.specs.Lines.{ended, unfinished, lastLine, linesOf, replies}
+use Rattle.enquiry_lines.specs.InParts.{joined, said, WholeInParts}
 use Rattle.enquiry_lines.proofs.Parting.{replies-parts, alike-last, Left, left-next, said-next}
 
-abbrev pub joined : List (List ℕ) → List ℕ
-joined [] = []
-joined (p ∷ ps) = p ++ joined ps
-
--- what `feed` says to each part, given what is left of the parts before it, and `finish` at the end
-abbrev pub said : Basis → List ℕ → ℕ → List (List ℕ) → List ℕ
-said basis line n [] = replies basis (n + 1) (lastLine line)
-said basis line n (p ∷ ps) =
-    replies basis (n + 1) (ended line p) ++ said basis (take 16 (unfinished line p)) (n + length (ended line p)) ps
-
 module _ (basis : Basis) where
-  gathered : (line : List ℕ) (n : ℕ) (ps : List (List ℕ)) →
+  pub gathered : (line : List ℕ) (n : ℕ) (ps : List (List ℕ)) →
       said basis line n ps ≡ replies basis (n + 1) (ended line (joined ps) ++ lastLine (unfinished line (joined ps)))
   unfolding ended unfinished
   gathered line n [] = refl
@@ -43,7 +34,6 @@ module _ (basis : Basis) where
           ∙ ap (λ r. replies basis (n + 1) (ended line (p ++ t)) ++ r) (alike-last basis _ (unfinished line′ t) (unfinished line (p ++ t)) (left .begun))
           ∙ sym (replies-parts basis (n + 1) (ended line (p ++ t)) (lastLine (unfinished line (p ++ t))))
 
-  -- What is said to a text in parts is the replies to its lines, numbered from 1.
-  pub whole-in-parts : (ps : List (List ℕ)) → said basis [] 0 ps ≡ replies basis 1 (linesOf (joined ps))
+  pub whole-in-parts : WholeInParts basis
   unfolding linesOf
-  whole-in-parts ps = gathered [] 0 ps
+  whole-in-parts = record { whole = gathered [] 0 }

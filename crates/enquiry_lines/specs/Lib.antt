@@ -1,3 +1,4 @@
 pub mod Lines
 pub mod Output
+pub mod InParts
 pub mod Inner
