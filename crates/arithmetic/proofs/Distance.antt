@@ -9,6 +9,7 @@ use lib.IntN.{ℤ, pos, negsuc, natAbs, negℤ, _+ℤ_, _-ℤ_, _*ℤ_}
 use lib.Signed.{_≤ℤ_, leZ}
 use Rattle.arithmetic.specs.Round.{roundDiv}
 use Rattle.arithmetic.specs.Fraction.{Fraction, Within, whole, _over_, round, _+ᶠ_, _*ᶠ_, _-ᶠ_, _/ᶠ_, lesser, lesserℤ}
+use Rattle.arithmetic.specs.Rounding.{HalvesAreHalves}
 use Rattle.arithmetic.proofs.Difference.{_⊖_, parts, ring, up, dn, ⊖-eq, eq-⊖, ⊖-abs*, abs*-⊖, ⊖-≤, ≤-⊖, parts-≤, natAbs-add, natAbs-mul, natAbs-neg}
 use Rattle.arithmetic.proofs.Rounding.{round-near}
 
@@ -22,6 +23,14 @@ within-whole v = record { proper = omega arith; near = rw (zero v) (omega arith)
 
 pub within-more : {v : ℤ} {q : Fraction} {m n : ℕ} → Within v q m → m ≤ n → Within v q n
 within-more {q = q} h k = record { proper = h .proper; near = omega (arith, h .near, mul-le-mul-right (q .den) k) }
+
+-- and 1 is two halves from 0, and not one
+pub halves-are-halves : HalvesAreHalves
+halves-are-halves =
+    record {
+      two = record { proper = omega arith; near = omega arith };
+      notOne = λ w. let h : 2 ≤ 1 = w .near in omega arith;
+    }
 
 -- a rounded fraction is at most one half from the fraction
 pub within-round : (q : Fraction) → 0 < q .den → Within (round q) q 1

@@ -14,10 +14,10 @@ use Rattle.basis.proofs.Outcome.{unless-passed, both-passed, first-stands, firs
 use Rattle.run_check.proofs.Acceptance.{accepted}
 use Rattle.lent.specs.Lent.{roomCheck}
 use Rattle.lent.proofs.Lent.{room-passed}
-use Rattle.block.specs.Blocks.{blocksOf, blocksCheck}
+use Rattle.block.specs.Blocks.{blocksOf}
 use Rattle.block.proofs.Blocks.{block-length}
 use Rattle.block.proofs.Joined.{parts-length}
-use Rattle.basis_file.specs.File.{runIn, fileOf, outerCheck, fileCheck}
+use Rattle.basis_file.specs.File.{runIn, fileOf, nineCheck, outerCheck, fileCheck}
 
 -- ---- lengths
 blocks-length : (n place : ℕ) (run : List ℕ) → length run ≡ 506 * n → length (blocksOf place n run) ≡ 512 * n
@@ -42,11 +42,11 @@ module _ (file : List ℕ) where
   unfolding outerCheck
   wrong-size h = simp (ne-eqb (length file) 4608 h)
 
-  pub right-size : length file ≡ 4608 → outerCheck file ≡ blocksCheck 0 9 file
+  pub right-size : length file ≡ 4608 → outerCheck file ≡ nineCheck file
   unfolding outerCheck
   right-size h = simp (eq-eqb (length file) 4608 h)
 
-  pub outer-passed : outerCheck file ≡ Passed → (length file ≡ 4608) × (blocksCheck 0 9 file ≡ Passed)
+  pub outer-passed : outerCheck file ≡ Passed → (length file ≡ 4608) × (nineCheck file ≡ Passed)
   unfolding outerCheck
   outer-passed h = let e = both-passed _ _ h in (eqb-true _ _ (unless-passed _ _ (e .0)), e .1)
 

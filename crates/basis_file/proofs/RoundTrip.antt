@@ -13,6 +13,7 @@ use Rattle.block.specs.Block.{blockCheck, blockOf}
 use Rattle.block.proofs.Blocks.{block-length, data-stand, block-accepted, block-back}
 use Rattle.block.specs.Blocks.{partsOf, blocksOf, blocksCheck}
 use Rattle.basis_file.specs.File.{runIn, fileOf, fileCheck}
+use Rattle.basis_file.specs.RoundTrips.{RoundTrips}
 use Rattle.basis_file.proofs.Files.{file-length, right-size, outer-passed, file-passed, accepted-run}
 
 -- ---- from a run to its file and back
@@ -51,13 +52,6 @@ nine-accepted : (run : List ℕ) → length run ≡ 4554 → blocksCheck 0 9 (fi
 unfolding fileOf
 nine-accepted run l = blocks-accepted 9 0 run (omega arith) l
 
--- the file of an accepted run is accepted
-pub file-accepted : (run : List ℕ) → runCheck run ≡ Passed → fileCheck (fileOf run) ≡ Passed
-unfolding fileCheck
-file-accepted run h =
-    let l = accepted-run run h in
-    rw (right-size (fileOf run) (file-length run l), nine-accepted run l, run-back run l) h
-
 -- ---- from a file to its run and back
 part-of : (file : List ℕ) → take 506 (drop 2 (take 512 file)) ≡ take 506 (drop 2 file)
 part-of [] = refl
@@ -85,7 +79,16 @@ blocks-back (suc n) place file l b h =
 pub run-accepted : (file : List ℕ) → fileCheck file ≡ Passed → runCheck (runIn file) ≡ Passed
 run-accepted file h = file-passed file h .1
 
--- a basis read and written back is the same file (its elements are bytes, as those of every lent file are)
-pub file-back : (file : List ℕ) → ((i : ℕ) → getD file i 0 < 256) → fileCheck file ≡ Passed → fileOf (runIn file) ≡ file
-unfolding fileOf runIn
-file-back file b h = let o = outer-passed file (file-passed file h .0) in blocks-back 9 0 file (o .0) b (o .1)
+-- ---- both ways round
+pub round-trips : RoundTrips
+unfolding runIn fileOf fileCheck
+round-trips =
+    record {
+      sameFile = λ file b h.
+          let o = outer-passed file (file-passed file h .0) in
+          let nine : blocksCheck 0 9 file ≡ Passed = cc (o .1) in
+          blocks-back 9 0 file (o .0) b nine;
+      sameBasis = λ run h.
+          let l = accepted-run run h in
+          (simp (right-size (fileOf run) (file-length run l), nine-accepted run l, run-back run l) h, run-back run l);
+    }

@@ -17,9 +17,13 @@ unfoldable pub fileOf : List ℕ → List ℕ
 fileOf run = blocksOf 0 9 run
 
 -- ---- the check
+-- the nine blocks, ascending from 0 (2, 3)
+abbrev pub nineCheck : List ℕ → Check
+nineCheck file = blocksCheck 0 9 file
+
 -- not 4,608 bytes (1), then the nine blocks
 unfoldable pub outerCheck : List ℕ → Check
-outerCheck file = firstOf (unless (eqb (length file) 4608) (refusal 1 0 0)) (blocksCheck 0 9 file)
+outerCheck file = firstOf (unless (eqb (length file) 4608) (refusal 1 0 0)) (nineCheck file)
 
 -- then the data run (4, 5)
 unfoldable pub fileCheck : List ℕ → Check

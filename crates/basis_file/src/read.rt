@@ -3,11 +3,19 @@ ghost use mathlib.Core.Path.{_≡_};
 ghost use lib.ListN.{length};
 ghost use Rattle.basis.specs.Outcome.{firstOf};
 ghost use Rattle.lent.specs.Lent.{roomCheck, written};
-ghost use Rattle.basis_file.specs.File.{runIn, outerCheck, fileCheck};
+ghost use Rattle.basis_file.specs.File.{runIn, nineCheck, outerCheck, fileCheck};
 use basis::Check;
 use basis::Refusal;
 
-// The length, then the nine blocks, ascending.
+// The nine blocks, ascending.
+fn check_nine(file: &[u8]) -> Check
+    requires { ⌜ length (now file) ≡ 4608 ⌝ }
+    ensures { λ r. ⌜ r ≡ nineCheck (now (file .entry)) ⌝ }
+{
+    block::check_blocks(file, 9)
+}
+
+// The length, then the blocks.
 fn check_outer(file: &[u8]) -> Check
     ensures { λ r. ⌜ r ≡ outerCheck (now (file .entry)) ⌝ }
 {
@@ -18,7 +26,7 @@ fn check_outer(file: &[u8]) -> Check
             second: 0,
         });
     }
-    block::check_blocks(file, 9)
+    check_nine(file)
 }
 
 // The nine data parts, joined.

@@ -5,3 +5,4 @@ pub mod Discount
 pub mod Values
 pub mod Largest
 pub mod Demands
+pub mod Sharp

@@ -1,4 +1,4 @@
--- The figures of the paper hold, by computation of the definitions. Assumes nothing.
+-- The figures of the papers hold, by computation of the definitions. Assumes nothing.
 use mathlib.Core.Path.{refl}
 use Rattle.basis.specs.Basis.{accumulationOf}
 use Rattle.basis.specs.Outcome.{steps, sumOf}
@@ -7,8 +7,11 @@ use Rattle.improvement.specs.Improvement.{additionOf, componentsOf, projectedOf
 use Rattle.projection.specs.Projection.{factorNeeded, factorFrom, heldYear, factorOf, rateOf}
 use Rattle.survivorship.specs.Survivorship.{survivorsAfterYear, survivorsOf}
 use Rattle.valuation.specs.Valuation.{discountAfter, paymentAfter, annuityOf}
-use Rattle.figures.specs.Figures.{figures, Hold}
+use Rattle.figures.specs.Figures.{FiguresHold, HighAgesHold}
 
-pub figures-hold : Hold figures
+pub figures-hold : FiguresHold
 unfolding componentOf additionOf componentsOf projectedOf improvementOf improvementNeeded factorNeeded factorFrom heldYear factorOf rateOf steps sumOf accumulationOf survivorsAfterYear survivorsOf discountAfter paymentAfter annuityOf
-figures-hold = refl
+figures-hold = record { hold = refl; number = refl }
+
+pub high-ages-hold : HighAgesHold
+high-ages-hold = record { hold = refl; number = refl }

@@ -1,9 +1,10 @@
 -- The figures that 01 marks to be proved ("Figures to prove"), as one table: what the definitions that the contracts cite give,
--- and what 01 states. Those of a component hold where the other component is zero (02, change 3). Last, what the CMI itself says of
--- the run-off at high ages.
+-- and what 01 states. Those of a component hold where the other component is zero (02, change 3). A second table has what the CMI itself
+-- says of the run-off at high ages.
 use Prim.Native.Nat.{ℕ, _+_}
 use mathlib.Core.Path.{_≡_}
 use mathlib.Core.List.{List, [], _∷_, _++_, map}
+use lib.ListN.{length}
 use lib.IntN.{ℤ, pos, negsuc}
 use Rattle.basis.specs.Basis.{Basis}
 use Rattle.basis.specs.Outcome.{Outcome, value, refused, refusal}
@@ -106,16 +107,25 @@ others =
     ∷ (annuityOf tenth Cohort 149 2006 0 gives value (pos 1_750_000_000))
     ∷ []
 
--- a long-term rate of 1.5 per cent, with the pattern of 003, A.2.1, is 1 per cent at age 100 (001, 5.2)
-abbrev highAges : List Figure
+abbrev pub figures : List Figure
+figures = components byAgeAlone ++ components byBirthYearAlone ++ others
+
+-- ---- the CMI's own number: a long-term rate of 1.5 per cent, with the pattern of 003, A.2.1, is 1 per cent at age 100 (001, 5.2)
+abbrev pub highAges : List Figure
 highAges =
     (shortForm (pos 15_000_000) 90 gives value (pos 15_000_000))
     ∷ (shortForm (pos 15_000_000) 100 gives value (pos 10_000_000))
     ∷ []
 
-abbrev pub figures : List Figure
-figures = components byAgeAlone ++ components byBirthYearAlone ++ others ++ highAges
-
--- every row gives what is stated
+-- ---- every row gives what is stated
 abbrev pub Hold : List Figure → Type 0
 Hold table = map (λ f. f .worked) table ≡ map (λ f. f .stated) table
+
+pub record FiguresHold : Type 0 where
+  pub hold : Hold figures
+  -- none is missing: nine of a component by age, the same nine by birth year, and 16 others
+  pub number : length figures ≡ 9 + 9 + 16
+
+pub record HighAgesHold : Type 0 where
+  pub hold : Hold highAges
+  pub number : length highAges ≡ 2

@@ -11,12 +11,14 @@ use lib.IntN.{ℤ, pos, negsuc, natAbs, _+ℤ_}
 use lib.Signed.{leZ}
 use borrow.Author.Tests.{lt-ltb, le-ltb, leb-true, leb-false, le-leb, lt-leb}
 use Rattle.arithmetic.specs.Fraction.{_+ᶠ_, round}
-use Rattle.basis.specs.Basis.{Basis, basisOf, ConvergenceLimits}
-use Rattle.history.specs.History.{actualOf, basisWith, AcceptedWith}
+use Rattle.basis.specs.Basis.{Basis, basisOf, ConvergenceLimits, Limited}
+use Rattle.history.specs.History.{actualOf, basisWith}
+use Rattle.history.proofs.Acceptance.{accepted-with}
 use Rattle.basis.specs.Outcome.{value, refused, refusal}
 use Rattle.basis.specs.declared.Convergence.{Convergence}
 use Rattle.component.specs.Component.{componentOf}
-use Rattle.improvement.specs.Improvement.{additionOf, componentsOf, projectedOf, isActual, improvementOf, firstYear, usable, improvementNeeded}
+use Rattle.improvement.specs.Improvement.{additionOf, birthTerms, componentsOf, projectedOf, isActual, improvementOf, firstYear, improvementLimit, usable, improvementNeeded}
+use Rattle.improvement.specs.Answered.{ActualAnswered}
 
 -- ---- the addition and the improvement
 pub addition-after : (b : Basis) (year : ℕ) → b .foundation < year → additionOf b year ≡ b .addition
@@ -30,8 +32,11 @@ addition-at b year h = rw (le-ltb (b .foundation) year h)
 pub limits-of : {found terms : Convergence} → found ≡ terms → ConvergenceLimits terms → ConvergenceLimits found
 limits-of e h = rw e h
 
+pub birth-limited : (b : Basis) (age year : ℕ) → Limited b → 20 ≤ age → age ≤ 150 → 1992 ≤ year → year ≤ 2130 → ConvergenceLimits (birthTerms b age year)
+birth-limited b age year l low high from upto = l .byBirthYear _ (omega arith) (omega arith)
+
 pub projected-is : (b : Basis) (age year : ℕ) {attained birth : Convergence} {foundation : ℕ} {addition : ℤ} →
-    attained ≡ b .byAge age → birth ≡ b .byBirthYear (year - age) → foundation ≡ b .foundation → addition ≡ additionOf b year →
+    attained ≡ b .byAge age → birth ≡ birthTerms b age year → foundation ≡ b .foundation → addition ≡ additionOf b year →
     round (componentOf attained (year - foundation) +ᶠ componentOf birth (year - foundation)) +ℤ addition ≡ projectedOf b age year
 unfolding projectedOf componentsOf
 projected-is b age year e g h k = rw (e, g, h, k) refl
@@ -114,26 +119,17 @@ module _ (b : Basis) (year : ℕ) where
           let z : _≡_ {A = Bool} true false = sym (is-actual (omega arith) (omega arith)) ∙ h in let w : _≡_ {A = ℕ} 0 1 = cc in absurd (omega arith)
       by (yes l) (no m) = let g = rw (first-from b (omega arith)) at f in omega arith
 
-module _ (b : Basis) (age year : ℕ) where
-  pub actual-year : isActual b year ≡ true → improvementOf b age year ≡ b .actual age year
-  unfolding improvementOf
-  actual-year h = rw h
-
-  pub projected-year : isActual b year ≡ false → improvementOf b age year ≡ projectedOf b age year
-  unfolding improvementOf
-  projected-year h = rw h
-
 -- ---- 9: the code's two tests are the one of the definition
-pub usable-high : (i : ℤ) → leZ (negsuc 499_999_999) i ≡ true → leZ i (pos 500_000_000) ≡ usable i
-usable-high (pos n) h = refl
-usable-high (negsuc n) h = sym (le-leb (suc n) 500_000_000 (omega (arith, leb-true n 499_999_999 h)))
+pub usable-high : (l : ℕ) (i : ℤ) → leZ (negsuc l) i ≡ true → leZ i (pos (suc l)) ≡ leb (natAbs i) (suc l)
+usable-high l (pos n) h = refl
+usable-high l (negsuc n) h = sym (le-leb (suc n) (suc l) (omega (arith, leb-true n l h)))
 
-pub usable-low : (i : ℤ) → leZ (negsuc 499_999_999) i ≡ false → leZ (negsuc 499_999_999) i ≡ usable i
-usable-low (pos n) h = let z : _≡_ {A = ℕ} 0 1 = cc in absurd (omega arith)
-usable-low (negsuc n) h = h ∙ sym (lt-leb (suc n) 500_000_000 (omega (arith, leb-false n 499_999_999 h)))
+pub usable-low : (l : ℕ) (i : ℤ) → leZ (negsuc l) i ≡ false → leZ (negsuc l) i ≡ leb (natAbs i) (suc l)
+usable-low l (pos n) h = let z : _≡_ {A = ℕ} 0 1 = cc in absurd (omega arith)
+usable-low l (negsuc n) h = h ∙ sym (lt-leb (suc n) (suc l) (omega (arith, leb-false n l h)))
 
-pub usable-abs : (i : ℤ) → usable i ≡ true → natAbs i ≤ 500_000_000
-usable-abs i h = leb-true (natAbs i) 500_000_000 h
+pub usable-abs : (i : ℤ) → usable i ≡ true → natAbs i ≤ improvementLimit
+usable-abs i h = leb-true (natAbs i) improvementLimit h
 
 module _ (age year : ℕ) (i : ℤ) where
   pub needed-usable : usable i ≡ true → improvementNeeded age year i ≡ value i
@@ -154,9 +150,13 @@ module _ (age year : ℕ) (i : ℤ) where
       by false k = let z : _≡_ {A = ℕ} 0 1 = cc in absurd (omega arith)
 
 -- an actual improvement of an accepted history is never refused by 9
-pub actual-answered : (run history : List ℕ) (age year : ℕ) → AcceptedWith run history → 20 ≤ age → age ≤ 150 → basisOf run .base < year → year ≤ basisOf run .foundation
-    → improvementNeeded age year (improvementOf (basisWith run history) age year) ≡ value (actualOf (basisOf run) history age year)
-actual-answered run history age year ok low high after upto =
-    let b = basisWith run history in
-    rw (actual-year b age year (is-actual b year after upto))
-    (needed-usable age year (actualOf (basisOf run) history age year) (le-leb _ 500_000_000 (ok .actual age year low high after upto)))
+pub actual-answered : (run history : List ℕ) → ActualAnswered run history
+unfolding improvementOf
+actual-answered run history =
+    record {
+      answered = λ age year ok low high after upto.
+          let b = basisWith run history in
+          let e : isActual b year ≡ true = is-actual b year after upto in
+          let small = accepted-with run history ok .actual age year low high after upto in
+          rw e (needed-usable age year (actualOf (basisOf run) history age year) (le-leb (natAbs (actualOf (basisOf run) history age year)) improvementLimit (omega (arith, small))));
+    }

@@ -6,6 +6,7 @@ use lib.IntN.{ℤ, pos, natAbs, _+ℤ_}
 use Rattle.arithmetic.specs.Fraction.{Fraction, _+ᶠ_, round}
 use Rattle.basis.specs.Outcome.{Outcome, value, refused, refusal}
 use Rattle.basis.specs.Basis.{Basis}
+use Rattle.basis.specs.declared.Convergence.{Convergence}
 use Rattle.component.specs.Component.{componentOf}
 
 -- ---- the projection's, at an age in a year from F to 2130
@@ -13,10 +14,14 @@ use Rattle.component.specs.Component.{componentOf}
 unfoldable pub additionOf : Basis → ℕ → ℤ
 additionOf b year = cond (ltb (b .foundation) year) (b .addition) (pos 0)
 
--- the two components' exact sum; the birth year is the calendar year less the age
+-- the terms of the birth year, which is the calendar year less the age
+abbrev pub birthTerms : Basis → ℕ → ℕ → Convergence
+birthTerms b age year = b .byBirthYear (year - age)
+
+-- the two components' exact sum
 unfoldable pub componentsOf : Basis → ℕ → ℕ → Fraction
 componentsOf b age year =
-    componentOf (b .byAge age) (year - b .foundation) +ᶠ componentOf (b .byBirthYear (year - age)) (year - b .foundation)
+    componentOf (b .byAge age) (year - b .foundation) +ᶠ componentOf (birthTerms b age year) (year - b .foundation)
 
 -- it is rounded once; plus the constant addition
 unfoldable pub projectedOf : Basis → ℕ → ℕ → ℤ
@@ -35,9 +40,12 @@ improvementOf b age year = cond (isActual b year) (b .actual age year) (projecte
 unfoldable pub firstYear : Basis → ℕ
 firstYear b = cond (ltb (b .base) (b .foundation)) (b .base + 1) (b .foundation)
 
-abbrev pub usable : ℤ → Bool
-usable improvement = leb (natAbs improvement) 500_000_000
-
 -- 9: an improvement needed for the answer is beyond ±500,000,000
+abbrev pub improvementLimit : ℕ
+improvementLimit = 500_000_000
+
+abbrev pub usable : ℤ → Bool
+usable improvement = leb (natAbs improvement) improvementLimit
+
 unfoldable pub improvementNeeded : ℕ → ℕ → ℤ → Outcome ℤ
 improvementNeeded age year improvement = cond (usable improvement) (value improvement) (refused (refusal 9 age year))

@@ -8,7 +8,7 @@ ghost use Rattle.basis.specs.Basis.{basisOf, Accepted, ConvergenceLimits};
 ghost use Rattle.history.specs.History.{basisWith, AcceptedWith};
 ghost use Rattle.basis.specs.Outcome.{signedMeaning};
 ghost use Rattle.component.specs.Component.{componentOf};
-ghost use Rattle.improvement.specs.Improvement.{additionOf, projectedOf, isActual, firstYear, improvementOf, improvementNeeded, usable};
+ghost use Rattle.improvement.specs.Improvement.{additionOf, birthTerms, projectedOf, isActual, firstYear, improvementOf, improvementNeeded, usable};
 use basis::Convergence;
 use basis::Refusal;
 use basis::SignedAnswer;
@@ -37,13 +37,21 @@ fn improvement_from(attained: Convergence, birth: Convergence, years: u32, addit
     rounded + arithmetic::wide(addition)
 }
 
+// The terms of the birth year, which is the calendar year less the age.
+fn birth_terms(run: &[u8], age: u32, year: u32) -> Convergence
+    requires { ⌜ Accepted (now run) × (20 ≤ age) × (age ≤ 150) × (basisOf (now run) .foundation ≤ year) × (year ≤ 2130) ⌝ }
+    ensures { λ r. ⌜ r ≡ birthTerms (basisOf (now (run .entry))) age year ⌝ }
+{
+    basis::fields::birth_year_terms(run, year - age)
+}
+
 // The projection's improvement at an age, whose terms the caller has read, in a year from F to 2130.
 fn projected_at(run: &[u8], terms: Convergence, age: u32, year: u32) -> i64
     requires { ⌜ Accepted (now run) × (20 ≤ age) × (age ≤ 150) × (terms ≡ basisOf (now run) .byAge age) × (basisOf (now run) .foundation ≤ year) × (year ≤ 2130) ⌝ }
     ensures { λ r. ⌜ r ≡ projectedOf (basisOf (now (run .entry))) age year ⌝ }
 {
     let years = year - basis::fields::foundation_year(run);
-    let birth = basis::fields::birth_year_terms(run, year - age);
+    let birth = birth_terms(run, age, year);
     improvement_from(terms, birth, years, addition_in(run, year))
 }
 

@@ -18,18 +18,18 @@ use Rattle.enquiry.specs.Enquiry.{valuationCheck}
 use Rattle.question.proofs.Passed.{in-range, age-passed}
 use Rattle.survivorship.specs.Survivorship.{survivorsAfterYear}
 use Rattle.lifeline.specs.declared.Status.the-variants as status
-use Rattle.lifeline.specs.Lifeline.{begun, startAt, standingYearCheck, standingCheck, survivorsCheck, stepCheck, moved, yearLater, lived, stepAt}
+use Rattle.lifeline.specs.Lifeline.{begun, startAt, lastStandingYear, standingYearCheck, standingCheck, survivorsCheck, stepCheck, moved, yearLater, lived, stepAt}
 
-standing-year-passed : (base age year : ℕ) → standingYearCheck base age year ≡ Passed → (base ≤ year) × (year ≤ 2110 + age)
+standing-year-passed : (base age year : ℕ) → standingYearCheck base age year ≡ Passed → (base ≤ year) × (year ≤ lastStandingYear age)
 unfolding standingYearCheck
-standing-year-passed base age year h = in-range base (2110 + age) year (unless-passed (inRange base (2110 + age) year) (refusal 7 year 0) h)
+standing-year-passed base age year h = in-range base (lastStandingYear age) year (unless-passed (inRange base (lastStandingYear age) year) (refusal 7 year 0) h)
 
 survivors-passed : (survivors : ℕ) → survivorsCheck survivors ≡ Passed → survivors ≤ U
 unfolding survivorsCheck
 survivors-passed survivors h = leb-true survivors U (unless-passed (leb survivors U) (refusal 5 4554 0) h)
 
 pub step-passed : (run history : List ℕ) (age year survivors : ℕ) → stepCheck run history age year survivors ≡ Passed
-    → AcceptedWith run history × (20 ≤ age) × (age ≤ 150) × (basisWith run history .base ≤ year) × (year ≤ 2110 + age) × (survivors ≤ U)
+    → AcceptedWith run history × (20 ≤ age) × (age ≤ 150) × (basisWith run history .base ≤ year) × (year ≤ lastStandingYear age) × (survivors ≤ U)
 unfolding standingCheck
 step-passed run history age year survivors h =
     let base = basisWith run history .base in

@@ -24,27 +24,10 @@ use Rattle.survivorship.proofs.Survivors.{survivors-first, survivors-next, surv
 use Rattle.lifeline.specs.declared.Status.the-variants as status
 use Rattle.lifeline.specs.declared.Stand.{Stand}
 use Rattle.lifeline.specs.declared.Moved.{Moved}
-use Rattle.lifeline.specs.Lifeline.{standingYearCheck, survivorsCheck, standingCheck, stepCheck, moved, yearLater, lived, unlessRefused, stepAt}
+use Rattle.lifeline.specs.Lifeline.{lastStandingYear, standingYearCheck, survivorsCheck, standingCheck, stepCheck, moved, yearLater, lived, unlessRefused, stepAt}
 use Rattle.lifeline.specs.Lifeline.{standAt, stepFrom, standBegun, standMoved, standAfter}
+use Rattle.lifeline.specs.Survivorship.{Advances, IsCohortSurvivorship}
 use Rattle.lifeline.proofs.Standing.{start-passed, step-lived}
-
--- the first n steps from a start have all advanced
-abbrev pub Advances : List ℕ → List ℕ → ℕ → ℕ → ℕ → Type 0
-Advances run history age year n = (k : ℕ) → k < n → stepFrom run history (standAfter run history age year k) .status ≡ status.Advanced
-
--- ---- one step
--- a step that advanced: the year's survivors were answered
-advanced : (run history : List ℕ) (age year s : ℕ) → stepAt run history age year s .status ≡ status.Advanced
-    → (t : ℤ) × (survivorsAfterYear (basisWith run history) age year (pos s) ≡ value t) × (stepAt run history age year s ≡ moved (age + 1) (year + 1) (natAbs t) status.Advanced)
-unfolding stepAt lived
-advanced run history age year s h = by (stepCheck run history age year s) (eqb age 150) (survivorsAfterYear (basisWith run history) age year (pos s)) h
-  where
-    by : (c : Check) (e : Bool) (o : Outcome ℤ) → unlessRefused age year s c (cond e (moved age year s status.Ended) (yearLater age year s o)) .status ≡ status.Advanced
-        → (t : ℤ) × (o ≡ value t) × (unlessRefused age year s c (cond e (moved age year s status.Ended) (yearLater age year s o)) ≡ moved (age + 1) (year + 1) (natAbs t) status.Advanced)
-    by Passed false (value t) g = (t, refl, refl)
-    by Passed false (refused r) g = let z : _≡_ {A = ℕ} 0 1 = cc in absurd (omega arith)
-    by Passed true o g = let z : _≡_ {A = ℕ} 0 1 = cc in absurd (omega arith)
-    by (Refused r) e o g = let z : _≡_ {A = ℕ} 0 1 = cc in absurd (omega arith)
 
 stand-same : {a b y z s t : ℕ} → a ≡ b → y ≡ z → s ≡ t → standAt a y s ≡ standAt b z t
 stand-same e f g = rw (e, f, g) refl
@@ -59,19 +42,24 @@ module _ (run history : List ℕ) (age year : ℕ) where
   unfolding standAfter
   at-start h = ap standBegun (start-passed run history age year h)
 
-  -- as long as each step advances, the lifeline stands n years on with the survivors after n years
-  pub steps-are-survivorship : (n : ℕ) → valuationCheck run history age 0 year ≡ Passed → Advances run history age year n
+  -- ---- as long as each step advances, the lifeline stands n years on with the survivors after n years
+  -- a step that advanced moves a year on, with the year's survivors
+  abbrev MovesOn : Type 0
+  MovesOn = (age year s : ℕ) → stepAt run history age year s .status ≡ status.Advanced
+      → (t : ℤ) × (survivorsAfterYear (basisWith run history) age year (pos s) ≡ value t) × (stepAt run history age year s ≡ moved (age + 1) (year + 1) (natAbs t) status.Advanced)
+
+  stands-after : MovesOn → (n : ℕ) → valuationCheck run history age 0 year ≡ Passed → Advances run history age year n
       → (s : ℕ) × (standAfter run history age year n ≡ standAt (age + n) (year + n) s) × (survivorsOf (basisWith run history) Cohort age year n ≡ value (pos s))
-  steps-are-survivorship zero h a = (U, at-start h ∙ stand-same (omega arith) (omega arith) refl, survivors-first (basisWith run history) Cohort age year)
-  steps-are-survivorship (suc n) h a =
-      let p = steps-are-survivorship n h (λ k l. a k (omega arith)) in
-      let went = advanced run history (age + n) (year + n) (p .0) (ap (λ (x : Stand). stepFrom run history x .status) (sym (p .1)) ∙ a n (omega arith)) in
+  stands-after moves-on zero h a = (U, at-start h ∙ stand-same (omega arith) (omega arith) refl, survivors-first (basisWith run history) Cohort age year)
+  stands-after moves-on (suc n) h a =
+      let p = stands-after moves-on n h (λ k l. a k (omega arith)) in
+      let went = moves-on (age + n) (year + n) (p .0) (ap (λ (x : Stand). stepFrom run history x .status) (sym (p .1)) ∙ a n (omega arith)) in
       let next = survivors-next (basisWith run history) Cohort age year n (pos (p .0)) (value (went .0)) refl (p .2) (sym (went .1)) in
       let m = survivors-natural (basisWith run history) Cohort age year (suc n) (went .0) next in
       (m .0, after-suc n _ (p .1) ∙ ap standMoved (went .2) ∙ stand-same (omega arith) (omega arith) (ap natAbs (m .1)), next ∙ ap value (m .1))
 
   -- ---- and as long as survivorship is answered each step advances
-  -- what an enquiry for n years checks lets a lifeline start, and step before the n years are over
+  -- what an enquiry for n years checks lets a lifeline start
   start-passes : (n : ℕ) → valuationCheck run history age n year ≡ Passed → valuationCheck run history age 0 year ≡ Passed
   unfolding defermentCheck questionCheck
   start-passes n h =
@@ -80,26 +68,16 @@ module _ (run history : List ℕ) (age year : ℕ) where
       let v = valuation-passed run history age n year h in
       rw (p .0, q .0, q .2, le-leb (age + 0) 150 (omega (arith, v .2))) refl
 
-  step-passes : (n k s : ℕ) → valuationCheck run history age n year ≡ Passed → k < n → s ≤ U → stepCheck run history (age + k) (year + k) s ≡ Passed
-  unfolding ageCheck standingYearCheck survivorsCheck standingCheck
-  step-passes n k s h l u =
-      let v = valuation-passed run history age n year h in
-      rw (
-        both-passed (basisCheck run history) (questionCheck (basisWith run history .base) age n year) h .0,
-        le-leb 20 (age + k) (omega (arith, v .1)),
-        le-leb (age + k) 150 (omega (arith, v .2)),
-        le-leb (basisWith run history .base) (year + k) (omega (arith, v .3)),
-        le-leb (year + k) (2110 + (age + k)) (omega (arith, v .1, v .4)),
-        le-leb s U u,
-      )
-      refl
+  -- its steps before the n years are over are let through
+  abbrev LetThrough : ℕ → Type 0
+  LetThrough n = (k s : ℕ) → k < n → s ≤ U → stepCheck run history (age + k) (year + k) s ≡ Passed
 
   -- a step before the n years are over is the next year of survivorship, answered or refused
-  pub step-is-next-year : (n k s : ℕ) → valuationCheck run history age n year ≡ Passed → k < n → survivorsOf (basisWith run history) Cohort age year k ≡ value (pos s)
+  step-is-next-year : (n k s : ℕ) → valuationCheck run history age n year ≡ Passed → LetThrough n → k < n → survivorsOf (basisWith run history) Cohort age year k ≡ value (pos s)
       → stepAt run history (age + k) (year + k) s ≡ yearLater (age + k) (year + k) s (survivorsOf (basisWith run history) Cohort age year (suc k))
-  step-is-next-year n k s h l e =
+  step-is-next-year n k s h let-through l e =
       let v = valuation-passed run history age n year h in
-      step-lived run history (age + k) (year + k) s (step-passes n k s h l (survivors-small (basisWith run history) Cohort age year k s e)) (ne-eqb (age + k) 150 (λ g. omega (arith, v .2)))
+      step-lived run history (age + k) (year + k) s (let-through k s l (survivors-small (basisWith run history) Cohort age year k s e)) (ne-eqb (age + k) 150 (λ g. omega (arith, v .2)))
       ∙ ap (yearLater (age + k) (year + k) s) (sym (survivors-next (basisWith run history) Cohort age year k (pos s) (survivorsAfterYear (basisWith run history) (age + k) (year + k) (pos s)) refl e refl))
 
   and-one : (k : ℕ) → Advances run history age year k → stepFrom run history (standAfter run history age year k) .status ≡ status.Advanced → Advances run history age year (suc k)
@@ -110,13 +88,13 @@ module _ (run history : List ℕ) (age year : ℕ) where
       by (no g) = let e : j ≡ k = omega arith in ap (λ (i : ℕ). stepFrom run history (standAfter run history age year i) .status) e ∙ last
 
   -- k of n years
-  advances-to : (n k s : ℕ) → valuationCheck run history age n year ≡ Passed → k ≤ n → survivorsOf (basisWith run history) Cohort age year k ≡ value (pos s)
+  advances-to : (n k s : ℕ) → valuationCheck run history age n year ≡ Passed → LetThrough n → k ≤ n → survivorsOf (basisWith run history) Cohort age year k ≡ value (pos s)
       → Advances run history age year k × (standAfter run history age year k ≡ standAt (age + k) (year + k) s)
-  advances-to n zero s h l e =
+  advances-to n zero s h let-through l e =
       let first = survivors-first (basisWith run history) Cohort age year in
       let same : U ≡ s = cc in
       ((λ k g. absurd (omega arith)), at-start (start-passes n h) ∙ stand-same (omega arith) (omega arith) same)
-  advances-to n (suc k) s h l e = by (survivorsOf (basisWith run history) Cohort age year k) refl (λ t. advances-to n k t h (omega arith))
+  advances-to n (suc k) s h let-through l e = by (survivorsOf (basisWith run history) Cohort age year k) refl (λ t. advances-to n k t h let-through (omega arith))
     where
       by : (o : Outcome ℤ) → survivorsOf (basisWith run history) Cohort age year k ≡ o
           → ((t : ℕ) → survivorsOf (basisWith run history) Cohort age year k ≡ value (pos t) → Advances run history age year k × (standAfter run history age year k ≡ standAt (age + k) (year + k) t))
@@ -128,13 +106,48 @@ module _ (run history : List ℕ) (age year : ℕ) where
           let m = survivors-natural (basisWith run history) Cohort age year k t f in
           let came = f ∙ ap value (m .1) in
           let p = before (m .0) came in
-          let went = step-is-next-year n k (m .0) h (omega arith) came ∙ ap (yearLater (age + k) (year + k) (m .0)) e in
+          let went = step-is-next-year n k (m .0) h let-through (omega arith) came ∙ ap (yearLater (age + k) (year + k) (m .0)) e in
           let last = ap (λ (x : Stand). stepFrom run history x .status) (p .1) ∙ ap (λ (x : Moved). x .status) went in
           (and-one k (p .0) last, after-suc k _ (p .1) ∙ ap standMoved went ∙ stand-same (omega arith) (omega arith) refl)
 
-  -- an answered survivorship after n years is where the lifeline stands after n steps, all of which advanced
-  pub survivorship-is-steps : (n s : ℕ) → survivorshipEnquiry run history Cohort age n year ≡ value (pos s) → Advances run history age year n × (standAfter run history age year n ≡ standAt (age + n) (year + n) s)
-  unfolding survivorshipEnquiry
-  survivorship-is-steps n s h =
-      let p = checked-value (valuationCheck run history age n year) (survivorsOf (basisWith run history) Cohort age year n) (pos s) h in
-      advances-to n n s (p .0) (omega arith) (p .1)
+  -- ---- both ways round
+  pub is-cohort-survivorship : IsCohortSurvivorship run history age year
+  unfolding survivorshipEnquiry stepAt lived ageCheck standingYearCheck survivorsCheck standingCheck
+  is-cohort-survivorship =
+      record {
+        stepsAreSurvivorship = stands-after moves-on;
+        survivorshipIsSteps = λ n s h.
+            let p = checked-value (valuationCheck run history age n year) (survivorsOf (basisWith run history) Cohort age year n) (pos s) h in
+            advances-to n n s (p .0) (let-through n (p .0)) (omega arith) (p .1);
+      }
+    where
+      moves-on : MovesOn
+      moves-on age year s h = by (stepCheck run history age year s) (eqb age 150) (survivorsAfterYear (basisWith run history) age year (pos s)) h
+        where
+          by : (c : Check) (e : Bool) (o : Outcome ℤ) → unlessRefused age year s c (cond e (moved age year s status.Ended) (yearLater age year s o)) .status ≡ status.Advanced
+              → (t : ℤ) × (o ≡ value t) × (unlessRefused age year s c (cond e (moved age year s status.Ended) (yearLater age year s o)) ≡ moved (age + 1) (year + 1) (natAbs t) status.Advanced)
+          by Passed false (value t) g = (t, refl, refl)
+          by Passed false (refused r) g = let z : _≡_ {A = ℕ} 0 1 = cc in absurd (omega arith)
+          by Passed true o g = let z : _≡_ {A = ℕ} 0 1 = cc in absurd (omega arith)
+          by (Refused r) e o g = let z : _≡_ {A = ℕ} 0 1 = cc in absurd (omega arith)
+
+      let-through : (n : ℕ) → valuationCheck run history age n year ≡ Passed → LetThrough n
+      let-through n h k s l u =
+          let v = valuation-passed run history age n year h in
+          rw (
+            both-passed (basisCheck run history) (questionCheck (basisWith run history .base) age n year) h .0,
+            le-leb 20 (age + k) (omega (arith, v .1)),
+            le-leb (age + k) 150 (omega (arith, v .2)),
+            le-leb (basisWith run history .base) (year + k) (omega (arith, v .3)),
+            le-leb (year + k) (lastStandingYear (age + k)) (omega (arith, v .1, v .4)),
+            le-leb s U u,
+          )
+          refl
+
+  pub steps-are-survivorship : (n : ℕ) → valuationCheck run history age 0 year ≡ Passed → Advances run history age year n
+      → (s : ℕ) × (standAfter run history age year n ≡ standAt (age + n) (year + n) s) × (survivorsOf (basisWith run history) Cohort age year n ≡ value (pos s))
+  steps-are-survivorship = is-cohort-survivorship .stepsAreSurvivorship
+
+  pub survivorship-is-steps : (n s : ℕ) → survivorshipEnquiry run history Cohort age n year ≡ value (pos s)
+      → Advances run history age year n × (standAfter run history age year n ≡ standAt (age + n) (year + n) s)
+  survivorship-is-steps = is-cohort-survivorship .survivorshipIsSteps

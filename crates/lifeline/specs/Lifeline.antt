@@ -34,9 +34,13 @@ unfoldable pub startAt : List ℕ → List ℕ → ℕ → ℕ → Begun
 startAt run history age year = begunAt age year (valuationCheck run history age 0 year)
 
 -- ---- what a step checks again, in its own order
+-- the last year at an age: that of the birth year 2110
+abbrev pub lastStandingYear : ℕ → ℕ
+lastStandingYear age = 2110 + age
+
 -- 7: before B, or year − age after 2110; a year after 2130 may stand
 unfoldable pub standingYearCheck : ℕ → ℕ → ℕ → Check
-standingYearCheck base age year = unless (inRange base (2110 + age) year) (refusal 7 year 0)
+standingYearCheck base age year = unless (inRange base (lastStandingYear age) year) (refusal 7 year 0)
 
 -- 5: survivors above U, places 4554 and 0
 unfoldable pub survivorsCheck : ℕ → Check

@@ -6,7 +6,7 @@ ghost use Rattle.basis.specs.Basis.{basisOf, Accepted};
 ghost use Rattle.history.specs.History.{basisWith, AcceptedWith};
 ghost use Rattle.question.specs.Question.{inRange};
 ghost use Rattle.survivorship.specs.Survivorship.{survivorsAfterYear};
-ghost use Rattle.lifeline.specs.Lifeline.{startAt, standingYearCheck, standingCheck, survivorsCheck, stepCheck, yearLater, stepAt};
+ghost use Rattle.lifeline.specs.Lifeline.{startAt, lastStandingYear, standingYearCheck, standingCheck, survivorsCheck, stepCheck, yearLater, stepAt};
 use crate::Begun;
 use crate::Moved;
 use crate::Status;
@@ -38,7 +38,7 @@ pub fn start_at(run: &[u8], history: &[u8], age: u32, year: u32) -> Begun
 
 // From B on, with a birth year up to 2110. The sum is made in 64 bits, where it cannot wrap.
 fn is_standing_year(base: u32, age: u32, year: u32) -> bool
-    ensures { λ r. ⌜ r ≡ inRange base (2110 + age) year ⌝ }
+    ensures { λ r. ⌜ r ≡ inRange base (lastStandingYear age) year ⌝ }
 {
     base <= year && year as u64 <= 2110 + age as u64
 }
@@ -133,11 +133,11 @@ pub fn step_at(run: &[u8], history: &[u8], age: u32, year: u32, survivors: u64) 
                 year_later(run, history, age, year, survivors)
             }
         }
-        Check::Refused(r) => Moved {
+        Check::Refused(x) => Moved {
             age: age,
             year: year,
             survivors: survivors,
-            status: Status::Refused(r),
+            status: Status::Refused(x),
         },
     }
 }

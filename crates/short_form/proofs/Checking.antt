@@ -3,12 +3,13 @@
 use mathlib.Core.Path.{_≡_, refl, sym, _∙_}
 use mathlib.Core.Bool.{Bool}
 use mathlib.Core.List.{List}
-use Prim.Native.Nat.{ℕ, _≤_}
+use Prim.Native.Nat.{ℕ, _-_, _≤_}
 use lib.ListN.{length}
 use lib.IntN.{ℤ, pos, negℤ, natAbs}
 use Rattle.basis.specs.declared.Refusal.{Refusal}
 use Rattle.basis.specs.declared.Check.{Check}
 use Rattle.basis.specs.declared.Check.the-variants.{Passed, Refused}
+use Rattle.basis.specs.Basis.{Accepted}
 use Rattle.basis.specs.Outcome.{refusal, unless, firstOf}
 use Rattle.field_check.specs.Field.{between}
 use Rattle.run_check.specs.Run.{runCheck}
@@ -17,22 +18,27 @@ use Rattle.field_check.proofs.Limits.{opened, size}
 use Rattle.run_check.proofs.Acceptance.{accepted}
 use Rattle.lent.specs.Lent.{roomCheck}
 use Rattle.lent.proofs.Lent.{room-passed}
-use Rattle.short_form.specs.ShortForm.{shortFormCheck}
+use Rattle.short_form.specs.ShortForm.{rateLimit, shortFormCheck}
 
 module _ (run : List ℕ) (rate : ℤ) where
   pub run-refused : (c : Check) {r : Refusal} → c ≡ runCheck run → c ≡ Refused r → c ≡ shortFormCheck run rate
   unfolding shortFormCheck
   run-refused c e f = e ∙ sym (first-stands (runCheck run) _ (sym e ∙ f))
 
-  pub run-passed : (t : Bool) → runCheck run ≡ Passed → t ≡ between (negℤ (pos 200_000_000)) (pos 200_000_000) rate
+  pub run-passed : (t : Bool) → runCheck run ≡ Passed → t ≡ between (negℤ (pos rateLimit)) (pos rateLimit) rate
       → unless t (refusal 5 1078 0) ≡ shortFormCheck run rate
   unfolding shortFormCheck
   run-passed t e f = rw (e, f) refl
 
-  pub through : (out : List ℕ) → firstOf (roomCheck 4554 out) (shortFormCheck run rate) ≡ Passed
-      → (length run ≡ 4554) × (natAbs rate ≤ 200_000_000) × (4554 ≤ length out)
+  pub passed : shortFormCheck run rate ≡ Passed → Accepted run × (natAbs rate ≤ rateLimit)
   unfolding shortFormCheck
+  passed h =
+      let e = both-passed (runCheck run) _ h in
+      (accepted run (e .0), size (rateLimit - 1) rate (opened (negℤ (pos rateLimit)) (pos rateLimit) rate (unless-passed _ _ (e .1))))
+
+  pub through : (out : List ℕ) → firstOf (roomCheck 4554 out) (shortFormCheck run rate) ≡ Passed
+      → (length run ≡ 4554) × (natAbs rate ≤ rateLimit) × (4554 ≤ length out)
   through out h =
       let p = room-passed 4554 out (shortFormCheck run rate) h in
-      let e = both-passed (runCheck run) _ (p .1) in
-      (accepted run (e .0) .size, size 199_999_999 rate (opened (negℤ (pos 200_000_000)) (pos 200_000_000) rate (unless-passed _ _ (e .1))), p .0)
+      let e = passed (p .1) in
+      (e .0 .size, e .1, p .0)

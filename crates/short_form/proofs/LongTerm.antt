@@ -37,9 +37,9 @@ module _ (rate : ℤ) (age : ℕ) where
 pub share-most : (age : ℕ) → shareOf age ≤ 30
 share-most age = omega arith
 
-module _ (rate : ℤ) (age : ℕ) (h : natAbs rate ≤ 200_000_000) where
-  pub product-size : natAbs (rate *ℤ pos (shareOf age)) ≤ 200_000_000 * 30
+module _ (rate : ℤ) (age limit : ℕ) (h : natAbs rate ≤ limit) where
+  pub product-size : natAbs (rate *ℤ pos (shareOf age)) ≤ limit * 30
   product-size = rw (natAbs-mul rate (pos (shareOf age))) (mul-le-mul h (share-most age))
 
-  pub long-term-size : natAbs (longTermOf rate age) ≤ 200_000_000
-  long-term-size = round-abs-le (rate *ℤ pos (shareOf age)) 30 200_000_000 (omega arith) product-size
+  pub long-term-size : natAbs (longTermOf rate age) ≤ limit
+  long-term-size = round-abs-le (rate *ℤ pos (shareOf age)) 30 limit (omega arith) product-size

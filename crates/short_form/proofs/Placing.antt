@@ -9,7 +9,7 @@ use lib.IntN.{ℤ}
 use Rattle.little_endian.specs.Bytes.{i32Bytes}
 use Rattle.lent.specs.Lent.{placed}
 use Rattle.lent.proofs.Lent.{placed-none, then, then-length}
-use Rattle.short_form.specs.ShortForm.{longTermOf, longTermRates, periods, proportions, agesOf, birthYearsOf, shortFormOf}
+use Rattle.short_form.specs.ShortForm.{everyPeriod, everyProportion, longTermOf, longTermRates, periods, proportions, agesOf, birthYearsOf, shortFormOf}
 
 -- four parts
 pub four : (out a b c d : List ℕ) (at at₁ at₂ at₃ : ℕ) (p q r s : List ℕ)
@@ -57,8 +57,8 @@ module _ (run out a b c d : List ℕ) (long : length run ≡ 4554) (room : 4554 
   ages-placed rate =
       let p = length-take-le 1078 run (omega arith) in
       let q = length-rates rate 20 131 in
-      let t = repeated 131 20 in
-      let s = repeated 131 50 in
+      let t = repeated 131 everyPeriod in
+      let s = repeated 131 everyProportion in
       four out a b c d 0 1078 1602 1733 (take 1078 run) (longTermRates rate 20 131) (periods 131) (proportions 131)
       (omega arith) (omega arith) (omega arith) (omega arith)
 
@@ -68,8 +68,8 @@ module _ (run out a b c d : List ℕ) (long : length run ≡ 4554) (room : 4554 
   birth-years-placed =
       let p : length (take 1076 (drop 1864 run)) ≡ 1076 = rw (length-take, length-drop) (omega arith) in
       let q = repeated 1076 0 in
-      let t = repeated 269 20 in
-      let s = repeated 269 50 in
+      let t = repeated 269 everyPeriod in
+      let s = repeated 269 everyProportion in
       four out a b c d 1864 2940 4016 4285 (take 1076 (drop 1864 run)) (replicate 1076 0) (periods 269) (proportions 269)
       (omega arith) (omega arith) (omega arith) (omega arith)
 

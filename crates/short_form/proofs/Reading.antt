@@ -9,7 +9,7 @@ use lib.Seq.{getD-append-add, getD-take, getD-drop, length-take-le}
 use lib.IntN.{ℤ, pos, natAbs}
 use Rattle.little_endian.specs.Bytes.{byteAt, u16At, u32At, signed32, i32At, i32Bytes}
 use Rattle.little_endian.proofs.Bytes.{i32-back}
-use Rattle.short_form.specs.ShortForm.{longTermOf, longTermRates, periods, proportions, agesOf, birthYearsOf, shortFormOf}
+use Rattle.short_form.specs.ShortForm.{everyPeriod, everyProportion, longTermOf, longTermRates, periods, proportions, agesOf, birthYearsOf, shortFormOf}
 use Rattle.short_form.proofs.LongTerm.{long-term-size}
 use Rattle.short_form.proofs.Placing.{length-rates, repeated, length-ages}
 
@@ -74,11 +74,11 @@ module _ (run : List ℕ) (rate : ℤ) (long : length run ≡ 4554) where
 
   ages : Parts (agesOf run rate) (take 1078 run) (longTermRates rate 20 131) (periods 131) (proportions 131) 1078 524 131
   unfolding agesOf
-  ages = parts _ _ _ _ 1078 524 131 (length-take-le 1078 run (omega arith)) (length-rates rate 20 131) (repeated 131 20)
+  ages = parts _ _ _ _ 1078 524 131 (length-take-le 1078 run (omega arith)) (length-rates rate 20 131) (repeated 131 everyPeriod)
 
   birth-years : Parts (birthYearsOf run) (take 1076 (drop 1864 run)) (replicate 1076 0) (periods 269) (proportions 269) 1076 1076 269
   unfolding birthYearsOf
-  birth-years = parts _ _ _ _ 1076 1076 269 (rw (length-take, length-drop) (omega arith)) (repeated 1076 0) (repeated 269 20)
+  birth-years = parts _ _ _ _ 1076 1076 269 (rw (length-take, length-drop) (omega arith)) (repeated 1076 0) (repeated 269 everyPeriod)
 
   pub front-kept : (at : ℕ) → at < 1078 → byteAt (shortFormOf run rate) at ≡ byteAt run at
   front-kept at l = in-ages at (omega arith) ∙ ages .first at l ∙ getD-take 1078 run at 0 l
@@ -88,11 +88,11 @@ module _ (run : List ℕ) (rate : ℤ) (long : length run ≡ 4554) where
       let e : 1078 + 4 * i + j ≡ 1078 + (4 * i + j) = omega arith in
       rw e (in-ages (1078 + (4 * i + j)) (omega arith) ∙ ages .second (4 * i + j) (omega arith) ∙ rate-bytes rate 20 131 i j (4 * i + j) refl l m)
 
-  pub age-period : (i : ℕ) → i < 131 → byteAt (shortFormOf run rate) (1602 + i) ≡ 20
-  age-period i l = in-ages (1602 + i) (omega arith) ∙ ages .third i l ∙ getD-replicate 131 i 20 0 l
+  pub age-period : (i : ℕ) → i < 131 → byteAt (shortFormOf run rate) (1602 + i) ≡ everyPeriod
+  age-period i l = in-ages (1602 + i) (omega arith) ∙ ages .third i l ∙ getD-replicate 131 i everyPeriod 0 l
 
-  pub age-proportion : (i : ℕ) → i < 131 → byteAt (shortFormOf run rate) (1733 + i) ≡ 50
-  age-proportion i l = in-ages (1733 + i) (omega arith) ∙ ages .fourth i ∙ getD-replicate 131 i 50 0 l
+  pub age-proportion : (i : ℕ) → i < 131 → byteAt (shortFormOf run rate) (1733 + i) ≡ everyProportion
+  age-proportion i l = in-ages (1733 + i) (omega arith) ∙ ages .fourth i ∙ getD-replicate 131 i everyProportion 0 l
 
   birth-kept : (i : ℕ) → i < 1076 → byteAt (shortFormOf run rate) (1864 + i) ≡ byteAt run (1864 + i)
   birth-kept i l =
@@ -101,11 +101,11 @@ module _ (run : List ℕ) (rate : ℤ) (long : length run ≡ 4554) where
   birth-rate-byte : (i : ℕ) → i < 1076 → byteAt (shortFormOf run rate) (2940 + i) ≡ 0
   birth-rate-byte i l = in-birth-years (2940 + i) (1076 + i) (omega arith) ∙ birth-years .second i l ∙ getD-replicate 1076 i 0 0 l
 
-  pub birth-period : (i : ℕ) → i < 269 → byteAt (shortFormOf run rate) (4016 + i) ≡ 20
-  birth-period i l = in-birth-years (4016 + i) (2152 + i) (omega arith) ∙ birth-years .third i l ∙ getD-replicate 269 i 20 0 l
+  pub birth-period : (i : ℕ) → i < 269 → byteAt (shortFormOf run rate) (4016 + i) ≡ everyPeriod
+  birth-period i l = in-birth-years (4016 + i) (2152 + i) (omega arith) ∙ birth-years .third i l ∙ getD-replicate 269 i everyPeriod 0 l
 
-  pub birth-proportion : (i : ℕ) → i < 269 → byteAt (shortFormOf run rate) (4285 + i) ≡ 50
-  birth-proportion i l = in-birth-years (4285 + i) (2421 + i) (omega arith) ∙ birth-years .fourth i ∙ getD-replicate 269 i 50 0 l
+  pub birth-proportion : (i : ℕ) → i < 269 → byteAt (shortFormOf run rate) (4285 + i) ≡ everyProportion
+  birth-proportion i l = in-birth-years (4285 + i) (2421 + i) (omega arith) ∙ birth-years .fourth i ∙ getD-replicate 269 i everyProportion 0 l
 
   -- ---- and its numbers
   pub half-kept : (at : ℕ) → at < 1077 → u16At (shortFormOf run rate) at ≡ u16At run at
@@ -114,10 +114,10 @@ module _ (run : List ℕ) (rate : ℤ) (long : length run ≡ 4554) where
   pub word-kept : (at : ℕ) → at < 1075 → u32At (shortFormOf run rate) at ≡ u32At run at
   word-kept at l = same-word (shortFormOf run rate) run at at (λ j m. front-kept (at + j) (omega arith))
 
-  pub age-rate : (i : ℕ) → i < 131 → natAbs rate ≤ 200_000_000 → i32At (shortFormOf run rate) (1078 + 4 * i) ≡ longTermOf rate (20 + i)
+  pub age-rate : (i : ℕ) → i < 131 → natAbs rate < 2_147_483_648 → i32At (shortFormOf run rate) (1078 + 4 * i) ≡ longTermOf rate (20 + i)
   age-rate i l h =
       ap signed32 (same-word (shortFormOf run rate) (i32Bytes (longTermOf rate (20 + i))) (1078 + 4 * i) 0 (λ j m. rw zero-add (age-rate-byte i j l m)))
-      ∙ i32-back (longTermOf rate (20 + i)) (omega (arith, long-term-size rate (20 + i) h))
+      ∙ i32-back (longTermOf rate (20 + i)) (omega (arith, long-term-size rate (20 + i) 2_147_483_647 (omega arith)))
 
   pub birth-initial : (i : ℕ) → i < 269 → i32At (shortFormOf run rate) (1864 + 4 * i) ≡ i32At run (1864 + 4 * i)
   birth-initial i l =

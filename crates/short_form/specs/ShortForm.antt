@@ -7,16 +7,20 @@ use lib.ListN.{take, drop, replicate}
 use lib.IntN.{ℤ, pos, negℤ, _*ℤ_}
 use Rattle.arithmetic.specs.Round.{roundDiv}
 use Rattle.basis.specs.declared.Check.{Check}
+use Rattle.basis.specs.declared.Check.the-variants.{Passed}
 use Rattle.basis.specs.declared.Convergence.{Convergence}
 use Rattle.little_endian.specs.Bytes.{i32Bytes}
 use Rattle.basis.specs.Outcome.{refusal, unless, firstOf}
 use Rattle.field_check.specs.Field.{between}
 use Rattle.run_check.specs.Run.{runCheck}
-use Rattle.basis.specs.Basis.{Basis}
+use Rattle.basis.specs.Basis.{Basis, basisOf}
 
 -- ---- the check: the run's own, then S beyond ±200,000,000 (5)
+abbrev pub rateLimit : ℕ
+rateLimit = 200_000_000
+
 unfoldable pub shortFormCheck : List ℕ → ℤ → Check
-shortFormCheck run rate = firstOf (runCheck run) (unless (between (negℤ (pos 200_000_000)) (pos 200_000_000) rate) (refusal 5 1078 0))
+shortFormCheck run rate = firstOf (runCheck run) (unless (between (negℤ (pos rateLimit)) (pos rateLimit) rate) (refusal 5 1078 0))
 
 -- ---- the rates by age
 -- the share of S at an age, in thirtieths: 30 less what the age exceeds 90 (02, change 4). A difference of natural numbers is 0 at
@@ -34,11 +38,17 @@ longTermRates rate age (suc n) = i32Bytes (longTermOf rate age) ++ longTermRates
 
 -- ---- the data run
 -- every period T and every proportion P: a house rule
+abbrev pub everyPeriod : ℕ
+everyPeriod = 20
+
+abbrev pub everyProportion : ℕ
+everyProportion = 50
+
 abbrev pub periods : ℕ → List ℕ
-periods n = replicate n 20
+periods n = replicate n everyPeriod
 
 abbrev pub proportions : ℕ → List ℕ
-proportions n = replicate n 50
+proportions n = replicate n everyProportion
 
 -- what stands before the age L, then the age L, T and P
 unfoldable pub agesOf : List ℕ → ℤ → List ℕ
@@ -64,3 +74,9 @@ pub record Shortened (b : Basis) (rate : ℤ) (short : Basis) : Type 0 where
   pub baseRate : (age : ℕ) → 20 ≤ age → age ≤ 150 → short .baseRate age ≡ b .baseRate age
   pub byAge : (age : ℕ) → 20 ≤ age → age ≤ 150 → short .byAge age ≡ shortTerms (b .byAge age .initial) (longTermOf rate age)
   pub byBirthYear : (year : ℕ) → 1842 ≤ year → year ≤ 2110 → short .byBirthYear year ≡ shortTerms (b .byBirthYear year .initial) (pos 0)
+
+-- ---- the theorem: from an accepted data run and S it writes a data run that differs only in long-term rates, T and P
+pub record ShortFormStands (run : List ℕ) (rate : ℤ) : Type 0 where
+  pub differs : shortFormCheck run rate ≡ Passed → Shortened (basisOf run) rate (basisOf (shortFormOf run rate))
+  -- which is accepted itself, so that every enquiry answers from it
+  pub accepted : shortFormCheck run rate ≡ Passed → runCheck (shortFormOf run rate) ≡ Passed

@@ -4,12 +4,12 @@ ghost use Prim.Native.Nat.{_≤_};
 ghost use lib.ListN.{length};
 ghost use lib.IntN.{natAbs};
 ghost use Rattle.lent.specs.Lent.{placed};
-ghost use Rattle.short_form.specs.ShortForm.{longTermRates, agesOf, birthYearsOf};
+ghost use Rattle.short_form.specs.ShortForm.{rateLimit, longTermRates, agesOf, birthYearsOf};
 use crate::rates;
 
 // The age L.
 fn put_rates(rate: i32, out: &mut [u8])
-    requires { ⌜ (natAbs rate ≤ 200_000_000) × (1602 ≤ length (now out)) ⌝ }
+    requires { ⌜ (natAbs rate ≤ rateLimit) × (1602 ≤ length (now out)) ⌝ }
     ensures { λ _. ⌜ now (out .exit) ≡ placed (now (out .entry)) 1078 (longTermRates rate 20 131) ⌝ }
 {
     let mut i: usize = 0;
@@ -22,7 +22,7 @@ fn put_rates(rate: i32, out: &mut [u8])
 
 // What stands before the age L, kept, then the age L, T and P.
 pub(crate) fn put_ages(run: &[u8], rate: i32, out: &mut [u8])
-    requires { ⌜ (length (now run) ≡ 4554) × (natAbs rate ≤ 200_000_000) × (4554 ≤ length (now out)) ⌝ }
+    requires { ⌜ (length (now run) ≡ 4554) × (natAbs rate ≤ rateLimit) × (4554 ≤ length (now out)) ⌝ }
     ensures { λ _. ⌜ now (out .exit) ≡ placed (now (out .entry)) 0 (agesOf (now (run .entry)) rate) ⌝ }
 {
     lent::put(&run[0..1078], out, 0);

@@ -1,11 +1,14 @@
 -- The year is one of the history's or not: the two cases of the definition.
-use mathlib.Core.Path.{_∙_, sym}
+use mathlib.Core.Path.{_≡_, _∙_, sym}
+use mathlib.Core.Bool.{true, false}
+use native.Mathlib.Omega.{arith}
 use mir.Syntax.{w32, w64}
 use borrow.Author.Needs.{needs}
 use Rattle.arithmetic.proofs.Machine.{got}
 use Rattle.basis.specs.Basis.{basisOf}
 use Rattle.history.specs.History.{basisWith}
-use Rattle.improvement.proofs.Cases.{actual-year, projected-year, actual-range, projected-range, projected-with}
+use Rattle.improvement.specs.Improvement.{isActual, improvementOf}
+use Rattle.improvement.proofs.Cases.{actual-range, projected-range, projected-with}
 use Rattle.improvement.proofs.improvement_at.Statement.{statement}
 use Rattle.improvement.proofs.improvement_at.Tie as tie
 
@@ -16,7 +19,7 @@ actual-improvement-requires : tie.Need-actual-improvement-requires
 actual-improvement-requires c κs =
     let s = c .before .before .before .before in
     let r = actual-range (basisOf (s .args .run .now)) (s .args .year) (sym (c .before .is-actual .ensures) ∙ c .if1 .taken) in
-    (s .pre .0, s .pre .1, s .pre .2, r .0, r .1)
+    (s .pre .0, omega arith, omega arith, r .0, r .1)
 
 wide-requires : tie.Need-wide-requires
 wide-requires c κs = search needs
@@ -29,21 +32,23 @@ projected-at-requires c κs =
     (s .pre .0 .basis, s .pre .1, s .pre .2, s .pre .3, late, s .pre .5)
 
 returns : tie.Need-returns
+unfolding improvementOf
 returns c =
     let i = c .before in
     let t = i .before in
     let s = t .before .before .before .before in
     let b = basisWith (s .args .run .now) (s .args .history .now) in
-    got w64 (c .wide .ok) (c .wide .ensures ∙ got w32 (i .actual-improvement .ok) (i .actual-improvement .ensures))
-    ∙ sym (actual-year b (s .args .age) (s .args .year) (sym (t .before .is-actual .ensures) ∙ t .if1 .taken))
+    let e : isActual b (s .args .year) ≡ true = sym (t .before .is-actual .ensures) ∙ t .if1 .taken in
+    rw e (got w64 (c .wide .ok) (c .wide .ensures ∙ got w32 (i .actual-improvement .ok) (i .actual-improvement .ensures)))
 
 returns-2 : tie.Need-returns-2
+unfolding improvementOf
 returns-2 c =
     let t = c .before in
     let s = t .before .before .before .before in
     let b = basisWith (s .args .run .now) (s .args .history .now) in
-    got w64 (c .projected-at .ok) (c .projected-at .ensures ∙ projected-with (s .args .run .now) (s .args .history .now) (s .args .age) (s .args .year))
-    ∙ sym (projected-year b (s .args .age) (s .args .year) (sym (t .before .is-actual .ensures) ∙ t .if1 .left))
+    let e : isActual b (s .args .year) ≡ false = sym (t .before .is-actual .ensures) ∙ t .if1 .left in
+    rw e (got w64 (c .projected-at .ok) (c .projected-at .ensures ∙ projected-with (s .args .run .now) (s .args .history .now) (s .args .age) (s .args .year)))
 
 pub improvement-at-spec : {M : Type 1} → statement M
 improvement-at-spec =

@@ -1,11 +1,10 @@
 -- The terms, the years and the addition are those of the basis, and their limits are those of an accepted run.
 use mathlib.Core.Path.{_∙_}
-use Prim.Native.Nat.{_-_}
 use native.Mathlib.Omega.{arith}
 use mir.Syntax.{w32, w64}
 use borrow.Author.Needs.{needs}
 use Rattle.arithmetic.proofs.Machine.{got}
-use Rattle.improvement.proofs.Cases.{limits-of, projected-is}
+use Rattle.improvement.proofs.Cases.{limits-of, birth-limited, projected-is}
 use Rattle.improvement.proofs.projected_at.Statement.{statement}
 use Rattle.improvement.proofs.projected_at.Tie as tie
 
@@ -15,11 +14,8 @@ foundation-year-requires c κs = search needs
 sub-years : tie.Need-sub-years
 sub-years c = search needs
 
-sub-birth-year-terms : tie.Need-sub-birth-year-terms
-sub-birth-year-terms c = search needs
-
-birth-year-terms-requires : tie.Need-birth-year-terms-requires
-birth-year-terms-requires c κs = search needs
+birth-terms-requires : tie.Need-birth-terms-requires
+birth-terms-requires c κs = search needs
 
 addition-in-requires : tie.Need-addition-in-requires
 addition-in-requires c κs = search needs
@@ -30,14 +26,14 @@ improvement-from-requires c κs =
     let a = s .args in
     let l = s .pre .0 .limits in (
       limits-of (s .pre .3) (l .byAge (a .age) (s .pre .1) (s .pre .2)),
-      limits-of (c .before .birth-year-terms .ensures) (l .byBirthYear (a .year - a .age) (omega arith) (omega arith)),
+      limits-of (c .before .birth-terms .ensures) (birth-limited _ (a .age) (a .year) l (s .pre .1) (s .pre .2) (omega (arith, l .foundation-low)) (omega arith)),
     )
 
 returns : tie.Need-returns
 returns c =
     let d = c .before in
     let s = d .before .before .before .before in
-    let birth = d .before .birth-year-terms .ensures in
+    let birth = d .before .birth-terms .ensures in
     let foundation = d .before .before .foundation-year .ensures in
     let addition = got w32 (d .addition-in .ok) (d .addition-in .ensures) in
     got w64 (c .improvement-from .ok)
@@ -49,8 +45,7 @@ projected-at-spec =
     (tie.spec
     foundation-year-requires
     sub-years
-    sub-birth-year-terms
-    birth-year-terms-requires
+    birth-terms-requires
     addition-in-requires
     improvement-from-requires
     returns)

@@ -8,11 +8,11 @@ use Rattle.basis_file.proofs.read.check_outer.Tie as tie
 returns : tie.Need-returns
 returns c = sym (wrong-size _ (c .if1 .taken))
 
-check-blocks-requires : tie.Need-check-blocks-requires
-check-blocks-requires c κs = search needs
+check-nine-requires : tie.Need-check-nine-requires
+check-nine-requires c κs = search needs
 
 returns-2 : tie.Need-returns-2
-returns-2 c = c .check-blocks .ensures ∙ sym (right-size _ (c .before .if1 .left))
+returns-2 c = c .check-nine .ensures ∙ sym (right-size _ (c .before .if1 .left))
 
 pub check-outer-spec : {M : Type 1} → statement M
-check-outer-spec = tie.close (tie.spec returns check-blocks-requires returns-2)
+check-outer-spec = tie.close (tie.spec returns check-nine-requires returns-2)

@@ -19,8 +19,8 @@ year-later-requires c κs =
     let p = step-passed (a .run .now) (a .history .now) (a .age) (a .year) (a .survivors) (sym (c .before .before .before .check-step .ensures) ∙ c .before .enum-told .given .1) in
     (p .0, p .1, omega (arith, p .2), p .3, omega (arith, p .2, p .4), p .5)
 
-enum-known-r : tie.Need-enum-known-r
-enum-known-r c = search needs
+enum-known-x : tie.Need-enum-known-x
+enum-known-x c = search needs
 
 returns : tie.Need-returns
 returns c = sym (step-ended _ _ _ _ _ (sym (c .before .before .before .check-step .ensures) ∙ c .before .enum-told .given .1) (eq-eqb _ _ (c .if1 .taken)))
@@ -31,9 +31,9 @@ returns-2 c =
     c .year-later .ensures ∙ sym (step-lived _ _ _ _ _ (sym (else .before .before .before .check-step .ensures) ∙ else .before .enum-told .given .1) (ne-eqb _ _ (else .if1 .left)))
 
 returns-3 : tie.Need-returns-3
-returns-3 c = sym (step-refused _ _ _ _ _ _ (sym (c .before .before .before .check-step .ensures) ∙ c .before .r .given .1))
+returns-3 c = sym (step-refused _ _ _ _ _ _ (sym (c .before .before .before .check-step .ensures) ∙ c .before .x .given .1))
 
 pub step-at-spec : {M : Type 1} → statement M
 step-at-spec =
     tie.close
-    (tie.spec check-step-requires enum-told year-later-requires enum-known-r returns returns-2 returns-3)
+    (tie.spec check-step-requires enum-told year-later-requires enum-known-x returns returns-2 returns-3)
