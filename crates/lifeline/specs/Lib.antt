@@ -1,1 +1,2 @@
 pub mod Lifeline
+pub mod Said
