@@ -5,7 +5,7 @@ import unittest
 from collections import Counter
 from functools import cache
 
-from outside import make_answer_cases, make_file_cases
+from outside import make_answer_cases, make_file_cases, make_reader_cases
 from outside.basis import encode, read_file, short_form, write_file
 from outside.blocks import joined_data
 from outside.distances import read_cases
@@ -73,6 +73,19 @@ def answer_case_lines(text):
     return lines
 
 
+def reader_cases(text):
+    """The cases of the two readers: data run, history, and the questions of its lifelines."""
+    place = 0
+    while place < len(text):
+        length, history_length = struct.unpack_from("<II", text, place)
+        start = place + 8
+        history_start, place = start + length, start + length + history_length
+        (count,) = struct.unpack_from("<H", text, place)
+        questions = [struct.unpack_from("<III", text, place + 2 + 12 * each) for each in range(count)]
+        yield text[start:history_start], text[history_start:place], questions
+        place += 2 + 12 * count
+
+
 def difference(line, other):
     """What another engine's line is beside the right one."""
     (word, number, *_), (other_word, other_number, *_) = line.split(), other.split()
@@ -120,6 +133,37 @@ class WrittenCases(unittest.TestCase):
             for number in ("2", "3", "4", "5"):
                 self.assertIn((number, False), each)
             self.assertLessEqual({("13", False), ("13", True), "value"}, each)
+
+    def test_reader_cases(self):
+        """Tables that differ and empty ones; lifelines that go on, that end, that stop, that do not
+        start, and whose survivors are those of the enquiry after so many years.
+        """
+        asked, expected = make_reader_cases.input_and_output()
+        lines = iter(expected.decode("ascii").splitlines())
+        cohort, found = KINDS[4], Counter()
+        for run, history, questions in reader_cases(asked):
+            stretches = [next(lines) for _ in range(9)]
+            found["nine tables"] += len(set(stretches)) == 9
+            found["no table"] += stretches == ["0 0 0"] * 9
+            for age, year, steps in questions:
+                stands, in_year, survivors = map(int, next(lines).split())
+                if stands == 0:
+                    found["not started"] += 1
+                    self.assertIsInstance(outcome(ask, run, history, cohort, age, 0, year), Refusal)
+                    continue
+                self.assertEqual(in_year - year, stands - age)
+                self.assertEqual(survivors, ask(run, history, cohort, age, stands - age, year))
+                if stands == age + steps:
+                    found["gone on"] += 1
+                elif stands == 150:
+                    found["ended"] += 1
+                else:
+                    found["stopped"] += 1
+                    further = outcome(ask, run, history, cohort, age, stands - age + 1, year)
+                    self.assertIn(further.number, (9, 10))
+        self.assertEqual(next(lines, None), None)
+        self.assertEqual(len(found), 6)
+        self.assertGreater(min(found.values()), 5)
 
     def test_two_roundings_are_seen_in_every_kind(self):
         """They give more and less, answer where a refusal is right, and refuse what stands."""

@@ -15,6 +15,7 @@ use Rattle.reply_text.specs.Decimal.{digits, placesFrom, digitsOf, decimalOf}
 use Rattle.reply_text.specs.Reply.{questionText}
 use Rattle.reply_text.proofs.Numerals.{ten, digits-length, places-exact, places-hold, no-leading-zero}
 use Rattle.enquiry_text.specs.Line.{wordsFrom, digitsFrom, isPadded, numberOf, lineOf}
+use Rattle.enquiry_text.specs.Said.{FourDigits}
 use Rattle.enquiry_text.specs.declared.Word.the-variants.{Number}
 use Rattle.enquiry_text.specs.declared.Line.the-variants.{Enquiry}
 use Rattle.enquiry_text.proofs.Words.{three, line-is}
@@ -101,12 +102,6 @@ number-back n h = by (ltb n 10) (ltb n 100) (ltb n 1000) refl refl refl
     by false false false e f g = sized n 3 (omega arith) (λ z. omega (arith, ltb-false n 1000 g)) (omega arith)
 
 -- ---- a question
--- numbers that four digits hold
-pub record FourDigits (q : Question) : Type 0 where
-  pub age : q .age < 10000
-  pub deferment : q .deferment < 10000
-  pub year : q .year < 10000
-
 three-words : (a d y : List ℕ) → AllDigits a → AllDigits d → AllDigits y → wordsFrom [] (a ++ 32 ∷ (d ++ 32 ∷ y)) ≡ a ∷ d ∷ y ∷ []
 three-words a d y h i j = first-word [] a (d ++ 32 ∷ y) h ∙ ap (λ ws. a ∷ ws) (first-word [] d y i ∙ ap (λ ws. d ∷ ws) (last-word [] y j))
 

@@ -1,3 +1,4 @@
 mod Words
 pub mod Back
 pub mod Printed
+pub mod Says

@@ -17,7 +17,7 @@ use Rattle.enquiry_text.specs.declared.Word.the-variants.{Number, Other}
 use Rattle.enquiry_text.specs.declared.Line.{Line}
 use Rattle.enquiry_text.specs.declared.Line.the-variants.{Enquiry, Malformed}
 use Rattle.enquiry_text.proofs.Words.{three, line-is, words-some}
-use Rattle.enquiry_text.proofs.Back.{FourDigits}
+use Rattle.enquiry_text.specs.Said.{FourDigits}
 
 -- ---- a word that is a number
 never : (n : ℕ) → Other ≡ Number n → ⊥

@@ -1,5 +1,7 @@
 mod Window
 mod Yearly
+mod Ways
 mod Places
+mod Numbered
 pub mod Acceptance
 pub mod With

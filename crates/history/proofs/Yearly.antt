@@ -64,6 +64,20 @@ module _ (s : List ℕ) (first second : Field) where
       let e : at + 1012 * suc k ≡ at + 1012 + 1012 * k = omega arith in
       rw e (each-year n k (at + 1012) (omega arith) (p .2))
 
+  -- and what passes in each year, passes
+  pub years-pass : (n at : ℕ) → ((k : ℕ) → k < n
+      → (fieldCheck s (movedTo (at + 1012 * k) first) ≡ Passed) × (fieldCheck s (movedTo (at + 1012 * k + 506) second) ≡ Passed)) → Yearly at n ≡ Passed
+  years-pass zero at h = sym (no-years at)
+  years-pass (suc n) at h =
+      let e : at + 1012 * 0 ≡ at = omega arith in
+      let here = rw e at (h 0 (omega arith)) in
+      let next : (k : ℕ) → k < n
+      → (fieldCheck s (movedTo (at + 1012 + 1012 * k) first) ≡ Passed) × (fieldCheck s (movedTo (at + 1012 + 1012 * k + 506) second) ≡ Passed) =
+      λ k l.
+      let f : at + 1012 * suc k ≡ at + 1012 + 1012 * k = omega arith in
+      rw f at (h (suc k) (omega arith)) in
+      a-year at n ∙ rw (here .0, here .1) (years-pass n (at + 1012) next)
+
 -- the same with the year's two blocks as they lie in the file; the years that are looked at begin at `after`
 pub year-turn : (history : List ℕ) (first second : Field) (n k after : ℕ) {younger older r rest next : Check}
     → length history ≡ 1024 * n → k < n → after ≡ k + 1

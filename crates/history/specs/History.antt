@@ -67,9 +67,23 @@ improvements count = field 5 SignedWord (negℤ (pos 500_000_000)) (pos 500_000_
 abbrev pub zeros : ℕ → ℕ → Field
 zeros offset count = field 4 Byte (pos 0) (pos 0) offset count
 
--- every 4, then every 5; a first block has 66 improvements of 4 bytes and 242 bytes more, a second 65 and 246
+-- a first block has 66 improvements of 4 bytes and 242 bytes more
+abbrev pub youngerAges : Field
+youngerAges = improvements 66
+
+abbrev pub firstRemaining : Field
+firstRemaining = zeros 264 242
+
+-- a second 65 and 246
+abbrev pub olderAges : Field
+olderAges = improvements 65
+
+abbrev pub secondRemaining : Field
+secondRemaining = zeros 260 246
+
+-- every 4, then every 5
 unfoldable pub historyFields : ℕ → List Field
-historyFields years = yearlyFields (zeros 264 242) (zeros 260 246) 0 years ++ yearlyFields (improvements 66) (improvements 65) 0 years
+historyFields years = yearlyFields firstRemaining secondRemaining 0 years ++ yearlyFields youngerAges olderAges 0 years
 
 -- ---- the check
 -- its length is not the one needed (13), then the blocks (2, 3), then the fields (4, 5)

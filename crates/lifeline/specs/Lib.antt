@@ -1,2 +1,3 @@
 pub mod Lifeline
 pub mod Survivorship
+pub mod Said

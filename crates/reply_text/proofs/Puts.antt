@@ -1,13 +1,14 @@
 -- The laws of texts put into a buffer, one after another. Assumes nothing.
-use Prim.Native.Nat.{ℕ, suc, _+_, _≤_, _<_}
+use Prim.Native.Nat.{ℕ, zero, suc, _+_, _-_, _≤_, _<_}
 use mathlib.Core.Path.{_≡_, refl, ap, sym, _∙_}
 use mathlib.Core.List.{List, [], _∷_, _++_, append-assoc}
 use native.Mathlib.Omega.{arith}
 use native.Mathlib.Numerals.{add-one}
-use lib.ListN.{length, take, drop, set, length-append, length-set}
-use lib.Seq.{drop-set-lt, take-suc-set, take-at}
+use lib.ListN.{length, drop, set, replicate, length-append, length-set}
+use lib.Seq.{drop-set-lt, take-suc-set}
 use Rattle.lent.specs.Lent.{placed}
 use Rattle.lent.proofs.Lent.{placed-none, placed-next}
+use Rattle.reply_text.specs.declared.ReplyText.{ReplyText}
 use Rattle.reply_text.specs.Inner.Put.{Put}
 
 -- a text's first byte first
@@ -43,6 +44,15 @@ then {out} {after} {last} {at} {r} {s} {t} {u} p q = record {
 pub being : {out after : List ℕ} {at r s : ℕ} {t u : List ℕ} → t ≡ u → r ≡ s → Put out at t after r → Put out at u after s
 being {out} {after} {at} {r} {s} {t} {u} e f p = rw (← e, ← f) p
 
--- a text at the start of a buffer
-pub at-start : {out after : List ℕ} {t : List ℕ} {r : ℕ} → Put out 0 t after r → take r after ≡ t
-at-start {out} {after} {t} {r} p = let e : length t ≡ r = omega (arith, p .next) in ap (take r) (p .all) ∙ take-at t (drop (0 + length t) out) r e
+-- ---- a text at the start of zero bytes
+drop-zeros : (n m : ℕ) → drop {A = ℕ} n (replicate m 0) ≡ replicate (m - n) 0
+drop-zeros zero m = let e : m - 0 ≡ m = omega arith in rw e refl
+drop-zeros (suc n) zero = let e : 0 - suc n ≡ 0 = omega arith in rw e refl
+drop-zeros (suc n) (suc m) = let e : suc m - suc n ≡ m - n = omega arith in rw e (drop-zeros n m)
+
+module _ (n : ℕ) {t after : List ℕ} {r : ℕ} (p : Put (replicate n 0) 0 t after r) where
+  zeros-behind : after ≡ t ++ replicate (n - length t) 0
+  zeros-behind = let e : 0 + length t ≡ length t = omega arith in p .all ∙ rw (e, drop-zeros (length t) n) refl
+
+  pub in-zeros : _≡_ {A = ReplyText} (record { bytes = after; len = r }) (record { bytes = t ++ replicate (n - length t) 0; len = length t })
+  in-zeros = let e : r ≡ length t = omega (arith, p .next) in rw (zeros-behind, e) refl

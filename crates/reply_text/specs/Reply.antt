@@ -1,12 +1,13 @@
 -- What the points program prints (01, "Figures to prove and to run"): the header, and a line for each line.
-use Prim.Native.Nat.{ℕ}
+use Prim.Native.Nat.{ℕ, _-_}
 use mathlib.Core.Bool.{cond}
 use mathlib.Core.List.{List, _++_}
 use lib.Dec.{eqb}
-use lib.ListN.{getD}
+use lib.ListN.{length, getD, replicate}
 use Rattle.basis.specs.declared.Refusal.{Refusal}
 use Rattle.model_points.specs.declared.Question.{Question}
 use Rattle.model_points.specs.declared.PointAnswer.{PointAnswer}
+use Rattle.reply_text.specs.declared.ReplyText.{ReplyText}
 use Rattle.reply_text.specs.Ascii.{ascii}
 use Rattle.reply_text.specs.Decimal.{digitsOf, decimalOf}
 
@@ -30,3 +31,7 @@ refusalLine r = ascii "refused " ++ digitsOf (r .number) ++ ascii " " ++ digitsO
 -- an answered line repeats its three numbers, then gives the results; an answer of refusal number 0 is no refusal
 unfoldable pub replyOf : Question → PointAnswer → List ℕ
 replyOf q a = cond (eqb (a .refusal .number) 0) (questionText q ++ ascii " " ++ resultsText (a .results) ++ ascii "\n") (refusalLine (a .refusal))
+
+-- the same by value: the line at the start of 192 bytes, 0 in every byte behind it, and its length
+unfoldable pub replyText : Question → PointAnswer → ReplyText
+replyText q a = let line = replyOf q a in record { bytes = line ++ replicate (192 - length line) 0; len = length line }

@@ -2,10 +2,10 @@
 ghost use mathlib.Core.Path.{_≡_};
 ghost use mathlib.Core.List.{_++_};
 ghost use Prim.Native.Nat.{_+_, _≤_};
-ghost use lib.ListN.{length, take};
+ghost use lib.ListN.{length};
 ghost use Rattle.reply_text.specs.Ascii.{ascii};
 ghost use Rattle.reply_text.specs.Inner.Put.{Put};
-ghost use Rattle.reply_text.specs.Reply.{headerLine, questionText, resultsText, refusalLine, replyOf};
+ghost use Rattle.reply_text.specs.Reply.{headerLine, questionText, resultsText, refusalLine, replyOf, replyText};
 use crate::ReplyText;
 use crate::digits;
 use basis::Refusal;
@@ -73,9 +73,9 @@ pub fn put_reply(out: &mut [u8], at: usize, q: Question, a: PointAnswer) -> usiz
     put_refusal(out, at, refusal)
 }
 
-// The same by value, which asks for nothing.
+// The same by value, with no precondition; the bytes behind the reply are 0.
 pub fn reply_of(q: Question, a: PointAnswer) -> ReplyText
-    ensures { λ r. ⌜ take (r .len) (r .bytes) ≡ replyOf q a ⌝ }
+    ensures { λ r. ⌜ r ≡ replyText q a ⌝ }
 {
     let mut bytes = [0u8; 192];
     let len = put_reply(&mut bytes, 0, q, a);

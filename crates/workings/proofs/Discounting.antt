@@ -14,7 +14,7 @@ use Rattle.valuation.specs.Valuation.{discountNext, discountAfter}
 use Rattle.valuation.proofs.Discount.{discount-turn}
 use Rattle.sweep.specs.Held.{heldIn}
 use Rattle.workings.specs.Inner.Noting.{KeptBefore}
-use Rattle.workings.specs.Workings.{YearsNoted, DiscountsNoted, Workings}
+use Rattle.workings.specs.Workings.{YearsNoted, RestIsZero, DiscountsNoted, Workings}
 
 -- the first j discounts are noted, and v is the next one
 pub record Discounted (b : Basis) (start numbers : List ℕ) (j v : ℕ) : Type 0 where
@@ -44,11 +44,13 @@ module _ (b : Basis) (start : List ℕ) where
       by i k (no q) = let e : i ≡ j = omega arith in rw e (ap pos (getD-set-same numbers (18209 + j) v 0 (omega (arith, d .same))) ∙ sym (d .next))
 
 -- ---- the discounts are noted behind the years, which begin in 1992 at the earliest, and so keep them
-pub noted-behind : (b : Basis) (numbers after : List ℕ) → 1992 ≤ b .base → length after ≡ 18340 → YearsNoted b numbers (2131 - b .base) → DiscountsNoted b after 131 → KeptBefore 18209 numbers after
-    → Workings b after
-noted-behind b numbers after first size years discounts kept =
+pub noted-behind : (b : Basis) (numbers cleared after : List ℕ) → 1992 ≤ b .base → length after ≡ 18340
+    → YearsNoted b numbers (2131 - b .base) → RestIsZero b cleared → KeptBefore (131 * (2131 - b .base)) numbers cleared
+    → DiscountsNoted b after 131 → KeptBefore 18209 cleared after → Workings b after
+noted-behind b numbers cleared after first size years zero stand discounts kept =
     record {
       size = size;
-      years = λ k i l m. ap (heldIn (20 + i)) (kept (131 * k + i) (omega arith)) ∙ years k i l m;
+      years = λ k i l m. ap (heldIn (20 + i)) (kept (131 * k + i) (omega arith) ∙ stand (131 * k + i) (omega arith)) ∙ years k i l m;
+      rest = λ i l m. kept i m ∙ zero i l m;
       discounts = discounts;
     }

@@ -1,3 +1,4 @@
+mod Clearing
 mod Copying
 mod Discounting
 pub mod Reading

@@ -1,12 +1,12 @@
 // The factors: the state of the sweep in each year from B to 2130, noted down, and read back.
 ghost use mathlib.Core.Path.{_≡_};
-ghost use Prim.Native.Nat.{_+_, _-_, _≤_};
+ghost use Prim.Native.Nat.{_+_, _*_, _-_, _≤_};
 ghost use lib.ListN.{length};
 ghost use Rattle.basis.specs.Outcome.{meaning};
 ghost use Rattle.history.specs.History.{basisWith, AcceptedWith};
 ghost use Rattle.projection.specs.Projection.{factorOf};
 ghost use Rattle.workings.specs.Inner.Noting.{StandsAt, KeptBefore};
-ghost use Rattle.workings.specs.Workings.{YearsNoted, Workings};
+ghost use Rattle.workings.specs.Workings.{YearsNoted, RestIsZero, Workings};
 use basis::Answer;
 
 // A state put into the numbers at a place; what stands before it is kept.
@@ -35,6 +35,20 @@ pub(crate) fn note_years(run: &[u8], history: &[u8], numbers: &mut [u32])
         note_state(&state, 131 * k as usize, numbers);
         sweep::step(run, history, base + k, &mut state);
         k += 1;
+    }
+}
+
+// The room that no year takes.
+pub(crate) fn clear_rest(run: &[u8], history: &[u8], numbers: &mut [u32])
+    requires { ⌜ AcceptedWith (now run) (now history) × (length (now numbers) ≡ 18340) ⌝ }
+    ensures { λ _. ⌜ RestIsZero (basisWith (now (run .entry)) (now (history .entry))) (now (numbers .exit)) ⌝ }
+    ensures { λ _. ⌜ KeptBefore (131 * (2131 - basisWith (now (run .entry)) (now (history .entry)) .base)) (now (numbers .entry)) (now (numbers .exit)) ⌝ }
+{
+    let years = 2131 - basis::fields::base_year(run);
+    let mut at: usize = 131 * years as usize;
+    while at < 18209 {
+        numbers[at] = 0;
+        at += 1;
     }
 }
 

@@ -1,5 +1,6 @@
 // What is worked out once for all records of the grid: every age's factor in every year, by the sweep, and the discounts.
-// It is lent: 18,340 numbers of 4 bytes, 131 for each year from B to 2130 and behind these 131 discounts.
+// It is lent: 18,340 numbers of 4 bytes, 131 for each year from B to 2130, 0 where there are fewer than 139 of these, and behind
+// them 131 discounts.
 pub mod discounts;
 pub mod factors;
 
@@ -13,5 +14,6 @@ pub fn work_out(run: &[u8], history: &[u8], numbers: &mut [u32])
     ensures { λ _. ⌜ Workings (basisWith (now (run .entry)) (now (history .entry))) (now (numbers .exit)) ⌝ }
 {
     factors::note_years(run, history, numbers);
+    factors::clear_rest(run, history, numbers);
     discounts::note_discounts(run, history, numbers);
 }

@@ -10,10 +10,10 @@ use Rattle.basis.proofs.Outcome.{first-same, both-passed, passed, both-pass}
 use Rattle.field_check.specs.declared.Field.{Field}
 use Rattle.field_check.specs.Field.{fieldsCheck}
 use Rattle.block.specs.Blocks.{partsOf}
-use Rattle.history.specs.History.{yearlyFields, improvements, zeros}
+use Rattle.history.specs.History.{yearlyFields, youngerAges, firstRemaining, olderAges, secondRemaining}
 use Rattle.history.specs.Inner.Part.{partCheck}
 use Rattle.history.proofs.Yearly.{no-years, year-turn}
-use Rattle.history.proofs.Acceptance.{fields-parts}
+use Rattle.history.proofs.Ways.{fields-parts}
 use Rattle.history.proofs.check.check_fields.Statement.{statement}
 use Rattle.history.proofs.check.check_fields.Tie as tie
 
@@ -23,7 +23,7 @@ From history years k first second = fieldsCheck (partsOf (2 * years) history) (y
 
 abbrev Inv-loop : tie.InvT-loop
 Inv-loop history years fours₀ fives₀ k₀ fours fives k =
-    (k ≤ years) × (fours ≡ From history years k (zeros 264 242) (zeros 260 246)) × (fives ≡ From history years k (improvements 66) (improvements 65))
+    (k ≤ years) × (fours ≡ From history years k firstRemaining secondRemaining) × (fives ≡ From history years k youngerAges olderAges)
 
 abbrev μ-loop : tie.MeasureT-loop
 μ-loop history years fours₀ fives₀ k₀ fours fives k = k
@@ -74,15 +74,15 @@ loop-again c =
     let k = l .loop .k - 1 in
     let before : k < a .years = omega (arith, turn .loop-test .taken, l .loop .inv .0) in
     let next : l .loop .k ≡ k + 1 = omega (arith, turn .loop-test .taken) in
-    let Z = partCheck (a .history .now) (2 * k) (zeros 264 242) in
-    let M = partCheck (a .history .now) (2 * k + 1) (zeros 260 246) in
-    let Y = partCheck (a .history .now) (2 * k) (improvements 66) in
-    let O = partCheck (a .history .now) (2 * k + 1) (improvements 65) in
+    let Z = partCheck (a .history .now) (2 * k) firstRemaining in
+    let M = partCheck (a .history .now) (2 * k + 1) secondRemaining in
+    let Y = partCheck (a .history .now) (2 * k) youngerAges in
+    let O = partCheck (a .history .now) (2 * k + 1) olderAges in
     let zero = both-pass Z M (first-zeros .part-within .ensures) (more-zeros .part-within2 .ensures) in
     let within = both-pass Y O (younger .part-within3 .ensures) (older .part-within4 .ensures) in
     let p = both-passed (firstOf Z M) (firstOf Y O) (passed _ (both-pass (firstOf Z M) (firstOf Y O) zero within) (c .if1 .taken)) in
-    let turn-4 = year-turn (a .history .now) (zeros 264 242) (zeros 260 246) (a .years) k (l .loop .k) in
-    let turn-5 = year-turn (a .history .now) (improvements 66) (improvements 65) (a .years) k (l .loop .k) in (
+    let turn-4 = year-turn (a .history .now) firstRemaining secondRemaining (a .years) k (l .loop .k) in
+    let turn-5 = year-turn (a .history .now) youngerAges olderAges (a .years) k (l .loop .k) in (
       omega (arith, before),
       turn-4 (s .pre .0) before next (omega arith) (omega arith) refl refl (sym (p .0)) (l .loop .inv .1) refl,
       turn-5 (s .pre .0) before next (omega arith) (omega arith) refl refl (sym (p .1)) (l .loop .inv .2) refl,
@@ -137,8 +137,8 @@ loop-again-2 c =
     let k = l .loop .k - 1 in
     let before : k < a .years = omega (arith, turn .loop-test .taken, l .loop .inv .0) in
     let next : l .loop .k ≡ k + 1 = omega (arith, turn .loop-test .taken) in
-    let turn-4 = year-turn (a .history .now) (zeros 264 242) (zeros 260 246) (a .years) k (l .loop .k) in
-    let turn-5 = year-turn (a .history .now) (improvements 66) (improvements 65) (a .years) k (l .loop .k) in (
+    let turn-4 = year-turn (a .history .now) firstRemaining secondRemaining (a .years) k (l .loop .k) in
+    let turn-5 = year-turn (a .history .now) youngerAges olderAges (a .years) k (l .loop .k) in (
       omega (arith, before),
       turn-4 (s .pre .0) before next (omega arith) (omega arith) (first-zeros .check-part .ensures) (more-zeros .check-part2 .ensures)
           (four .first-of .ensures) (l .loop .inv .1) (fours .first-of3 .ensures),

@@ -9,7 +9,7 @@ use Rattle.basis.proofs.Outcome.{first-stands, first-passed}
 use Rattle.field_check.specs.Field.{fieldsCheck}
 use Rattle.block.specs.Blocks.{blocksCheck}
 use Rattle.history.specs.History.{actualYears, historyData, historyFields}
-use Rattle.history.proofs.Acceptance.{wrong-length, right-length, joined-fields}
+use Rattle.history.proofs.Ways.{wrong-length, right-length, joined-fields}
 use Rattle.history.proofs.check.check_history.Statement.{statement}
 use Rattle.history.proofs.check.check_history.Tie as tie
 

@@ -1,8 +1,7 @@
 -- After k years the factor so far is the definition's after k steps; a refusal stands in every later year.
 use mathlib.Core.Path.{_≡_, _∙_, ap, sym}
-use Prim.Native.Nat.{suc, _+_, _-_, _≤_}
+use Prim.Native.Nat.{ℕ, suc, _+_, _-_, _≤_}
 use native.Mathlib.Omega.{arith}
-use native.Mathlib.Numerals.{add-one}
 use lib.IntN.{pos}
 use borrow.Author.Needs.{needs}
 use Rattle.arithmetic.specs.Fraction.{U}
@@ -48,22 +47,6 @@ add-factor-in c = search needs
 add-factor-in-2 : tie.Need-add-factor-in-2 Inv-loop μ-loop
 add-factor-in-2 c = search needs
 
-factor-in-requires : tie.Need-factor-in-requires Inv-loop μ-loop
-factor-in-requires c κs =
-    let l = c .before in
-    let h = l .before in
-    let s = h .before .before .before .before .before in
-    let base = h .before .base-year .ensures in
-    let late = held-late (s .args .year) in (
-      s .pre .0,
-      s .pre .1,
-      s .pre .2,
-      h .before .before .age-terms .ensures,
-      omega (arith, base, first-early (basisWith (s .args .run .now) (s .args .history .now))),
-      omega (arith, h .held-year .ensures, late),
-      omega (arith, l .loop .inv .1),
-    )
-
 enum-known-v : tie.Need-enum-known-v Inv-loop μ-loop
 enum-known-v c = search needs
 
@@ -102,7 +85,25 @@ loop-again c =
     let told = sym (ap meaning (c .before .v .given .1)) ∙ y .factor-in .ensures in (
       omega arith,
       year-small b (a .age) (h .before .base-year .result + 1 + l .loop .k) _ last v (sym told),
-      rw add-one (turn b (a .age) (l .loop .k) last (value (pos v)) (h .before .base-year .ensures) (l .loop .inv .2) told),
+      ap (λ (n : ℕ). steps (factorStep b (a .age)) (pos U) n) (omega arith)
+          ∙ turn b (a .age) (l .loop .k) last (value (pos v)) (h .before .base-year .ensures) (l .loop .inv .2) told,
+    )
+
+-- stands behind what the year's factor is, so that a year that is not the definition's fails there first
+factor-in-requires : tie.Need-factor-in-requires Inv-loop μ-loop
+factor-in-requires c κs =
+    let l = c .before in
+    let h = l .before in
+    let s = h .before .before .before .before .before in
+    let base = h .before .base-year .ensures in
+    let late = held-late (s .args .year) in (
+      s .pre .0,
+      s .pre .1,
+      s .pre .2,
+      h .before .before .age-terms .ensures,
+      omega (arith, base, first-early (basisWith (s .args .run .now) (s .args .history .now))),
+      omega (arith, h .held-year .ensures, late),
+      omega (arith, l .loop .inv .1),
     )
 
 returns-2 : tie.Need-returns-2 Inv-loop μ-loop

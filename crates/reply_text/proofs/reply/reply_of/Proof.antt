@@ -1,5 +1,6 @@
--- What is put at the start of the bytes is their first part.
-use Rattle.reply_text.proofs.Puts.{at-start}
+-- What is put at the start of zero bytes is their first part, and the rest of them stays.
+use Rattle.reply_text.specs.Reply.{replyText}
+use Rattle.reply_text.proofs.Puts.{in-zeros}
 use borrow.Author.Needs.{needs}
 use Rattle.reply_text.proofs.reply.reply_of.Statement.{statement}
 use Rattle.reply_text.proofs.reply.reply_of.Tie as tie
@@ -11,7 +12,8 @@ put-reply-requires : tie.Need-put-reply-requires
 put-reply-requires c κs = search needs
 
 returns : tie.Need-returns
-returns c = at-start (c .before .put-reply .ensures .0)
+unfolding replyText
+returns c = in-zeros 192 (c .before .put-reply .ensures .0)
 
 pub reply-of-spec : {M : Type 1} → statement M
 reply-of-spec = tie.close (tie.spec slice-aggregate-put-reply put-reply-requires returns)

@@ -1,0 +1,121 @@
+// Runs the cases of an outside calculation on the two readers of a data run: its nine tables, and lifelines over it.
+//
+// Standard input, all numbers little-endian: cases to the end. A case is the number of bytes of its data run (4 bytes) and
+// of its history (4), the data run, the history, the number of its lifelines (2), and for each lifeline its age, its year
+// and a number of steps (4 each). Nine lines for the tables of a case, in the order in which they stand: the number of bytes handed
+// back, the sum of these bytes, and the sum of those sums, byte by byte. Then a line for each lifeline, n steps from its start: age, year and
+// survivors.
+ghost use mathlib.Core.Path.{_≡_};
+ghost use lib.ListN.{length};
+use libc::STDIN_FILENO;
+use libc::STDOUT_FILENO;
+use reply_text::digits;
+use tables::Table;
+
+// Room for a data run that is too long.
+fn run_room() -> [u8; 5000]
+    ensures { λ r. ⌜ 5000 ≡ length r ⌝ }
+{
+    [0; 5000]
+}
+
+// Room for the longest history, of 88 years.
+fn history_room() -> [u8; 90112]
+    ensures { λ r. ⌜ 90112 ≡ length r ⌝ }
+{
+    [0; 90112]
+}
+
+fn print_three(first: u64, second: u64, third: u64) {
+    let mut line = [0u8; 63];
+    let a = digits::put_number(&mut line, 0, first, b' ');
+    let b = digits::put_number(&mut line, a, second, b' ');
+    let c = digits::put_number(&mut line, b, third, b'\n');
+    io::write_all(STDOUT_FILENO, &line[..c]);
+}
+
+// ---- the tables
+fn wide(b: u8) -> u32 {
+    b as u32
+}
+
+fn print_sums(length: usize, sum: u32, sums: u32) {
+    print_three(length as u64, sum as u64, sums as u64);
+}
+
+// The length of a stretch, the sum of its bytes and the sum of those sums, which tells their order.
+fn print_stretch(stretch: &[u8]) {
+    let mut sum: u32 = 0;
+    let mut sums: u32 = 0;
+    for i in 0..stretch.len() {
+        sum = std::num::wrapping_add_u32(sum, wide(stretch[i]));
+        sums = std::num::wrapping_add_u32(sums, sum);
+    }
+    print_sums(stretch.len(), sum, sums);
+}
+
+fn print_table(run: &[u8], table: Table) {
+    print_stretch(tables::table_of(run, table));
+}
+
+fn print_tables(run: &[u8]) {
+    print_table(run, Table::BaseRates);
+    print_table(run, Table::AgeInitialRates);
+    print_table(run, Table::AgeLongTermRates);
+    print_table(run, Table::AgePeriods);
+    print_table(run, Table::AgeProportions);
+    print_table(run, Table::BirthYearInitialRates);
+    print_table(run, Table::BirthYearLongTermRates);
+    print_table(run, Table::BirthYearPeriods);
+    print_table(run, Table::BirthYearProportions);
+}
+
+// ---- the lifelines
+// One lifeline of standard input, n steps from its start.
+fn follow(run: &[u8], history: &[u8]) {
+    let mut asked = [0u8; 12];
+    io::read_full(STDIN_FILENO, &mut asked);
+    let age = little_endian::read_u32(&asked, 0);
+    let year = little_endian::read_u32(&asked, 4);
+    let steps = little_endian::read_u32(&asked, 8);
+    let s = lifeline_reader::stand_after(run, history, age, year, steps);
+    print_three(s.age as u64, s.year as u64, s.survivors);
+}
+
+fn follow_all(run: &[u8], history: &[u8]) {
+    let mut number = [0u8; 2];
+    io::read_full(STDIN_FILENO, &mut number);
+    for _ in 0..little_endian::read_u16(&number, 0) {
+        follow(run, history);
+    }
+}
+
+// ---- the cases
+fn run_case(run: &mut [u8], history: &mut [u8]) {
+    io::read_full(STDIN_FILENO, run);
+    io::read_full(STDIN_FILENO, history);
+    print_tables(run);
+    follow_all(run, history);
+}
+
+// Reads a case and works it; false at the end of the input.
+fn next_case() -> bool {
+    let mut head = [0u8; 8];
+    if io::read_full(STDIN_FILENO, &mut head) < 8 {
+        return false;
+    }
+    let mut run = run_room();
+    let mut history = history_room();
+    let given = io::count(little_endian::read_u32(&head, 0) as isize, &run);
+    let lent = io::count(little_endian::read_u32(&head, 4) as isize, &history);
+    run_case(&mut run[..given], &mut history[..lent]);
+    true
+}
+
+// Nothing says that the input ends, so the cases are counted up to a number that no run reaches.
+fn main() {
+    let mut cases: u64 = 0;
+    while cases < 1000000000000000 && next_case() {
+        cases += 1;
+    }
+}
