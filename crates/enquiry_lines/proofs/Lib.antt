@@ -2,3 +2,4 @@ mod Parting
 pub mod Whole
 pub mod Opened
 mod SoFar
+pub mod Numbered

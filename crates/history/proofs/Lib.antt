@@ -3,3 +3,4 @@ mod Yearly
 mod Places
 pub mod Acceptance
 pub mod With
+pub mod Numbered
