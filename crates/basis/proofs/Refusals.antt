@@ -1,6 +1,6 @@
 -- What refuses by numbers of a list, part by part, does so as a whole: one law for each way of putting checks and work together, whatever
 -- the list. Assumes nothing.
-use mathlib.Core.Path.{_≡_, refl, ap, sym, _∙_}
+use mathlib.Core.Path.{_≡_, refl}
 use mathlib.Core.Bool.{Bool, true, false, cond, _&&_, _||_, false≢true}
 use mathlib.Core.Logic.{_⊎_, inl, inr}
 use mathlib.Core.List.{List, [], _∷_}
@@ -13,7 +13,7 @@ use lib.IntN.{ℤ, pos, _+ℤ_}
 use Rattle.basis.specs.declared.Refusal.{Refusal}
 use Rattle.basis.specs.declared.Check.{Check}
 use Rattle.basis.specs.declared.Check.the-variants.{Passed, Refused}
-use Rattle.basis.specs.Outcome.{Outcome, value, refused, unless, firstOf, checked, andThen, steps, addTo, sumOf}
+use Rattle.basis.specs.Outcome.{Outcome, value, refused, unless, firstOf, checked, andThen, steps, sumOf}
 use Rattle.basis.specs.Refusals.{numbers, recordNumbers, isListed, Listed, RefusesBy, RefusedBy}
 
 module _ {ns : List ℕ} where

@@ -1,8 +1,8 @@
 -- Every call refuses by the numbers of its parts, and each of these is one of the papers' list; none is 0. Assumes nothing.
 use mathlib.Core.Path.{_≡_, refl, ap, sym, _∙_}
 use mathlib.Core.Bool.{Bool, true, false, cond}
-use mathlib.Core.List.{List, _++_}
-use Prim.Native.Nat.{ℕ, _<_}
+use mathlib.Core.List.{List}
+use Prim.Native.Nat.{ℕ}
 use native.Mathlib.Omega.{arith}
 use lib.Dec.{eqb}
 use lib.IntN.{ℤ, pos}
@@ -10,7 +10,6 @@ use borrow.Author.Tests.{ne-eqb}
 use Rattle.basis.specs.declared.Refusal.{Refusal}
 use Rattle.basis.specs.declared.Check.{Check}
 use Rattle.basis.specs.declared.Check.the-variants.{Passed, Refused}
-use Rattle.basis.specs.Basis.{Basis}
 use Rattle.basis.specs.Basis.{basisOf}
 use Rattle.basis.specs.Outcome.{Outcome, value, refused, firstOf}
 use Rattle.basis.specs.Refusals.{numbers, recordNumbers, isListed, Listed, RefusesBy, RefusedBy}
@@ -38,13 +37,13 @@ use Rattle.grid_record.specs.Record.{answeredOf}
 use Rattle.grid.specs.Grid.{gridCheck}
 use Rattle.lifeline.specs.declared.Status.{Status}
 use Rattle.lifeline.specs.declared.Status.the-variants as status
-use Rattle.lifeline.specs.Lifeline.{begunAt, startAt, standingCheck, stepCheck, moved, yearLater, lived, unlessRefused, stepAt}
+use Rattle.lifeline.specs.Lifeline.{begunAt, startAt, stepCheck, moved, yearLater, lived, unlessRefused, stepAt}
 use Rattle.lifeline.proofs.Numbered.{standing-numbered}
 use Rattle.engine.specs.Enquiry.{refusalOf, answerOf, signedAnswerOf}
 use Rattle.engine.specs.Lifelines.{stepRefusal}
 use Rattle.reply_text.specs.Reply.{replyOf}
 use Rattle.enquiry_lines.proofs.Numbered.{malformed-numbered}
-use Rattle.refusals.specs.Numbered.{workOn, workText, NumberedRefusals, ZeroIsNone}
+use Rattle.refusals.specs.Numbered.{workText, NumberedRefusals, ZeroIsNone}
 use Rattle.refusals.proofs.Work.{year-numbered, survivors-numbered, expectation-numbered, annuity-numbered, work-numbered}
 
 -- what the checks of an enquiry give, and a question's are among them

@@ -2,18 +2,16 @@
 -- the steps. Assumes nothing.
 use mathlib.Core.Path.{_≡_, _∙_, sym, subst}
 use mathlib.Core.List.{List}
-use Prim.Native.Nat.{ℕ, zero, suc, _+_, _-_, _≤_, _<_}
+use Prim.Native.Nat.{ℕ, zero, suc, _+_, _-_, _≤_}
 use native.Mathlib.Nat.{suc-add, zero-add}
 use native.Mathlib.Omega.{arith}
-use lib.ListN.{length, getD}
+use lib.ListN.{getD}
 use Rattle.basis.specs.declared.Refusal.{Refusal}
-use Rattle.basis.specs.declared.Check.the-variants.{Passed}
 use Rattle.basis.specs.Basis.{Basis}
 use Rattle.basis.specs.Outcome.{Outcome, refused}
-use Rattle.history.specs.History.{basisWith, basisCheck}
+use Rattle.history.specs.History.{basisWith}
 use Rattle.history.proofs.Acceptance.{accepted-with}
 use Rattle.history.proofs.With.{limits-with}
-use Rattle.projection.specs.Projection.{factorOf}
 use Rattle.sweep.specs.Sweep.{sweepAfter}
 use Rattle.sweep.specs.Held.{heldIn, stateIn, Holds}
 use Rattle.sweep.specs.EachStep.{Swept, EachStep}
