@@ -6,7 +6,7 @@ use Prim.Native.Nat.{ℕ}
 use native.Mathlib.Omega.{arith}
 use lib.IntN.{ℤ, pos}
 use Rattle.basis.specs.declared.Check.the-variants.{Passed}
-use Rattle.basis.specs.Outcome.{Outcome, value, refused, firstOf}
+use Rattle.basis.specs.Outcome.{Outcome, value, firstOf}
 use Rattle.basis.specs.Refusals.{numbers, RefusedBy}
 use Rattle.basis.proofs.Outcome.{checked-value}
 use Rattle.history.specs.History.{basisWith, basisCheck}
@@ -19,20 +19,16 @@ use Rattle.valuation.specs.Valuation.{expectationOf, annuityOf}
 use Rattle.question.specs.Question.{cellCheck}
 use Rattle.enquiry.specs.Enquiry.{valuationCheck, factorEnquiry, rateEnquiry, survivorshipEnquiry, expectationEnquiry, annuityEnquiry}
 use Rattle.engine.specs.Enquiry.{answerOf}
+use Rattle.engine.proofs.Handed.{value-handed}
 use Rattle.exact.proofs.Demands.{demand-3}
 use Rattle.exact.proofs.Values.{quarters-more}
-use Rattle.refusals.proofs.Calls.{zero-is-none}
 use Rattle.handed_out.specs.HandedOut.{AnnuityNear}
-use Rattle.handed_out.proofs.Natural.{Natural, size-is, expectation-natural, annuity-natural}
+use Rattle.handed_out.proofs.Natural.{Natural, expectation-natural, annuity-natural}
 
 -- what holds of every value holds of the number in the answer
 pub handed : (P : ℤ → Type 0) (work : Outcome ℤ) → RefusedBy numbers work → ((v : ℤ) → work ≡ value v → Natural v) → ((v : ℤ) → work ≡ value v → P v) →
     answerOf work .refusal .number ≡ 0 → P (pos (answerOf work .value))
-handed P (value v) numbered natural near none = rw (size-is v (natural v refl)) (near v refl)
-handed P (refused r) numbered natural near none =
-    let w = zero-is-none .answer (refused r) numbered none in
-    let h = w .1 in
-    let z : _≡_ {A = ℕ} 0 1 = cc in absurd (omega arith)
+handed P work numbered natural near none = near (pos (answerOf work .value)) (value-handed work numbered natural none)
 
 module _ (run history : List ℕ) where
   -- ---- no value is below zero

@@ -1,32 +1,18 @@
 -- Demand 3 of all that is handed out, put together from its parts. Assumes nothing.
 use mathlib.Core.List.{List}
 use Prim.Native.Nat.{ℕ}
-use lib.IntN.{ℤ}
-use mathlib.Core.Path.{_≡_, refl}
 use native.Mathlib.Omega.{arith}
-use Rattle.arithmetic.specs.Fraction.{Within}
 use Rattle.arithmetic.proofs.Distance.{within-more}
-use Rattle.basis.specs.Outcome.{Outcome, value, refused}
-use Rattle.basis.specs.Refusals.{numbers, RefusedBy}
 use Rattle.history.specs.History.{basisWith}
 use Rattle.enquiry.specs.Enquiry.{improvementEnquiry, factorEnquiry, rateEnquiry, survivorshipEnquiry, expectationEnquiry, annuityEnquiry}
-use Rattle.engine.specs.Enquiry.{signedAnswerOf}
-use Rattle.exact.specs.Model.{exactImprovement}
+use Rattle.engine.proofs.Handed.{signed-value-handed}
 use Rattle.exact.proofs.Demands.{demand-3}
 use Rattle.exact.proofs.Values.{quarters-more}
-use Rattle.refusals.proofs.Calls.{numbered-refusals, zero-is-none}
+use Rattle.refusals.proofs.Calls.{numbered-refusals}
 use Rattle.handed_out.specs.HandedOut.{FactorNear, RateNear, SurvivorsNear, ExpectationNear, AnnuityNear, HandedOut}
 use Rattle.handed_out.proofs.Answers.{handed, factor-answer, rate-answer, survivorship-answer, expectation-answer, annuity-answer, annuity-near}
 use Rattle.handed_out.proofs.Sets.{record-near, set-near}
 use Rattle.handed_out.proofs.Lifelines.{lifeline-near}
-
--- the same of a value that may be below zero
-handed-signed : (P : ℤ → Type 0) (work : Outcome ℤ) → RefusedBy numbers work → ((v : ℤ) → work ≡ value v → P v) → signedAnswerOf work .refusal .number ≡ 0 → P (signedAnswerOf work .value)
-handed-signed P (value v) numbered near none = near v refl
-handed-signed P (refused r) numbered near none =
-    let w = zero-is-none .signed (refused r) numbered none in
-    let h = w .1 in
-    let z : _≡_ {A = ℕ} 0 1 = cc in absurd (omega arith)
 
 pub handed-out : (run history : List ℕ) → HandedOut run history
 handed-out run history =
@@ -34,7 +20,8 @@ handed-out run history =
     let d = demand-3 run history in
     let n = numbered-refusals run history in
     record {
-      improvement = λ age year. handed-signed (λ v. Within v (exactImprovement b age year) 1) (improvementEnquiry run history age year) (n .improvement age year) (λ i h. within-more (d .improvement age year i h) (omega arith));
+      improvement = λ age year none.
+          within-more (d .improvement age year _ (signed-value-handed (improvementEnquiry run history age year) (n .improvement age year) none)) (omega arith);
       factor = λ age year. handed (FactorNear b age year) (factorEnquiry run history age year) (n .factor age year) (factor-answer run history age year) (λ f h improving. within-more (d .factor age year f h improving) (omega arith));
       rate = λ age year. handed (RateNear b age year) (rateEnquiry run history age year) (n .rate age year) (rate-answer run history age year) (λ q h improving. within-more (d .rate age year q h improving) (omega arith));
       survivorship = λ kind age k year.
