@@ -1,3 +1,4 @@
 mod Files
 mod Turns
 pub mod RoundTrip
+pub mod Numbered

@@ -28,9 +28,9 @@ pub(crate) fn answer_of(answer: Answer) -> CAnswer
     ensures { λ r. ⌜ r ≡ answerOf (meaning answer) ⌝ }
 {
     match answer {
-        Answer::Value(value) => CAnswer {
+        Answer::Value(n) => CAnswer {
             refusal: NO_REFUSAL,
-            value,
+            value: n,
         },
         Answer::Refused(refusal) => CAnswer { refusal, value: 0 },
     }
@@ -40,9 +40,9 @@ pub(crate) fn signed_answer_of(answer: SignedAnswer) -> CSignedAnswer
     ensures { λ r. ⌜ r ≡ signedAnswerOf (signedMeaning answer) ⌝ }
 {
     match answer {
-        SignedAnswer::Value(value) => CSignedAnswer {
+        SignedAnswer::Value(i) => CSignedAnswer {
             refusal: NO_REFUSAL,
-            value,
+            value: i,
         },
         SignedAnswer::Refused(refusal) => CSignedAnswer { refusal, value: 0 },
     }

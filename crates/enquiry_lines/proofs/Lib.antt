@@ -3,3 +3,4 @@ pub mod State
 pub mod Opened
 mod SoFar
 mod Printed
+pub mod Numbered

@@ -2,3 +2,4 @@ mod Turns
 pub mod Limits
 pub mod Holds
 pub mod Fields
+pub mod Numbered

@@ -9,7 +9,6 @@ use borrow.Author.Tests.{leb-true}
 use Rattle.basis.specs.declared.Check.{Check}
 use Rattle.basis.specs.declared.Check.the-variants.{Passed, Refused}
 use Rattle.basis.specs.Basis.{Basis}
-use Rattle.basis.specs.Outcome.{refusal}
 use Rattle.history.specs.History.{basisWith, basisCheck, AcceptedWith}
 use Rattle.history.proofs.Acceptance.{accepted-with}
 use Rattle.basis.proofs.Outcome.{both-passed, unless-passed}
@@ -54,7 +53,7 @@ module _ (run history : List ℕ) (count : ℕ) where
   records-fit = by (gridCheck run history count) refl
     where
       by : (check : Check) → gridCheck run history count ≡ check → recordsOf check ≤ count
-      by Passed h = leb-true 119 count (unless-passed (leb 119 count) (refusal 11 119 0) (both-passed (countCheck 119 count) (basisCheck run history) h .0))
+      by Passed h = leb-true 119 count (unless-passed (leb 119 count) _ (both-passed (countCheck 119 count) (basisCheck run history) h .0))
       by (Refused r) h = zero-le
 
   -- and the run is accepted with its history

@@ -2,6 +2,7 @@ mod Window
 mod Yearly
 mod Ways
 mod Places
-mod Numbered
+mod RightBlocks
 pub mod Acceptance
 pub mod With
+pub mod Numbered

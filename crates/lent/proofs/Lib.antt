@@ -1,2 +1,3 @@
 pub mod Lent
 mod Turns
+pub mod Numbered

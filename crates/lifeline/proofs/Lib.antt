@@ -1,3 +1,4 @@
 pub mod Standing
 pub mod Survivorship
 pub mod Says
+pub mod Numbered

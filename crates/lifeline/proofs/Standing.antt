@@ -9,7 +9,7 @@ use borrow.Author.Tests.{leb-true}
 use Rattle.arithmetic.specs.Fraction.{U}
 use Rattle.basis.specs.declared.Check.the-variants.{Passed, Refused}
 use Rattle.basis.specs.declared.Refusal.{Refusal}
-use Rattle.basis.specs.Outcome.{refusal, firstOf}
+use Rattle.basis.specs.Outcome.{firstOf}
 use Rattle.basis.proofs.Outcome.{unless-passed, both-passed}
 use Rattle.history.specs.History.{basisWith, basisCheck, AcceptedWith}
 use Rattle.history.proofs.Acceptance.{accepted-with}
@@ -22,11 +22,11 @@ use Rattle.lifeline.specs.Lifeline.{begun, startAt, lastStandingYear, st
 
 standing-year-passed : (base age year : ℕ) → standingYearCheck base age year ≡ Passed → (base ≤ year) × (year ≤ lastStandingYear age)
 unfolding standingYearCheck
-standing-year-passed base age year h = in-range base (lastStandingYear age) year (unless-passed (inRange base (lastStandingYear age) year) (refusal 7 year 0) h)
+standing-year-passed base age year h = in-range base (lastStandingYear age) year (unless-passed (inRange base (lastStandingYear age) year) _ h)
 
 survivors-passed : (survivors : ℕ) → survivorsCheck survivors ≡ Passed → survivors ≤ U
 unfolding survivorsCheck
-survivors-passed survivors h = leb-true survivors U (unless-passed (leb survivors U) (refusal 5 4554 0) h)
+survivors-passed survivors h = leb-true survivors U (unless-passed (leb survivors U) _ h)
 
 pub step-passed : (run history : List ℕ) (age year survivors : ℕ) → stepCheck run history age year survivors ≡ Passed
     → AcceptedWith run history × (20 ≤ age) × (age ≤ 150) × (basisWith run history .base ≤ year) × (year ≤ lastStandingYear age) × (survivors ≤ U)

@@ -6,7 +6,7 @@ use native.Mathlib.Omega.{arith}
 use lib.Dec.{leb}
 use borrow.Author.Tests.{leb-true}
 use Rattle.basis.specs.declared.Check.the-variants.{Passed}
-use Rattle.basis.specs.Outcome.{refusal, firstOf}
+use Rattle.basis.specs.Outcome.{firstOf}
 use Rattle.basis.proofs.Outcome.{unless-passed, both-passed}
 use Rattle.question.specs.Question.{inRange, ageCheck, defermentCheck, yearCheck, cellCheck, questionCheck}
 
@@ -21,15 +21,15 @@ in-range low high n h = by (leb low n) refl (leb n high) refl h
 -- ---- one check
 pub age-passed : (age : ℕ) → ageCheck age ≡ Passed → (20 ≤ age) × (age ≤ 150)
 unfolding ageCheck
-age-passed age h = in-range 20 150 age (unless-passed (inRange 20 150 age) (refusal 6 age 0) h)
+age-passed age h = in-range 20 150 age (unless-passed (inRange 20 150 age) _ h)
 
 deferment-passed : (age deferment : ℕ) → defermentCheck age deferment ≡ Passed → age + deferment ≤ 150
 unfolding defermentCheck
-deferment-passed age deferment h = leb-true (age + deferment) 150 (unless-passed (leb (age + deferment) 150) (refusal 8 age deferment) h)
+deferment-passed age deferment h = leb-true (age + deferment) 150 (unless-passed (leb (age + deferment) 150) _ h)
 
 year-passed : (first year : ℕ) → yearCheck first year ≡ Passed → (first ≤ year) × (year ≤ 2130)
 unfolding yearCheck
-year-passed first year h = in-range first 2130 year (unless-passed (inRange first 2130 year) (refusal 7 year 0) h)
+year-passed first year h = in-range first 2130 year (unless-passed (inRange first 2130 year) _ h)
 
 -- ---- all of them
 pub cell-passed : (first age year : ℕ) → cellCheck first age year ≡ Passed → (20 ≤ age) × (age ≤ 150) × (first ≤ year) × (year ≤ 2130)

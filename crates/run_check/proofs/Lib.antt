@@ -1,2 +1,3 @@
 mod Turns
 pub mod Acceptance
+pub mod Numbered

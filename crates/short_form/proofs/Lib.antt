@@ -3,3 +3,4 @@ mod Placing
 mod Checking
 mod Reading
 pub mod Accepted
+pub mod Numbered

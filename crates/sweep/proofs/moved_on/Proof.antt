@@ -50,7 +50,7 @@ cast-result c =
     let a = y .before .before .before .before .before .args in
     let b = basisWith (a .run .now) (a .history .now) in
     let told = sym (y .factor-in .ensures) ∙ ap meaning (c .before .factor .given .1) in
-    let small = year-small b (a .age) (a .year + 1) (improvementOf b (a .age) (a .year + 1)) (pos (a .n)) (c .before .factor .given .0 .0) told in
+    let small = year-small b (a .age) (a .year + 1) (improvementOf b (a .age) (a .year + 1)) _ (c .before .factor .given .0 .0) told in
     record { fits = omega (arith, small) }
 
 enum-known-r : tie.Need-enum-known-r
@@ -67,7 +67,7 @@ refused-number-requires c κs =
     let b = basisWith (a .run .now) (a .history .now) in
     let r = c .before .r .given .0 .0 in
     let told = sym (y .factor-in .ensures) ∙ ap meaning (c .before .r .given .1) in
-    let w = year-refused (a .age) (a .year + 1) (improvementOf b (a .age) (a .year + 1)) (pos (a .n)) r told in
+    let w = year-refused (a .age) (a .year + 1) (improvementOf b (a .age) (a .year + 1)) _ r told in
     (omega (arith, ap (λ x. x .number) (w .1), w .3), omega (arith, s .pre .4))
 
 returns-2 : tie.Need-returns-2
@@ -78,7 +78,7 @@ returns-2 c =
     let b = basisWith (a .run .now) (a .history .now) in
     let f = c .before .factor .given .0 .0 in
     let told = sym (y .factor-in .ensures) ∙ ap meaning (c .before .factor .given .1) in
-    let small = year-small b (a .age) (a .year + 1) (improvementOf b (a .age) (a .year + 1)) (pos (a .n)) f told in
+    let small = year-small b (a .age) (a .year + 1) (improvementOf b (a .age) (a .year + 1)) _ f told in
     held-factor (a .age) f small
     ∙ sym (moved-factor b (a .age) (a .year) (heldIn (a .age) (a .n)) (pos (a .n)) (lt-ltb (a .year) 2130 (s .pre .4)) (held-factor (a .age) (a .n) (omega arith)) ∙ told)
 
@@ -91,7 +91,7 @@ returns-3 c =
     let b = basisWith (a .run .now) (a .history .now) in
     let r = d .before .r .given .0 .0 in
     let told = sym (y .factor-in .ensures) ∙ ap meaning (d .before .r .given .1) in
-    let w = year-refused (a .age) (a .year + 1) (improvementOf b (a .age) (a .year + 1)) (pos (a .n)) r told in
+    let w = year-refused (a .age) (a .year + 1) (improvementOf b (a .age) (a .year + 1)) _ r told in
     ap (heldIn (a .age)) (c .refused-number .ensures)
     ∙ held-again (a .age) (r .number) (a .year + 1) r w (omega (arith, s .pre .4)) refl
     ∙ sym (moved-factor b (a .age) (a .year) (heldIn (a .age) (a .n)) (pos (a .n)) (lt-ltb (a .year) 2130 (s .pre .4)) (held-factor (a .age) (a .n) (omega arith)) ∙ told)

@@ -1,9 +1,8 @@
 -- The list is 131 times U, which is a factor.
-use mathlib.Core.Path.{_∙_, ap}
+use mathlib.Core.Path.{_∙_, ap, refl}
 use Prim.Native.Nat.{ℕ, _+_}
 use native.Mathlib.Omega.{arith}
-use lib.ListN.{length-replicate, getD-replicate}
-use Rattle.arithmetic.specs.Fraction.{U}
+use lib.ListN.{getD-replicate}
 use Rattle.sweep.specs.Held.{heldIn}
 use Rattle.sweep.proofs.Numbers.{held-factor}
 use Rattle.sweep.proofs.start.Statement.{statement}
@@ -12,8 +11,8 @@ use Rattle.sweep.proofs.start.Tie as tie
 returns : tie.Need-returns
 returns c =
     record {
-      size = length-replicate {0} {A = ℕ} 131 U;
-      each = λ i l. ap (heldIn (20 + i)) (getD-replicate {0} {A = ℕ} 131 i U 0 l) ∙ held-factor (20 + i) U (omega arith);
+      size = refl;
+      each = λ i l. ap (heldIn (20 + i)) (getD-replicate {0} {A = ℕ} 131 i _ 0 l) ∙ held-factor (20 + i) _ (omega arith);
     }
 
 pub start-spec : {M : Type 1} → statement M

@@ -1,0 +1,120 @@
+-- The three demands are met: by the theorems of the crates below, and where a field only says what a definition does, by that definition.
+use mathlib.Core.Path.{_≡_, _∙_, ap, refl}
+use mathlib.Core.Bool.{Bool, true, false, cond}
+use mathlib.Core.List.{List}
+use Prim.Native.Nat.{ℕ, _≤_}
+use native.Mathlib.Omega.{arith}
+use lib.Dec.{eqb}
+use lib.IntN.{ℤ, pos}
+use lib.ListN.{length}
+use borrow.Author.Tests.{le-leb}
+use Rattle.lent.specs.Lent.{countCheck, written}
+use Rattle.basis.specs.declared.Refusal.{Refusal}
+use Rattle.basis.specs.declared.Check.{Check}
+use Rattle.basis.specs.declared.Check.the-variants.{Passed, Refused}
+use Rattle.basis.specs.Outcome.{Outcome, value, refused, firstOf}
+use Rattle.basis.proofs.Outcome.{checked-passed, first-refused}
+use Rattle.run_check.proofs.Acceptance.{accepted, passes}
+use Rattle.basis_file.specs.File.{runIn, fileOf}
+use Rattle.basis_file.proofs.RoundTrip.{run-back, file-accepted, file-back}
+use Rattle.history.specs.History.{basisWith, basisCheck}
+use Rattle.short_form.specs.ShortForm.{shortFormOf}
+use Rattle.sweep.proofs.Steps.{each-step}
+use Rattle.survivorship.specs.Survivorship.{survivorsAfterYear}
+use Rattle.enquiry.specs.Enquiry.{improvementEnquiry, factorEnquiry, rateEnquiry, survivorshipEnquiry, expectationEnquiry, annuityEnquiry}
+use Rattle.model_points.specs.Point.{pointAnswerOf, pointOf}
+use Rattle.grid_record.specs.Record.{recordOf, answeredOf}
+use Rattle.grid_record.specs.declared.Point.{Point}
+use Rattle.grid.specs.Grid.{gridCheck, recordsOf, gridOf}
+use Rattle.grid.proofs.Filled.{answers-none}
+use Rattle.lifeline.specs.declared.Status.the-variants as status
+use Rattle.lifeline.specs.Lifeline.{stepCheck, moved, yearLater, lived, unlessRefused, stepAt, standAt, standMoved}
+use Rattle.lifeline.proofs.Standing.{start-refused, step-refused}
+use Rattle.lifeline.specs.declared.Begun.{Begun}
+use Rattle.lifeline.specs.declared.Moved.{Moved}
+use Rattle.engine.specs.Enquiry.{refusalOf, readCheck, writeCheck, shortCheck}
+use Rattle.refusals.proofs.Calls.{numbered-refusals, zero-is-none}
+use Rattle.exact.proofs.Demands.{demand-3}
+use Rattle.handed_out.proofs.Distances.{handed-out}
+use Rattle.demands.specs.Demands.{RefusedThroughout, Demand1, Demand2, Demands}
+
+-- a refused output is unchanged
+unchanged : (check : Check) (new out : List ℕ) (r : Refusal) → check ≡ Refused r → written check new out ≡ out
+unchanged check new out r h = rw h refl
+
+module _ (run history : List ℕ) where
+  grid-refused : (r : Refusal) → basisCheck run history ≡ Refused r → (count : ℕ) → 119 ≤ count → gridCheck run history count ≡ Refused r
+  unfolding gridCheck countCheck
+  grid-refused r h count l = rw (le-leb 119 count l, h) refl
+
+  refused-by : (r : Refusal) → basisCheck run history ≡ Refused r → RefusedThroughout run history r
+  unfolding improvementEnquiry factorEnquiry rateEnquiry survivorshipEnquiry expectationEnquiry annuityEnquiry
+  refused-by r h =
+      let first : (next : Check) → firstOf (basisCheck run history) next ≡ Refused r = λ next. first-refused (basisCheck run history) next r h in
+      record {
+        improvement = λ age year. rw h refl;
+        factor = λ age year. rw h refl;
+        rate = λ age year. rw h refl;
+        survivorship = λ kind age deferment year. rw h refl;
+        expectation = λ kind age deferment year. rw h refl;
+        annuity = λ kind age deferment year. rw h refl;
+        smallSet = λ questions. numbered-refusals run history .smallSet questions ∙ ap refusalOf h;
+        grid = grid-refused r h;
+        start = λ age year. ap (λ (b : Begun). b .check) (start-refused run history age year r (first _));
+        step = λ age year survivors. ap (λ (m : Moved). m .status) (step-refused run history age year survivors r (first _));
+      }
+
+  grid-unchanged : (points : List Point) (r : Refusal) → gridCheck run history (length points) ≡ Refused r → gridOf run history points ≡ points
+  unfolding gridOf
+  grid-unchanged points r h = rw (ap recordsOf h) (answers-none (basisWith run history) points)
+
+  -- a refused step leaves a lifeline where it stands, whichever check or work refused it
+  line-unchanged : (age year survivors : ℕ) (r : Refusal) → stepAt run history age year survivors .status ≡ status.Refused r → standMoved (stepAt run history age year survivors) ≡ standAt age year survivors
+  unfolding stepAt lived
+  line-unchanged age year survivors r h =
+      by (stepCheck run history age year survivors) (eqb age 150) (survivorsAfterYear (basisWith run history) age year (pos survivors)) h
+    where
+      by : (c : Check) (t : Bool) (o : Outcome ℤ)
+          → unlessRefused age year survivors c (cond t (moved age year survivors status.Ended) (yearLater age year survivors o)) .status ≡ status.Refused r
+          → standMoved (unlessRefused age year survivors c (cond t (moved age year survivors status.Ended) (yearLater age year survivors o))) ≡ standAt age year survivors
+      by (Refused q) t o g = refl
+      by Passed true o g = refl
+      by Passed false (refused q) g = refl
+      by Passed false (value s) g = let z : _≡_ {A = ℕ} 0 1 = cc in absurd (omega arith)
+
+  demand-1 : Demand1 run history
+  unfolding pointOf answeredOf
+  demand-1 =
+      record {
+        numbered = numbered-refusals run history;
+        zeroIsNone = zero-is-none;
+        checked = refused-by;
+        readUnchanged = λ file out r h. unchanged (readCheck file out) (runIn file) out r h;
+        writeUnchanged = λ out r h. unchanged (writeCheck run out) (fileOf run) out r h;
+        shortFormUnchanged = λ rate out r h. unchanged (shortCheck run rate out) (shortFormOf run rate) out r h;
+        gridUnchanged = grid-unchanged;
+        lifelineUnchanged = line-unchanged;
+        ownRefusal = λ p r h. ap (λ (o : Outcome (List ℕ)). recordOf p (pointAnswerOf o)) h;
+      }
+
+  demand-2 : Demand2 run history
+  unfolding improvementEnquiry factorEnquiry rateEnquiry survivorshipEnquiry expectationEnquiry annuityEnquiry pointOf
+  demand-2 =
+      record {
+        runAccepted = accepted run;
+        acceptedRun = passes run;
+        improvement = λ age year h. checked-passed _ _ h;
+        factor = λ age year h. checked-passed _ _ h;
+        rate = λ age year h. checked-passed _ _ h;
+        survivorship = λ kind age deferment year h. checked-passed _ _ h;
+        expectation = λ kind age deferment year h. checked-passed _ _ h;
+        annuity = λ kind age deferment year h. checked-passed _ _ h;
+        point = λ q h. ap pointAnswerOf (checked-passed _ _ h);
+        sweep = each-step run history;
+        fileBack = file-back;
+        runBack = λ h. (file-accepted run h, run-back run (accepted run h .size));
+      }
+
+pub demands-met : (run history : List ℕ) → Demands run history
+demands-met run history =
+    record { first = demand-1 run history; second = demand-2 run history; third = demand-3 run history; handedOut = handed-out run history }

@@ -1,0 +1,105 @@
+-- The three demands in one place, in the papers' words: the page to open first. Each is a record over a data run and its history, which are
+-- any bytes at all, and each field is a theorem. They speak of the definitions that the contracts cite: each function of crates/engine answers
+-- with one of them, and always returns, which is what the checker accepts of its code. `demands-met` in proofs/ proves them.
+use mathlib.Core.Path.{_≡_}
+use mathlib.Core.List.{List}
+use Prim.Native.Nat.{ℕ, _≤_, _<_}
+use lib.IntN.{ℤ}
+use lib.ListN.{length, getD}
+use Rattle.lent.specs.Lent.{written}
+use Rattle.basis.specs.declared.Refusal.{Refusal}
+use Rattle.basis.specs.declared.Check.the-variants.{Passed, Refused}
+use Rattle.basis.specs.Basis.{Accepted}
+use Rattle.basis.specs.Outcome.{refused, firstOf}
+use Rattle.run_check.specs.Run.{runCheck}
+use Rattle.basis_file.specs.File.{runIn, fileOf, fileCheck}
+use Rattle.history.specs.History.{basisWith, basisCheck}
+use Rattle.short_form.specs.ShortForm.{shortFormOf}
+use Rattle.improvement.specs.Improvement.{firstYear, improvementOf, improvementNeeded}
+use Rattle.projection.specs.Projection.{factorOf, rateOf}
+use Rattle.sweep.specs.EachStep.{EachStep}
+use Rattle.survivorship.specs.declared.Kind.{Kind}
+use Rattle.survivorship.specs.Survivorship.{survivorsOf}
+use Rattle.valuation.specs.Valuation.{expectationOf, annuityOf}
+use Rattle.question.specs.Question.{cellCheck, questionCheck}
+use Rattle.enquiry.specs.Enquiry.{valuationCheck, improvementEnquiry, factorEnquiry, rateEnquiry, survivorshipEnquiry, expectationEnquiry, annuityEnquiry}
+use Rattle.model_points.specs.declared.Question.{Question}
+use Rattle.model_points.specs.Point.{resultsOf, noResults, pointAnswerOf, pointOf}
+use Rattle.small_set.specs.declared.Questions.{Questions}
+use Rattle.small_set.specs.SmallSet.{smallSetOf}
+use Rattle.grid_record.specs.declared.Point.{Point}
+use Rattle.grid_record.specs.Record.{questionOf, recordOf, answeredOf}
+use Rattle.grid.specs.Grid.{gridCheck, gridOf}
+use Rattle.lifeline.specs.declared.Status.the-variants as status
+use Rattle.lifeline.specs.Lifeline.{startAt, stepAt, standAt, standMoved}
+use Rattle.engine.specs.Enquiry.{readCheck, writeCheck, shortCheck}
+use Rattle.refusals.specs.Numbered.{workOn, NumberedRefusals, ZeroIsNone}
+use Rattle.exact.specs.Distance.{Demand3}
+use Rattle.handed_out.specs.HandedOut.{HandedOut}
+
+-- ---- Demand 1
+-- a basis or a history that is refused is refused by every call that is lent it, and always by the same refusal
+pub record RefusedThroughout (run history : List ℕ) (r : Refusal) : Type 0 where
+  pub improvement : (age year : ℕ) → improvementEnquiry run history age year ≡ refused r
+  pub factor : (age year : ℕ) → factorEnquiry run history age year ≡ refused r
+  pub rate : (age year : ℕ) → rateEnquiry run history age year ≡ refused r
+  pub survivorship : (kind : Kind) (age deferment year : ℕ) → survivorshipEnquiry run history kind age deferment year ≡ refused r
+  pub expectation : (kind : Kind) (age deferment year : ℕ) → expectationEnquiry run history kind age deferment year ≡ refused r
+  pub annuity : (kind : Kind) (age deferment year : ℕ) → annuityEnquiry run history kind age deferment year ≡ refused r
+  pub smallSet : (questions : Questions) → smallSetOf run history questions .refusal ≡ r
+  pub grid : (count : ℕ) → 119 ≤ count → gridCheck run history count ≡ Refused r
+  pub start : (age year : ℕ) → startAt run history age year .check ≡ Refused r
+  pub step : (age year survivors : ℕ) → stepAt run history age year survivors .status ≡ status.Refused r
+
+pub record Demand1 (run history : List ℕ) : Type 0 where
+  -- "Every call ends with a value or a numbered refusal"
+  pub numbered : NumberedRefusals run history
+  pub zeroIsNone : ZeroIsNone
+  -- "checks all it is given"
+  pub checked : (r : Refusal) → basisCheck run history ≡ Refused r → RefusedThroughout run history r
+  -- "and on a refusal writes no byte of lent output": reading, writing, the short form, the grid; and a lifeline stays where it stands
+  pub readUnchanged : (file out : List ℕ) (r : Refusal) → readCheck file out ≡ Refused r → written (readCheck file out) (runIn file) out ≡ out
+  pub writeUnchanged : (out : List ℕ) (r : Refusal) → writeCheck run out ≡ Refused r → written (writeCheck run out) (fileOf run) out ≡ out
+  pub shortFormUnchanged : (rate : ℤ) (out : List ℕ) (r : Refusal) → shortCheck run rate out ≡ Refused r → written (shortCheck run rate out) (shortFormOf run rate) out ≡ out
+  pub gridUnchanged : (points : List Point) (r : Refusal) → gridCheck run history (length points) ≡ Refused r → gridOf run history points ≡ points
+  pub lifelineUnchanged : (age year survivors : ℕ) (r : Refusal) → stepAt run history age year survivors .status ≡ status.Refused r →
+      standMoved (stepAt run history age year survivors) ≡ standAt age year survivors
+  -- "A grid point that cannot be worked out carries its own refusal": with all four results 0, and its question unchanged
+  pub ownRefusal : (p : Point) (r : Refusal) → workOn (basisWith run history) (questionOf p) ≡ refused r →
+      answeredOf (basisWith run history) p ≡ recordOf p (record { results = noResults; refusal = r })
+
+-- ---- Demand 2
+pub record Demand2 (run history : List ℕ) : Type 0 where
+  -- "Outside the refusal conditions every enquiry is answered": 1, 4 and 5 refuse every run that is not accepted, and no other
+  pub runAccepted : runCheck run ≡ Passed → Accepted run
+  pub acceptedRun : Accepted run → runCheck run ≡ Passed
+  -- "with exactly the number of the model under the paper's rounding rules": after its checks an enquiry is the model's work, which is
+  -- refused by 9 and 10 alone
+  pub improvement : (age year : ℕ) → firstOf (basisCheck run history) (cellCheck (firstYear (basisWith run history)) age year) ≡ Passed →
+      improvementEnquiry run history age year ≡ improvementNeeded age year (improvementOf (basisWith run history) age year)
+  pub factor : (age year : ℕ) → firstOf (basisCheck run history) (cellCheck (basisWith run history .base) age year) ≡ Passed →
+      factorEnquiry run history age year ≡ factorOf (basisWith run history) age year
+  pub rate : (age year : ℕ) → firstOf (basisCheck run history) (cellCheck (basisWith run history .base) age year) ≡ Passed →
+      rateEnquiry run history age year ≡ rateOf (basisWith run history) age year
+  pub survivorship : (kind : Kind) (age deferment year : ℕ) → valuationCheck run history age deferment year ≡ Passed →
+      survivorshipEnquiry run history kind age deferment year ≡ survivorsOf (basisWith run history) kind age year deferment
+  pub expectation : (kind : Kind) (age deferment year : ℕ) → valuationCheck run history age deferment year ≡ Passed →
+      expectationEnquiry run history kind age deferment year ≡ expectationOf (basisWith run history) kind age year deferment
+  pub annuity : (kind : Kind) (age deferment year : ℕ) → valuationCheck run history age deferment year ≡ Passed →
+      annuityEnquiry run history kind age deferment year ≡ annuityOf (basisWith run history) kind age year deferment
+  pub point : (q : Question) → questionCheck (basisWith run history .base) (q .age) (q .deferment) (q .year) ≡ Passed →
+      pointOf (basisWith run history) q ≡ pointAnswerOf (resultsOf (basisWith run history) (q .age) (q .deferment) (q .year))
+  -- the sweep holds what the direct engine answers (02, change 5)
+  pub sweep : EachStep run history
+  -- "A basis read and written back is the same file" (the elements of a file are bytes)
+  pub fileBack : (file : List ℕ) → ((i : ℕ) → getD file i 0 < 256) → fileCheck file ≡ Passed → fileOf (runIn file) ≡ file
+  -- "written and read back, the same basis"
+  pub runBack : runCheck run ≡ Passed → (fileCheck (fileOf run) ≡ Passed) × (runIn (fileOf run) ≡ run)
+
+-- ---- Demand 3, "Where no exact improvement taken into the answer is below zero, the answer lies within the paper's distances of the exact,
+-- unrounded model", is `Demand3` in crates/exact/specs/Distance.antt; `HandedOut` carries it to what a host is handed
+pub record Demands (run history : List ℕ) : Type 0 where
+  pub first : Demand1 run history
+  pub second : Demand2 run history
+  pub third : Demand3 run history
+  pub handedOut : HandedOut run history

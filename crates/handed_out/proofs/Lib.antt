@@ -1,0 +1,6 @@
+mod Natural
+mod Answers
+mod Sets
+mod Lifelines
+pub mod Distances
+pub mod Back

@@ -1,0 +1,86 @@
+-- After n steps that have all advanced a lifeline has the survivors of n years of cohort survivorship, and so their distance. Assumes nothing.
+use mathlib.Core.Path.{_≡_, _∙_, ap, sym, refl}
+use mathlib.Core.Bool.{Bool, true, false, cond}
+use mathlib.Core.List.{List}
+use Prim.Native.Nat.{ℕ, zero, suc, _+_, _≤_, _<_}
+use native.Mathlib.Omega.{arith}
+use native.Mathlib.Decide.{decLt}
+use lib.Dec.{eqb}
+use lib.IntN.{pos}
+use borrow.Author.Tests.{le-leb, eqb-false}
+use Rattle.arithmetic.proofs.Distance.{within-more}
+use Rattle.basis.specs.declared.Check.{Check}
+use Rattle.basis.specs.declared.Check.the-variants.{Passed, Refused}
+use Rattle.basis.proofs.Outcome.{both-passed}
+use Rattle.history.specs.History.{basisWith, basisCheck}
+use Rattle.survivorship.specs.declared.Kind.the-variants.{Cohort}
+use Rattle.question.specs.Question.{defermentCheck, questionCheck}
+use Rattle.question.proofs.Passed.{question-parts}
+use Rattle.enquiry.specs.Enquiry.{valuationCheck}
+use Rattle.enquiry.proofs.Passed.{valuation-passed}
+use Rattle.lifeline.specs.declared.Status.the-variants as status
+use Rattle.lifeline.specs.declared.Stand.{Stand}
+use Rattle.lifeline.specs.declared.Moved.{Moved}
+use Rattle.lifeline.specs.Lifeline.{begunAt, startAt, stepCheck, moved, lived, unlessRefused, stepAt, stepFrom, standAfter}
+use Rattle.lifeline.proofs.Standing.{step-passed}
+use Rattle.lifeline.proofs.Survivorship.{Advances, steps-are-survivorship}
+use Rattle.engine.specs.Lifelines.{lifelineBegun}
+use Rattle.exact.proofs.Demands.{demand-3}
+use Rattle.refusals.proofs.Calls.{numbered-refusals, zero-is-none}
+use Rattle.handed_out.specs.HandedOut.{SurvivorsNear}
+use Rattle.handed_out.proofs.Answers.{survivorship-asked}
+
+at-most : {age : ℕ} → age ≤ 150 → (age ≡ 150 → ⊥) → age < 150
+at-most {age} l apart = by (decLt age 150)
+  where
+    by : Dec (age < 150) → age < 150
+    by (yes g) = g
+    by (no g) = absurd (apart (omega arith))
+
+-- a step that advanced was of an age below 150
+below : (run history : List ℕ) (age year s : ℕ) → stepAt run history age year s .status ≡ status.Advanced → age < 150
+unfolding stepAt lived
+below run history age year s h =
+    let c = by (stepCheck run history age year s) (eqb age 150) _ h in
+    let p = step-passed run history age year s (c .0) in
+    at-most (p .2) (eqb-false age 150 (c .1))
+  where
+    by : (c : Check) (e : Bool) (m : Moved) → unlessRefused age year s c (cond e (moved age year s status.Ended) m) .status ≡ status.Advanced → (c ≡ Passed) × (e ≡ false)
+    by Passed false m g = (refl, refl)
+    by Passed true m g = let z : _≡_ {A = ℕ} 0 1 = cc in absurd (omega arith)
+    by (Refused r) e m g = let z : _≡_ {A = ℕ} 0 1 = cc in absurd (omega arith)
+
+module _ (run history : List ℕ) (age year : ℕ) where
+  -- a start that is not refused has passed its checks
+  started : lifelineBegun (startAt run history age year) .refusal .number ≡ 0 → valuationCheck run history age 0 year ≡ Passed
+  unfolding startAt
+  started begun =
+      let c = zero-is-none .check (startAt run history age year .check) (numbered-refusals run history .start age year) begun in
+      by (valuationCheck run history age 0 year) c
+    where
+      by : (c : Check) → begunAt age year c .check ≡ Passed → c ≡ Passed
+      by Passed g = refl
+      by (Refused r) g = g
+
+  -- n steps come to age 150 at most, so that n years may be asked for
+  asked : (n : ℕ) → valuationCheck run history age 0 year ≡ Passed → Advances run history age year n → valuationCheck run history age n year ≡ Passed
+  unfolding defermentCheck questionCheck
+  asked n h a =
+      let p = both-passed (basisCheck run history) (questionCheck (basisWith run history .base) age 0 year) h in
+      let q = question-parts (basisWith run history .base) age 0 year (p .1) in
+      rw (p .0, q .0, q .2, le-leb (age + n) 150 (old n a)) refl
+    where
+      old : (n : ℕ) → Advances run history age year n → age + n ≤ 150
+      old zero a = let v = valuation-passed run history age 0 year h in v .2
+      old (suc k) a =
+          let s = steps-are-survivorship run history age year k h (λ j l. a j (omega arith)) in
+          let last = below run history (age + k) (year + k) (s .0) (ap (λ (x : Stand). stepFrom run history x .status) (sym (s .1)) ∙ a k (omega arith)) in
+          omega (arith, last)
+
+  pub lifeline-near : (n : ℕ) → lifelineBegun (startAt run history age year) .refusal .number ≡ 0 → Advances run history age year n →
+      SurvivorsNear (basisWith run history) Cohort age n year (pos (standAfter run history age year n .survivors))
+  lifeline-near n begun a =
+      let h = started begun in
+      let s = steps-are-survivorship run history age year n h a in
+      let answer = survivorship-asked run history Cohort age n year (asked n h a) (pos (s .0)) (s .2) in
+      rw (ap (λ (x : Stand). x .survivors) (s .1)) (λ improving. within-more (demand-3 run history .survivorship Cohort age n year (pos (s .0)) answer improving) (omega arith))

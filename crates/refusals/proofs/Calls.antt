@@ -1,0 +1,160 @@
+-- Every call refuses by the numbers of its parts, and each of these is one of the papers' list; none is 0. Assumes nothing.
+use mathlib.Core.Path.{_≡_, refl, ap, sym, _∙_}
+use mathlib.Core.Bool.{Bool, true, false, cond}
+use mathlib.Core.List.{List}
+use Prim.Native.Nat.{ℕ}
+use native.Mathlib.Omega.{arith}
+use lib.Dec.{eqb}
+use lib.IntN.{ℤ, pos}
+use borrow.Author.Tests.{ne-eqb}
+use Rattle.basis.specs.declared.Refusal.{Refusal}
+use Rattle.basis.specs.declared.Check.{Check}
+use Rattle.basis.specs.declared.Check.the-variants.{Passed, Refused}
+use Rattle.basis.specs.Basis.{basisOf}
+use Rattle.basis.specs.Outcome.{Outcome, value, refused, firstOf}
+use Rattle.basis.specs.Refusals.{numbers, recordNumbers, isListed, Listed, RefusesBy, RefusedBy}
+use Rattle.basis.proofs.Refusals.{first-by, checked-by, check-among, work-among, record-numbers, never-zero}
+use Rattle.lent.proofs.Numbered.{count-numbered}
+use Rattle.run_check.proofs.Numbered.{run-numbered}
+use Rattle.basis_file.specs.File.{runIn}
+use Rattle.basis_file.proofs.Numbered.{file-numbered}
+use Rattle.history.specs.History.{basisWith, basisCheck}
+use Rattle.history.proofs.Numbered.{history-numbered, basis-numbered}
+use Rattle.short_form.proofs.Numbered.{short-form-numbered}
+use Rattle.improvement.specs.Improvement.{firstYear, improvementOf}
+use Rattle.improvement.proofs.Numbered.{needed-numbered}
+use Rattle.projection.proofs.Numbered.{factor-numbered, rate-numbered}
+use Rattle.survivorship.specs.Survivorship.{survivorsAfterYear}
+use Rattle.question.specs.Question.{cellCheck}
+use Rattle.question.proofs.Numbered.{cell-numbered, question-numbered}
+use Rattle.enquiry.specs.Enquiry.{valuationCheck, improvementEnquiry, factorEnquiry, rateEnquiry, survivorshipEnquiry, expectationEnquiry, annuityEnquiry}
+use Rattle.model_points.specs.declared.Question.{Question}
+use Rattle.model_points.specs.declared.PointAnswer.{PointAnswer}
+use Rattle.model_points.specs.Point.{pointAnswerOf, pointOf}
+use Rattle.small_set.specs.declared.Questions.{Questions}
+use Rattle.small_set.specs.SmallSet.{setOf, smallSetOf}
+use Rattle.grid_record.specs.Record.{answeredOf}
+use Rattle.grid.specs.Grid.{gridCheck}
+use Rattle.lifeline.specs.declared.Status.{Status}
+use Rattle.lifeline.specs.declared.Status.the-variants as status
+use Rattle.lifeline.specs.Lifeline.{begunAt, startAt, stepCheck, moved, yearLater, lived, unlessRefused, stepAt}
+use Rattle.lifeline.proofs.Numbered.{standing-numbered}
+use Rattle.engine.specs.Enquiry.{refusalOf, answerOf, signedAnswerOf}
+use Rattle.engine.specs.Lifelines.{stepRefusal}
+use Rattle.reply_text.specs.Reply.{replyOf}
+use Rattle.enquiry_lines.proofs.Numbered.{malformed-numbered}
+use Rattle.refusals.specs.Numbered.{workText, NumberedRefusals, ZeroIsNone}
+use Rattle.refusals.proofs.Work.{year-numbered, survivors-numbered, expectation-numbered, annuity-numbered, work-numbered}
+
+-- what the checks of an enquiry give, and a question's are among them
+module _ (run history : List ℕ) where
+  cell-checked : (first age year : ℕ) → RefusesBy numbers (firstOf (basisCheck run history) (cellCheck first age year))
+  cell-checked first age year = first-by (basis-numbered run history) (check-among record-numbers (cell-numbered first age year))
+
+  valuation-checked : (age deferment year : ℕ) → RefusesBy numbers (valuationCheck run history age deferment year)
+  valuation-checked age deferment year = first-by (basis-numbered run history) (check-among record-numbers (question-numbered (basisWith run history .base) age deferment year))
+
+  -- ---- a lifeline
+  start-numbered : (age year : ℕ) → RefusesBy numbers (startAt run history age year .check)
+  unfolding startAt
+  start-numbered age year = by (valuationCheck run history age 0 year) (valuation-checked age 0 year)
+    where
+      by : (c : Check) → RefusesBy numbers c → RefusesBy numbers (begunAt age year c .check)
+      by Passed p = p
+      by (Refused r) p = p
+
+  step-numbered : (age year survivors : ℕ) (r : Refusal) → stepAt run history age year survivors .status ≡ status.Refused r → Listed numbers (r .number)
+  unfolding stepAt lived
+  step-numbered age year survivors r h =
+      by (stepCheck run history age year survivors) (first-by (basis-numbered run history) (standing-numbered (basisWith run history .base) age year survivors))
+      (eqb age 150) (survivorsAfterYear (basisWith run history) age year (pos survivors)) (work-among record-numbers (year-numbered (basisWith run history) age year (pos survivors))) h
+    where
+      by : (c : Check) → RefusesBy numbers c → (t : Bool) (o : Outcome ℤ) → RefusedBy numbers o
+          → unlessRefused age year survivors c (cond t (moved age year survivors status.Ended) (yearLater age year survivors o)) .status ≡ status.Refused r → Listed numbers (r .number)
+      by (Refused q) p t o w g = let e : q ≡ r = cc in rw (← e) (p .listed q refl)
+      by Passed p true o w g = let z : _≡_ {A = ℕ} 0 1 = cc in absurd (omega arith)
+      by Passed p false (value s) w g = let z : _≡_ {A = ℕ} 0 1 = cc in absurd (omega arith)
+      by Passed p false (refused q) w g = let e : q ≡ r = cc in rw (← e) (w .listed q refl)
+
+-- ---- the small set as a whole
+set-refusal : (run history : List ℕ) (questions : Questions) → smallSetOf run history questions .refusal ≡ refusalOf (basisCheck run history)
+unfolding smallSetOf
+set-refusal run history questions = by (basisCheck run history) _
+  where
+    by : (c : Check) (points : List PointAnswer) → setOf c points .refusal ≡ refusalOf c
+    by Passed points = refl
+    by (Refused r) points = refl
+
+pub numbered-refusals : (run history : List ℕ) → NumberedRefusals run history
+unfolding improvementEnquiry factorEnquiry rateEnquiry survivorshipEnquiry expectationEnquiry annuityEnquiry gridCheck pointOf answeredOf
+numbered-refusals run history =
+    let b = basisWith run history in
+    record {
+      checkBasis = run-numbered run;
+      readBasis = λ file out. first-by (count-numbered 4554 _) (file-numbered file);
+      writeBasis = λ out. first-by (count-numbered 4608 _) (run-numbered run);
+      shortForm = λ rate out. first-by (count-numbered 4554 _) (short-form-numbered run rate);
+      withHistory = basis-numbered run history;
+      factorWork = factor-numbered b;
+      rateWork = rate-numbered b;
+      survivorshipWork = survivors-numbered b;
+      expectationWork = expectation-numbered b;
+      annuityWork = annuity-numbered b;
+      improvement = λ age year. checked-by (cell-checked run history (firstYear b) age year) (work-among record-numbers (needed-numbered age year (improvementOf b age year)));
+      factor = λ age year. checked-by (cell-checked run history (b .base) age year) (work-among record-numbers (factor-numbered b age year));
+      rate = λ age year. checked-by (cell-checked run history (b .base) age year) (work-among record-numbers (rate-numbered b age year));
+      survivorship = λ kind age deferment year. checked-by (valuation-checked run history age deferment year) (work-among record-numbers (survivors-numbered b kind age year deferment));
+      expectation = λ kind age deferment year. checked-by (valuation-checked run history age deferment year) (work-among record-numbers (expectation-numbered b kind age year deferment));
+      annuity = λ kind age deferment year. checked-by (valuation-checked run history age deferment year) (work-among record-numbers (annuity-numbered b kind age year deferment));
+      smallSet = set-refusal run history;
+      grid = λ count. first-by (count-numbered 119 count) (basis-numbered run history);
+      point = λ q. (work-numbered b q, refl);
+      gridRecord = λ p. refl;
+      start = start-numbered run history;
+      step = step-numbered run history;
+      files = λ file. first-by (file-numbered file) (history-numbered (basisOf (runIn file)) history);
+      line = malformed-numbered b;
+    }
+
+-- ---- number 0
+zero-unlisted : Listed numbers 0 → ⊥
+zero-unlisted l = let h = never-zero 0 l in omega arith
+
+zero-refused : {n : ℕ} → n ≡ 0 → Listed numbers n → ⊥
+zero-refused e l = zero-unlisted (rw e at l)
+
+pub zero-is-none : ZeroIsNone
+unfolding numbers isListed replyOf
+zero-is-none =
+    record {
+      unlisted = refl;
+      check = of-check;
+      answer = of-answer;
+      signed = of-signed;
+      step = of-step;
+      point = of-point;
+      text = of-text;
+    }
+  where
+    of-check : (c : Check) → RefusesBy numbers c → refusalOf c .number ≡ 0 → c ≡ Passed
+    of-check Passed p e = refl
+    of-check (Refused r) p e = absurd (zero-refused e (p .listed r refl))
+
+    of-answer : (work : Outcome ℤ) → RefusedBy numbers work → answerOf work .refusal .number ≡ 0 → (v : ℤ) × (work ≡ value v)
+    of-answer (value v) p e = (v, refl)
+    of-answer (refused r) p e = absurd (zero-refused e (p .listed r refl))
+
+    of-signed : (work : Outcome ℤ) → RefusedBy numbers work → signedAnswerOf work .refusal .number ≡ 0 → (v : ℤ) × (work ≡ value v)
+    of-signed (value v) p e = (v, refl)
+    of-signed (refused r) p e = absurd (zero-refused e (p .listed r refl))
+
+    of-step : (s : Status) (r : Refusal) → s ≡ status.Refused r → Listed numbers (r .number) → stepRefusal s .number ≡ 0 → ⊥
+    of-step s r h l e = zero-refused (sym (ap (λ (x : Status). stepRefusal x .number) h) ∙ e) l
+
+    of-point : (work : Outcome (List ℕ)) → RefusedBy recordNumbers work → pointAnswerOf work .refusal .number ≡ 0 → (results : List ℕ) × (work ≡ value results)
+    of-point (value v) p e = (v, refl)
+    of-point (refused r) p e = absurd (zero-refused e (record-numbers _ (p .listed r refl)))
+
+    of-text : (q : Question) (work : Outcome (List ℕ)) → RefusedBy recordNumbers work → replyOf q (pointAnswerOf work) ≡ workText q work
+    of-text q (value v) p = refl
+    of-text q (refused r) p = rw (ne-eqb (r .number) 0 (λ e. zero-refused e (record-numbers _ (p .listed r refl)))) refl

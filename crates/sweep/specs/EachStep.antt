@@ -1,0 +1,29 @@
+-- What change 5 says of the sweep (02), as one statement over every number of steps: after each of them, from its start in B on, it holds for
+-- each age the direct engine's factor of that year, or that age's first refusal up to then.
+use mathlib.Core.Path.{_≡_}
+use mathlib.Core.List.{List}
+use Prim.Native.Nat.{ℕ, suc, _+_, _≤_, _<_}
+use lib.ListN.{length}
+use Rattle.basis.specs.declared.Refusal.{Refusal}
+use Rattle.basis.specs.declared.Check.the-variants.{Passed}
+use Rattle.basis.specs.Outcome.{refused}
+use Rattle.history.specs.History.{basisWith, basisCheck}
+use Rattle.projection.specs.Projection.{factorOf}
+use Rattle.sweep.specs.Sweep.{sweepStart, sweepStep}
+use Rattle.sweep.specs.Held.{stateIn, Holds}
+
+-- the lists of numbers that n steps go through: the first is what the contract of `start` gives, and each later one what that of `step` leaves
+-- of the one before it, in the years B, B + 1 and so on
+pub record Swept (run history : List ℕ) (lists : ℕ → List ℕ) (n : ℕ) : Type 0 where
+  pub started : Holds (lists 0) sweepStart
+  pub stepped : (k : ℕ) → k < n → Holds (lists (suc k)) (sweepStep (basisWith run history) (basisWith run history .base + k) (stateIn (lists k)))
+
+pub record EachStep (run history : List ℕ) : Type 0 where
+  -- on an accepted basis and history, after k steps, at each age
+  pub factor : basisCheck run history ≡ Passed → (lists : ℕ → List ℕ) (n : ℕ) → Swept run history lists n →
+      (k : ℕ) → k ≤ n → (age : ℕ) → 20 ≤ age → age ≤ 150 → stateIn (lists k) age ≡ factorOf (basisWith run history) age (basisWith run history .base + k)
+  -- the first refusal of an age stands after every further step
+  pub first : (lists : ℕ → List ℕ) (n : ℕ) → Swept run history lists n →
+      (j k : ℕ) → j ≤ k → k ≤ n → (age : ℕ) → 20 ≤ age → age ≤ 150 → (r : Refusal) → stateIn (lists j) age ≡ refused r → stateIn (lists k) age ≡ refused r
+  -- what a step needs of the list that it is lent
+  pub size : (lists : ℕ → List ℕ) (n : ℕ) → Swept run history lists n → (k : ℕ) → k ≤ n → length (lists k) ≡ 131
