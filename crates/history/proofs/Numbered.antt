@@ -12,8 +12,8 @@ use Rattle.field_check.specs.Field.{fieldsCheck}
 use Rattle.field_check.proofs.Numbered.{field-by}
 use Rattle.run_check.proofs.Numbered.{run-numbered}
 use Rattle.block.proofs.Numbered.{blocks-numbered}
-use Rattle.history.specs.History.{actualYears, lengthNeeded, historyData, movedTo, yearlyFields, improvements, zeros, historyFields, historyCheck, basisCheck}
-use Rattle.history.proofs.Acceptance.{fields-parts}
+use Rattle.history.specs.History.{actualYears, lengthNeeded, historyData, movedTo, yearlyFields, youngerAges, olderAges, firstRemaining, secondRemaining, historyFields, historyCheck, basisCheck}
+use Rattle.history.proofs.Ways.{fields-parts}
 
 yearly-numbered : (s : List ℕ) (first second : Field) (at n : ℕ) → Listed numbers (first .0) → Listed numbers (second .0) → RefusesBy numbers (fieldsCheck s (yearlyFields first second at n))
 unfolding fieldsCheck yearlyFields
@@ -25,7 +25,7 @@ fields-numbered : (s : List ℕ) (years : ℕ) → RefusesBy numbers (fieldsChec
 unfolding numbers isListed
 fields-numbered s years =
     rw (fields-parts s years)
-    (first-by (yearly-numbered s (zeros 264 242) (zeros 260 246) 0 years refl refl) (yearly-numbered s (improvements 66) (improvements 65) 0 years refl refl))
+    (first-by (yearly-numbered s firstRemaining secondRemaining 0 years refl refl) (yearly-numbered s youngerAges olderAges 0 years refl refl))
 
 pub history-numbered : (b : Basis) (history : List ℕ) → RefusesBy numbers (historyCheck b history)
 unfolding historyCheck numbers isListed
