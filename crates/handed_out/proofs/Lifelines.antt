@@ -23,7 +23,8 @@ use Rattle.lifeline.specs.declared.Stand.{Stand}
 use Rattle.lifeline.specs.declared.Moved.{Moved}
 use Rattle.lifeline.specs.Lifeline.{begunAt, startAt, stepCheck, moved, lived, unlessRefused, stepAt, stepFrom, standAfter}
 use Rattle.lifeline.proofs.Standing.{step-passed}
-use Rattle.lifeline.proofs.Survivorship.{Advances, steps-are-survivorship}
+use Rattle.lifeline.specs.Survivorship.{Advances}
+use Rattle.lifeline.proofs.Survivorship.{steps-are-survivorship}
 use Rattle.engine.specs.Lifelines.{lifelineBegun}
 use Rattle.exact.proofs.Demands.{demand-3}
 use Rattle.refusals.proofs.Calls.{numbered-refusals, zero-is-none}
