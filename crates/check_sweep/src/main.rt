@@ -7,7 +7,7 @@
 ghost use mathlib.Core.Path.{_≡_};
 ghost use Prim.Native.Nat.{_≤_};
 ghost use lib.ListN.{length};
-ghost use Rattle.history.specs.History.{AcceptedWith};
+ghost use Rattle.history.specs.History.{Workable};
 use basis::Check;
 use basis::Refusal;
 use libc::STDIN_FILENO;
@@ -63,7 +63,7 @@ fn weighed(state: &[u32]) -> u64
 
 // The states of all years, and the step after the last year.
 fn sweep_years(run: &[u8], history: &[u8])
-    requires { ⌜ AcceptedWith (now run) (now history) ⌝ }
+    requires { ⌜ Workable (now run) (now history) ⌝ }
 {
     let mut state = sweep::start();
     let mut year = basis::fields::base_year(run);

@@ -16,7 +16,16 @@ use Rattle.basis.specs.Outcome.{Outcome, value, refused, firstOf}
 use Rattle.basis.proofs.Outcome.{checked-passed, first-refused}
 use Rattle.run_check.proofs.Acceptance.{accepted, passes}
 use Rattle.basis_file.specs.File.{runIn, fileOf}
-use Rattle.basis_file.proofs.RoundTrip.{run-back, file-accepted, file-back}
+use Rattle.arithmetic.proofs.Rounding.{ties-go-up}
+use Rattle.basis_file.proofs.RoundTrip.{round-trips}
+use Rattle.history.proofs.Acceptance.{history-acceptance}
+use Rattle.improvement.proofs.Cases.{actual-answered}
+use Rattle.improvement.proofs.OneRounding.{one-rounding, edges}
+use Rattle.short_form.proofs.Accepted.{short-form-stands}
+use Rattle.lifeline.proofs.Survivorship.{is-cohort-survivorship}
+use Rattle.lifeline.proofs.Says.{step-says}
+use Rattle.enquiry_text.proofs.Says.{line-says}
+use Rattle.figures.proofs.Computed.{figures-hold}
 use Rattle.history.specs.History.{basisWith, basisCheck}
 use Rattle.short_form.specs.ShortForm.{shortFormOf}
 use Rattle.sweep.proofs.Steps.{each-step}
@@ -111,8 +120,17 @@ module _ (run history : List ℕ) where
         annuity = λ kind age deferment year h. checked-passed _ _ h;
         point = λ q h. ap pointAnswerOf (checked-passed _ _ h);
         sweep = each-step run history;
-        fileBack = file-back;
-        runBack = λ h. (file-accepted run h, run-back run (accepted run h .size));
+        roundTrips = round-trips;
+        historyAccepted = history-acceptance;
+        actualAnswered = actual-answered run history;
+        edges = edges;
+        lines = line-says;
+        ties = ties-go-up;
+        oneRounding = one-rounding;
+        shortForm = short-form-stands run;
+        lifeline = is-cohort-survivorship run history;
+        steps = step-says;
+        figures = figures-hold;
       }
 
 pub demands-met : (run history : List ℕ) → Demands run history

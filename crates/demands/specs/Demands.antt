@@ -3,19 +3,24 @@
 -- with one of them, and always returns, which is what the checker accepts of its code. `demands-met` in proofs/ proves them.
 use mathlib.Core.Path.{_≡_}
 use mathlib.Core.List.{List}
-use Prim.Native.Nat.{ℕ, _≤_, _<_}
+use Prim.Native.Nat.{ℕ, _≤_}
 use lib.IntN.{ℤ}
-use lib.ListN.{length, getD}
+use lib.ListN.{length}
+use Rattle.arithmetic.specs.Rounding.{TiesGoUp}
 use Rattle.lent.specs.Lent.{written}
 use Rattle.basis.specs.declared.Refusal.{Refusal}
 use Rattle.basis.specs.declared.Check.the-variants.{Passed, Refused}
 use Rattle.basis.specs.Basis.{Accepted}
 use Rattle.basis.specs.Outcome.{refused, firstOf}
 use Rattle.run_check.specs.Run.{runCheck}
-use Rattle.basis_file.specs.File.{runIn, fileOf, fileCheck}
+use Rattle.basis_file.specs.File.{runIn, fileOf}
+use Rattle.basis_file.specs.RoundTrips.{RoundTrips}
 use Rattle.history.specs.History.{basisWith, basisCheck}
-use Rattle.short_form.specs.ShortForm.{shortFormOf}
+use Rattle.history.specs.Accepted.{HistoryAcceptance}
+use Rattle.short_form.specs.ShortForm.{shortFormOf, ShortFormStands}
 use Rattle.improvement.specs.Improvement.{firstYear, improvementOf, improvementNeeded}
+use Rattle.improvement.specs.Answered.{Edges, ActualAnswered}
+use Rattle.improvement.specs.OneRounding.{OneRounding}
 use Rattle.projection.specs.Projection.{factorOf, rateOf}
 use Rattle.sweep.specs.EachStep.{EachStep}
 use Rattle.survivorship.specs.declared.Kind.{Kind}
@@ -32,6 +37,10 @@ use Rattle.grid_record.specs.Record.{questionOf, recordOf, answeredOf}
 use Rattle.grid.specs.Grid.{gridCheck, gridOf}
 use Rattle.lifeline.specs.declared.Status.the-variants as status
 use Rattle.lifeline.specs.Lifeline.{startAt, stepAt, standAt, standMoved}
+use Rattle.lifeline.specs.Survivorship.{IsCohortSurvivorship}
+use Rattle.lifeline.specs.Said.{StepSays}
+use Rattle.enquiry_text.specs.Said.{LineSays}
+use Rattle.figures.specs.Figures.{FiguresHold}
 use Rattle.engine.specs.Enquiry.{readCheck, writeCheck, shortCheck}
 use Rattle.refusals.specs.Numbered.{workOn, NumberedRefusals, ZeroIsNone}
 use Rattle.exact.specs.Distance.{Demand3}
@@ -73,6 +82,13 @@ pub record Demand2 (run history : List ℕ) : Type 0 where
   -- "Outside the refusal conditions every enquiry is answered": 1, 4 and 5 refuse every run that is not accepted, and no other
   pub runAccepted : runCheck run ≡ Passed → Accepted run
   pub acceptedRun : Accepted run → runCheck run ≡ Passed
+  -- 13 and 2 to 5 every history that is not (02, change 2), and no actual improvement is refused by 9
+  pub historyAccepted : HistoryAcceptance
+  pub actualAnswered : ActualAnswered run history
+  -- 9 begins half a unit beyond its limits
+  pub edges : Edges
+  -- 12 refuses every line but the questions as they are printed
+  pub lines : LineSays
   -- "with exactly the number of the model under the paper's rounding rules": after its checks an enquiry is the model's work, which is
   -- refused by 9 and 10 alone
   pub improvement : (age year : ℕ) → firstOf (basisCheck run history) (cellCheck (firstYear (basisWith run history)) age year) ≡ Passed →
@@ -89,12 +105,20 @@ pub record Demand2 (run history : List ℕ) : Type 0 where
       annuityEnquiry run history kind age deferment year ≡ annuityOf (basisWith run history) kind age year deferment
   pub point : (q : Question) → questionCheck (basisWith run history .base) (q .age) (q .deferment) (q .year) ≡ Passed →
       pointOf (basisWith run history) q ≡ pointAnswerOf (resultsOf (basisWith run history) (q .age) (q .deferment) (q .year))
+  -- ties go up, and the two components are rounded once (02, change 3)
+  pub ties : TiesGoUp
+  pub oneRounding : OneRounding
+  -- the short form is accepted, and differs only in what it may
+  pub shortForm : (rate : ℤ) → ShortFormStands run rate
+  -- a lifeline's steps are cohort survivorship, and say what they say
+  pub lifeline : (age year : ℕ) → IsCohortSurvivorship run history age year
+  pub steps : StepSays
+  -- the marked figures of the paper
+  pub figures : FiguresHold
   -- the sweep holds what the direct engine answers (02, change 5)
   pub sweep : EachStep run history
-  -- "A basis read and written back is the same file" (the elements of a file are bytes)
-  pub fileBack : (file : List ℕ) → ((i : ℕ) → getD file i 0 < 256) → fileCheck file ≡ Passed → fileOf (runIn file) ≡ file
-  -- "written and read back, the same basis"
-  pub runBack : runCheck run ≡ Passed → (fileCheck (fileOf run) ≡ Passed) × (runIn (fileOf run) ≡ run)
+  -- "A basis read and written back is the same file; written and read back, the same basis"
+  pub roundTrips : RoundTrips
 
 -- ---- Demand 3, "Where no exact improvement taken into the answer is below zero, the answer lies within the paper's distances of the exact,
 -- unrounded model", is `Demand3` in crates/exact/specs/Distance.antt; `HandedOut` carries it to what a host is handed

@@ -14,8 +14,8 @@ use Rattle.lent.proofs.Lent.{roomy, filled}
 use Rattle.run_check.proofs.Acceptance.{accepted}
 use Rattle.basis_file.specs.File.{fileCheck, runIn}
 use Rattle.basis_file.proofs.RoundTrip.{run-accepted}
-use Rattle.history.specs.History.{historyCheck, basisCheck, AcceptedWith}
-use Rattle.history.proofs.Acceptance.{accepted-with}
+use Rattle.history.specs.History.{historyCheck, basisCheck, Workable}
+use Rattle.history.proofs.Acceptance.{accepted-workable}
 use Rattle.enquiry_lines.specs.Output.{filesCheck}
 
 -- an accepted file's run fills a room of its own length
@@ -41,5 +41,5 @@ module _ (file history : List ℕ) where
   pub opened-run : (run : List ℕ) → length run ≡ 4554 → (c : Check) → c ≡ filesCheck file history → c ≡ Passed → written c (runIn file) run ≡ runIn file
   opened-run run l c e h = run-fills file (both (sym e ∙ h) .0) run l c h
 
-  pub opened-with : filesCheck file history ≡ Passed → AcceptedWith (runIn file) history
-  opened-with h = accepted-with (runIn file) history (both h .1)
+  pub opened-with : filesCheck file history ≡ Passed → Workable (runIn file) history
+  opened-with h = accepted-workable (runIn file) history (both h .1)

@@ -4,7 +4,7 @@ ghost use mathlib.Core.Path.{_≡_};
 ghost use mathlib.Core.List.{[]};
 ghost use Prim.Native.Nat.{_+_, _*_, _≤_, _<_};
 ghost use lib.ListN.{length};
-ghost use Rattle.history.specs.History.{basisWith, AcceptedWith};
+ghost use Rattle.history.specs.History.{basisWith, Workable};
 ghost use Rattle.workings.specs.Workings.{Workings};
 ghost use Rattle.enquiry_text.specs.Line.{lineOf};
 ghost use Rattle.reply_text.specs.Inner.Put.{Put};
@@ -27,7 +27,7 @@ fn put_line(
     number: u64,
     text: &[u8],
 ) -> usize
-    requires { ⌜ AcceptedWith (now run) (now history) ⌝ }
+    requires { ⌜ Workable (now run) (now history) ⌝ }
     requires { ⌜ Workings (basisWith (now run) (now history)) (now workings) ⌝ }
     requires { ⌜ at + 192 ≤ length (now out) ⌝ }
     ensures { λ r. ⌜ Put (now (out .entry)) at (replyTo (basisWith (now (run .entry)) (now (history .entry))) number (lineOf (now (text .entry)))) (now (out .exit)) r ⌝ }
@@ -71,7 +71,7 @@ pub fn feed(
     out: &mut [u8],
     from: usize,
 ) -> Fed
-    requires { ⌜ AcceptedWith (now run) (now history) × Workings (basisWith (now run) (now history)) (now workings) ⌝ }
+    requires { ⌜ Workable (now run) (now history) × Workings (basisWith (now run) (now history)) (now workings) ⌝ }
     requires { ⌜ from + 192 * length (now part) ≤ length (now out) ⌝ }
     requires { ⌜ Sound s ⌝ }
     requires { ⌜ s .complete + length (now part) < 18446744073709551616 ⌝ }
@@ -119,7 +119,7 @@ pub fn finish(
     out: &mut [u8],
     from: usize,
 ) -> usize
-    requires { ⌜ AcceptedWith (now run) (now history) × Workings (basisWith (now run) (now history)) (now workings) ⌝ }
+    requires { ⌜ Workable (now run) (now history) × Workings (basisWith (now run) (now history)) (now workings) ⌝ }
     requires { ⌜ from + 192 ≤ length (now out) ⌝ }
     requires { ⌜ Sound s ⌝ }
     requires { ⌜ s .complete + 1 < 18446744073709551616 ⌝ }

@@ -1,6 +1,5 @@
 -- What a line says: the printed questions are enquiries, no other line is one, and those are refused by 12. Assumes nothing.
-use mathlib.Core.Path.{_≡_, refl, ap}
-use mathlib.Core.List.{List}
+use mathlib.Core.Path.{_≡_, ap}
 use Prim.Native.Nat.{ℕ}
 use native.Mathlib.Omega.{arith}
 use Rattle.basis.specs.declared.Refusal.{Refusal}

@@ -9,8 +9,8 @@ use borrow.Author.Tests.{leb-true}
 use Rattle.basis.specs.declared.Check.{Check}
 use Rattle.basis.specs.declared.Check.the-variants.{Passed, Refused}
 use Rattle.basis.specs.Basis.{Basis}
-use Rattle.history.specs.History.{basisWith, basisCheck, AcceptedWith}
-use Rattle.history.proofs.Acceptance.{accepted-with}
+use Rattle.history.specs.History.{basisWith, basisCheck, Workable}
+use Rattle.history.proofs.Acceptance.{accepted-workable}
 use Rattle.basis.proofs.Outcome.{both-passed, unless-passed}
 use Rattle.grid_record.specs.declared.Point.{Point}
 use Rattle.grid_record.specs.Record.{answeredOf}
@@ -57,6 +57,6 @@ module _ (run history : List ℕ) (count : ℕ) where
       by (Refused r) h = zero-le
 
   -- and the run is accepted with its history
-  pub turn-accepted : (i : ℕ) → i < recordsOf (gridCheck run history count) → AcceptedWith run history
+  pub turn-accepted : (i : ℕ) → i < recordsOf (gridCheck run history count) → Workable run history
   unfolding gridCheck
-  turn-accepted i h = accepted-with run history (both-passed (countCheck 119 count) (basisCheck run history) (passes (gridCheck run history count) i h) .1)
+  turn-accepted i h = accepted-workable run history (both-passed (countCheck 119 count) (basisCheck run history) (passes (gridCheck run history count) i h) .1)

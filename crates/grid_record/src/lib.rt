@@ -1,6 +1,6 @@
 // One record of the grid on an accepted data run and its history.
 ghost use mathlib.Core.Path.{_≡_};
-ghost use Rattle.history.specs.History.{basisWith, AcceptedWith};
+ghost use Rattle.history.specs.History.{basisWith, Workable};
 ghost use Rattle.grid_record.specs.Record.{recordOf, answeredOf};
 use model_points::PointAnswer;
 use model_points::Question;
@@ -34,7 +34,7 @@ pub fn recorded(p: Point, a: PointAnswer) -> Point
 }
 
 pub fn answered(run: &[u8], history: &[u8], p: Point) -> Point
-    requires { ⌜ AcceptedWith (now run) (now history) ⌝ }
+    requires { ⌜ Workable (now run) (now history) ⌝ }
     ensures { λ r. ⌜ r ≡ answeredOf (basisWith (now (run .entry)) (now (history .entry))) p ⌝ }
 {
     let a = model_points::point_at(

@@ -21,9 +21,14 @@ use Rattle.field_check.proofs.Holds.{Holds, field-holds, field-passes}
 use Rattle.run_check.specs.Run.{runCheck}
 use Rattle.run_check.proofs.Acceptance as runs
 use Rattle.block.specs.Blocks.{blocksCheck}
-use Rattle.history.specs.History.{actualYears, lengthNeeded, historyData, placeOf, actualOf, movedTo, yearlyFields, youngerAges, firstRemaining, olderAges, secondRemaining, historyFields, historyCheck, basisCheck, AcceptedWith}
+use Rattle.history.specs.History.{actualYears, lengthNeeded, historyData, placeOf, actualOf, movedTo, yearlyFields, youngerAges, firstRemaining, olderAges, secondRemaining, historyFields, historyCheck, basisCheck, Workable}
+<<<<<<< HEAD
 use Rattle.history.specs.Accepted.{AcceptedHistory, AcceptedBasis, HistoryAcceptance}
 use Rattle.history.proofs.RightBlocks.{blocks-right, blocks-pass}
+=======
+use Rattle.history.specs.Accepted.{AcceptedHistory, HistoryAcceptance}
+use Rattle.history.proofs.Numbered.{blocks-right, blocks-pass}
+>>>>>>> acceptance
 use Rattle.history.proofs.Yearly.{each-year, years-pass}
 use Rattle.history.proofs.Ways.{fields-parts, right-length}
 
@@ -166,7 +171,7 @@ history-acceptance =
     }
 
 -- ---- what the work asks of it
-pub accepted-with : (run history : List ℕ) → basisCheck run history ≡ Passed → AcceptedWith run history
-accepted-with run history h =
+pub accepted-workable : (run history : List ℕ) → basisCheck run history ≡ Passed → Workable run history
+accepted-workable run history h =
     let a = history-acceptance .basis-accepted run history h in
     record { basis = a .by-run; size = a .by-history .size; actual = a .by-history .actual }

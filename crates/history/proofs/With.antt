@@ -3,13 +3,13 @@ use mathlib.Core.Path.{_≡_, refl}
 use mathlib.Core.List.{List}
 use Prim.Native.Nat.{ℕ}
 use Rattle.basis.specs.Basis.{basisOf, accumulationOf, Limited}
-use Rattle.history.specs.History.{basisWith, AcceptedWith}
+use Rattle.history.specs.History.{basisWith, Workable}
 
 pub accumulation-with : (run history : List ℕ) → accumulationOf (basisOf run) ≡ accumulationOf (basisWith run history)
 unfolding accumulationOf
 accumulation-with run history = refl
 
-pub limits-with : {run history : List ℕ} → AcceptedWith run history → Limited (basisWith run history)
+pub limits-with : {run history : List ℕ} → Workable run history → Limited (basisWith run history)
 limits-with ok =
     let l = ok .basis .limits in
     record {

@@ -97,9 +97,9 @@ historyCheck b history =
 unfoldable pub basisCheck : List ℕ → List ℕ → Check
 basisCheck run history = firstOf (runCheck run) (historyCheck (basisOf run) history)
 
--- what a data run and a history have that none of these refuses, as far as the work asks for it: the run's own acceptance, the
--- history's length, and the limits of its improvements
-pub record AcceptedWith (run history : List ℕ) : Type 0 where
+-- what the work asks of a data run and its history: the run's own acceptance, the history's length, and the limits of its improvements.
+-- An accepted history has more, right blocks and zero bytes (`AcceptedHistory`), of which nothing is read
+pub record Workable (run history : List ℕ) : Type 0 where
   pub basis : Accepted run
   pub size : length history ≡ lengthNeeded (basisOf run)
   pub actual : (age year : ℕ) → 20 ≤ age → age ≤ 150 → basisOf run .base < year → year ≤ basisOf run .foundation

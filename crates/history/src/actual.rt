@@ -4,7 +4,7 @@ ghost use mathlib.Core.Bool.{cond};
 ghost use Prim.Native.Nat.{_+_, _*_, _-_, _≤_, _<_};
 ghost use lib.Dec.{leb};
 ghost use Rattle.basis.specs.Basis.{basisOf};
-ghost use Rattle.history.specs.History.{actualOf, AcceptedWith};
+ghost use Rattle.history.specs.History.{actualOf, Workable};
 
 // Where an age stands in the two blocks of a year.
 fn place_in_blocks(age: u32) -> usize
@@ -20,7 +20,7 @@ fn place_in_blocks(age: u32) -> usize
 
 // The actual improvement at an age in a year from B + 1 to F.
 pub fn actual_improvement(run: &[u8], history: &[u8], age: u32, year: u32) -> i32
-    requires { ⌜ AcceptedWith (now run) (now history) × (20 ≤ age) × (age ≤ 150) × (basisOf (now run) .base < year) × (year ≤ basisOf (now run) .foundation) ⌝ }
+    requires { ⌜ Workable (now run) (now history) × (20 ≤ age) × (age ≤ 150) × (basisOf (now run) .base < year) × (year ≤ basisOf (now run) .foundation) ⌝ }
     ensures { λ r. ⌜ r ≡ actualOf (basisOf (now (run .entry))) (now (history .entry)) age year ⌝ }
 {
     let years = (year - basis::fields::base_year(run) - 1) as usize;

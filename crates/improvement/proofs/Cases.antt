@@ -13,7 +13,7 @@ use borrow.Author.Tests.{lt-ltb, le-ltb, leb-true, leb-false, le-leb, lt-leb}
 use Rattle.arithmetic.specs.Fraction.{_+ᶠ_, round}
 use Rattle.basis.specs.Basis.{Basis, basisOf, ConvergenceLimits, Limited}
 use Rattle.history.specs.History.{actualOf, basisWith}
-use Rattle.history.proofs.Acceptance.{accepted-with}
+use Rattle.history.proofs.Acceptance.{accepted-workable}
 use Rattle.basis.specs.Outcome.{value, refused, refusal}
 use Rattle.basis.specs.declared.Convergence.{Convergence}
 use Rattle.component.specs.Component.{componentOf}
@@ -157,6 +157,6 @@ actual-answered run history =
       answered = λ age year ok low high after upto.
           let b = basisWith run history in
           let e : isActual b year ≡ true = is-actual b year after upto in
-          let small = accepted-with run history ok .actual age year low high after upto in
+          let small = accepted-workable run history ok .actual age year low high after upto in
           rw e (needed-usable age year (actualOf (basisOf run) history age year) (le-leb (natAbs (actualOf (basisOf run) history age year)) improvementLimit (omega (arith, small))));
     }

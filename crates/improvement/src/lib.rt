@@ -5,7 +5,7 @@ ghost use Prim.Native.Nat.{_≤_};
 ghost use lib.IntN.{_+ℤ_};
 ghost use Rattle.arithmetic.specs.Fraction.{_+ᶠ_, round};
 ghost use Rattle.basis.specs.Basis.{basisOf, Accepted, ConvergenceLimits};
-ghost use Rattle.history.specs.History.{basisWith, AcceptedWith};
+ghost use Rattle.history.specs.History.{basisWith, Workable};
 ghost use Rattle.basis.specs.Outcome.{signedMeaning};
 ghost use Rattle.component.specs.Component.{componentOf};
 ghost use Rattle.improvement.specs.Improvement.{additionOf, birthTerms, projectedOf, isActual, firstYear, improvementOf, improvementNeeded, usable};
@@ -65,7 +65,7 @@ fn is_actual(run: &[u8], year: u32) -> bool
 
 // The improvement at an age, whose terms the caller has read, in a year up to 2130 that has one.
 pub fn improvement_at(run: &[u8], history: &[u8], terms: Convergence, age: u32, year: u32) -> i64
-    requires { ⌜ AcceptedWith (now run) (now history) × (20 ≤ age) × (age ≤ 150) × (terms ≡ basisOf (now run) .byAge age) × (firstYear (basisWith (now run) (now history)) ≤ year) × (year ≤ 2130) ⌝ }
+    requires { ⌜ Workable (now run) (now history) × (20 ≤ age) × (age ≤ 150) × (terms ≡ basisOf (now run) .byAge age) × (firstYear (basisWith (now run) (now history)) ≤ year) × (year ≤ 2130) ⌝ }
     ensures { λ r. ⌜ r ≡ improvementOf (basisWith (now (run .entry)) (now (history .entry))) age year ⌝ }
 {
     if is_actual(run, year) {
@@ -98,7 +98,7 @@ pub fn is_usable(improvement: i64) -> bool
 
 // The improvement at an age in a year up to 2130 that has one, with refusal 9.
 pub fn improvement_needed(run: &[u8], history: &[u8], age: u32, year: u32) -> SignedAnswer
-    requires { ⌜ AcceptedWith (now run) (now history) × (20 ≤ age) × (age ≤ 150) × (firstYear (basisWith (now run) (now history)) ≤ year) × (year ≤ 2130) ⌝ }
+    requires { ⌜ Workable (now run) (now history) × (20 ≤ age) × (age ≤ 150) × (firstYear (basisWith (now run) (now history)) ≤ year) × (year ≤ 2130) ⌝ }
     ensures { λ r. ⌜ signedMeaning r ≡ improvementNeeded age year (improvementOf (basisWith (now (run .entry)) (now (history .entry))) age year) ⌝ }
 {
     let improvement = improvement_at(run, history, basis::fields::age_terms(run, age), age, year);

@@ -1,7 +1,6 @@
 -- What a step says, case by case: its checks, its end, and the rate of its year. Assumes nothing.
 use mathlib.Core.Path.{_≡_, refl}
 use mathlib.Core.Bool.{Bool, true, false, cond}
-use mathlib.Core.List.{List}
 use Prim.Native.Nat.{ℕ}
 use lib.Dec.{eqb}
 use lib.IntN.{ℤ, pos}
@@ -12,7 +11,7 @@ use Rattle.history.specs.History.{basisWith}
 use Rattle.survivorship.specs.Survivorship.{survivorsAfterYear}
 use Rattle.lifeline.specs.declared.Status.the-variants as status
 use Rattle.lifeline.specs.Lifeline.{stepCheck, moved, yearLater, lived, unlessRefused, stepAt}
-use Rattle.lifeline.specs.Said.{Said, advanced, ended, statusMeaning, stepSays, StepSays}
+use Rattle.lifeline.specs.Said.{advanced, ended, statusMeaning, stepSays, StepSays}
 
 module _ (age year survivors : ℕ) where
   by-year : (o : Outcome ℤ) → statusMeaning (yearLater age year survivors o .status) ≡ andThen o (λ s. value advanced)

@@ -11,8 +11,8 @@ use Rattle.basis.specs.declared.Check.the-variants.{Passed, Refused}
 use Rattle.basis.specs.declared.Refusal.{Refusal}
 use Rattle.basis.specs.Outcome.{firstOf}
 use Rattle.basis.proofs.Outcome.{unless-passed, both-passed}
-use Rattle.history.specs.History.{basisWith, basisCheck, AcceptedWith}
-use Rattle.history.proofs.Acceptance.{accepted-with}
+use Rattle.history.specs.History.{basisWith, basisCheck, Workable}
+use Rattle.history.proofs.Acceptance.{accepted-workable}
 use Rattle.question.specs.Question.{inRange, ageCheck}
 use Rattle.enquiry.specs.Enquiry.{valuationCheck}
 use Rattle.question.proofs.Passed.{in-range, age-passed}
@@ -29,7 +29,7 @@ unfolding survivorsCheck
 survivors-passed survivors h = leb-true survivors U (unless-passed (leb survivors U) _ h)
 
 pub step-passed : (run history : List ℕ) (age year survivors : ℕ) → stepCheck run history age year survivors ≡ Passed
-    → AcceptedWith run history × (20 ≤ age) × (age ≤ 150) × (basisWith run history .base ≤ year) × (year ≤ lastStandingYear age) × (survivors ≤ U)
+    → Workable run history × (20 ≤ age) × (age ≤ 150) × (basisWith run history .base ≤ year) × (year ≤ lastStandingYear age) × (survivors ≤ U)
 unfolding standingCheck
 step-passed run history age year survivors h =
     let base = basisWith run history .base in
@@ -38,7 +38,7 @@ step-passed run history age year survivors h =
     let s = both-passed (standingYearCheck base age year) (survivorsCheck survivors) (q .1) in
     let a = age-passed age (q .0) in
     let y = standing-year-passed base age year (s .0) in
-    (accepted-with run history (p .0), a .0, a .1, y .0, y .1, survivors-passed survivors (s .1))
+    (accepted-workable run history (p .0), a .0, a .1, y .0, y .1, survivors-passed survivors (s .1))
 
 -- ---- the start
 module _ (run history : List ℕ) (age year : ℕ) where

@@ -3,7 +3,7 @@ ghost use mathlib.Core.Path.{_≡_};
 ghost use Prim.Native.Nat.{_+_, _≤_, _<_};
 ghost use lib.IntN.{pos};
 ghost use Rattle.basis.specs.Basis.{basisOf, Accepted};
-ghost use Rattle.history.specs.History.{basisWith, AcceptedWith};
+ghost use Rattle.history.specs.History.{basisWith, Workable};
 ghost use Rattle.question.specs.Question.{inRange};
 ghost use Rattle.survivorship.specs.Survivorship.{survivorsAfterYear};
 ghost use Rattle.lifeline.specs.Lifeline.{startAt, lastStandingYear, standingYearCheck, standingCheck, survivorsCheck, stepCheck, yearLater, stepAt};
@@ -97,7 +97,7 @@ fn check_step(run: &[u8], history: &[u8], age: u32, year: u32, survivors: u64) -
 
 // One year of cohort survivorship; where its rate is refused, the lifeline stays.
 fn year_later(run: &[u8], history: &[u8], age: u32, year: u32, survivors: u64) -> Moved
-    requires { ⌜ AcceptedWith (now run) (now history) × (20 ≤ age) × (age < 150) × (basisWith (now run) (now history) .base ≤ year) × (year ≤ 2260) × (survivors ≤ 1_000_000_000) ⌝ }
+    requires { ⌜ Workable (now run) (now history) × (20 ≤ age) × (age < 150) × (basisWith (now run) (now history) .base ≤ year) × (year ≤ 2260) × (survivors ≤ 1_000_000_000) ⌝ }
     ensures { λ r. ⌜ r ≡ yearLater age year survivors (survivorsAfterYear (basisWith (now (run .entry)) (now (history .entry))) age year (pos survivors)) ⌝ }
 {
     match survivorship::survivors_after_year(run, history, age, year, survivors) {

@@ -3,7 +3,7 @@
 ghost use mathlib.Core.Path.{_≡_};
 ghost use Prim.Native.Nat.{_+_, _*_, _≤_};
 ghost use lib.ListN.{length};
-ghost use Rattle.history.specs.History.{basisWith, AcceptedWith};
+ghost use Rattle.history.specs.History.{basisWith, Workable};
 ghost use Rattle.workings.specs.Workings.{Workings};
 ghost use Rattle.io.specs.Counts.{Counts};
 ghost use Rattle.enquiry_lines.specs.Inner.State.{Sound};
@@ -116,7 +116,7 @@ fn answer_block(
     out: &mut [u8],
     blocks: u64,
 ) -> Turn
-    requires { ⌜ AcceptedWith (now run) (now history) × Workings (basisWith (now run) (now history)) (now workings) ⌝ }
+    requires { ⌜ Workable (now run) (now history) × Workings (basisWith (now run) (now history)) (now workings) ⌝ }
     requires { ⌜ (length (now part) ≤ 1024) × (196608 ≤ length (now out)) ⌝ }
     requires { ⌜ (Sound s) × (s .complete + 1024 * (blocks + 1) ≤ 1024000000000000000) ⌝ }
     ensures { λ r. ⌜ (Sound (r .pending)) × (r .pending .complete + 1024 * blocks ≤ 1024000000000000000) ⌝ }
@@ -150,7 +150,7 @@ fn answer_blocks(
     part: &mut [u8],
     out: &mut [u8],
 ) -> Turn
-    requires { ⌜ AcceptedWith (now run) (now history) × Workings (basisWith (now run) (now history)) (now workings) ⌝ }
+    requires { ⌜ Workable (now run) (now history) × Workings (basisWith (now run) (now history)) (now workings) ⌝ }
     requires { ⌜ (length (now part) ≤ 1024) × (196608 ≤ length (now out)) ⌝ }
     ensures { λ r. ⌜ (Sound (r .pending)) × (r .pending .complete ≤ 1024000000000000000) ⌝ }
 {
@@ -177,7 +177,7 @@ fn answer_blocks(
 // All of standard input: its blocks, then a last line that lacks its byte 10. The basis stays the same, so that the factors
 // of all ages and years are worked out once, before the first line.
 fn answer_input(run: &[u8], history: &[u8], workings: &mut [u32], part: &mut [u8], out: &mut [u8])
-    requires { ⌜ AcceptedWith (now run) (now history) × (length (now workings) ≡ 18340) ⌝ }
+    requires { ⌜ Workable (now run) (now history) × (length (now workings) ≡ 18340) ⌝ }
     requires { ⌜ (length (now part) ≤ 1024) × (196608 ≤ length (now out)) ⌝ }
 {
     workings::work_out(run, history, workings);

@@ -2,7 +2,7 @@
 ghost use mathlib.Core.Path.{_≡_};
 ghost use Prim.Native.Nat.{_≤_};
 ghost use lib.IntN.{pos, natAbs};
-ghost use Rattle.history.specs.History.{basisWith, AcceptedWith};
+ghost use Rattle.history.specs.History.{basisWith, Workable};
 ghost use Rattle.basis.specs.Outcome.{meaning};
 ghost use Rattle.improvement.specs.Improvement.{firstYear, improvementOf};
 ghost use Rattle.projection.specs.Projection.{factorNext, factorFrom, heldYear, factorOf};
@@ -53,7 +53,7 @@ pub fn factor_in(
     year: u32,
     factor: u64,
 ) -> Answer
-    requires { ⌜ AcceptedWith (now run) (now history) × (20 ≤ age) × (age ≤ 150) × (terms ≡ basisWith (now run) (now history) .byAge age) × (firstYear (basisWith (now run) (now history)) ≤ year) × (year ≤ 2130) × (factor ≤ 4_000_000_000) ⌝ }
+    requires { ⌜ Workable (now run) (now history) × (20 ≤ age) × (age ≤ 150) × (terms ≡ basisWith (now run) (now history) .byAge age) × (firstYear (basisWith (now run) (now history)) ≤ year) × (year ≤ 2130) × (factor ≤ 4_000_000_000) ⌝ }
     ensures { λ r. ⌜ meaning r ≡ factorFrom age year (improvementOf (basisWith (now (run .entry)) (now (history .entry))) age year) (pos factor) ⌝ }
 {
     factor_from(
@@ -73,7 +73,7 @@ pub fn held_year(year: u32) -> u32
 
 // The factor at an age in a year from B on.
 pub fn factor_at(run: &[u8], history: &[u8], age: u32, year: u32) -> Answer
-    requires { ⌜ AcceptedWith (now run) (now history) × (20 ≤ age) × (age ≤ 150) × (basisWith (now run) (now history) .base ≤ year) ⌝ }
+    requires { ⌜ Workable (now run) (now history) × (20 ≤ age) × (age ≤ 150) × (basisWith (now run) (now history) .base ≤ year) ⌝ }
     ensures { λ r. ⌜ meaning r ≡ factorOf (basisWith (now (run .entry)) (now (history .entry))) age year ⌝ }
 {
     let terms = basis::fields::age_terms(run, age);

@@ -4,7 +4,7 @@ ghost use Prim.Native.Nat.{_≤_};
 ghost use lib.IntN.{pos};
 ghost use Rattle.basis.specs.Basis.{basisOf, Accepted};
 ghost use Rattle.basis.specs.Outcome.{meaning};
-ghost use Rattle.history.specs.History.{basisWith, AcceptedWith};
+ghost use Rattle.history.specs.History.{basisWith, Workable};
 ghost use Rattle.projection.specs.Projection.{factorOf, rateFrom, rateOf};
 use crate::factor;
 use basis::Answer;
@@ -26,7 +26,7 @@ fn rate_from(run: &[u8], age: u32, factor: u64) -> u64
 // The mortality rate at an age in a year from what its factor is, wherever that was worked out. The history and the year
 // say whose factor it is, and nothing is read of them.
 pub fn rate_by(run: &[u8], history: &[u8], age: u32, year: u32, factor: Answer) -> Answer
-    requires { ⌜ AcceptedWith (now run) (now history) × (20 ≤ age) × (age ≤ 150) × (meaning factor ≡ factorOf (basisWith (now run) (now history)) age year) ⌝ }
+    requires { ⌜ Workable (now run) (now history) × (20 ≤ age) × (age ≤ 150) × (meaning factor ≡ factorOf (basisWith (now run) (now history)) age year) ⌝ }
     ensures { λ r. ⌜ meaning r ≡ rateOf (basisWith (now (run .entry)) (now (history .entry))) age year ⌝ }
 {
     match factor {
@@ -37,7 +37,7 @@ pub fn rate_by(run: &[u8], history: &[u8], age: u32, year: u32, factor: Answer) 
 
 // The mortality rate at an age in a year from B on.
 pub fn rate_at(run: &[u8], history: &[u8], age: u32, year: u32) -> Answer
-    requires { ⌜ AcceptedWith (now run) (now history) × (20 ≤ age) × (age ≤ 150) × (basisWith (now run) (now history) .base ≤ year) ⌝ }
+    requires { ⌜ Workable (now run) (now history) × (20 ≤ age) × (age ≤ 150) × (basisWith (now run) (now history) .base ≤ year) ⌝ }
     ensures { λ r. ⌜ meaning r ≡ rateOf (basisWith (now (run .entry)) (now (history .entry))) age year ⌝ }
 {
     let factor = factor::factor_at(run, history, age, year);

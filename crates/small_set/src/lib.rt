@@ -1,7 +1,7 @@
 // The small set: six model points on one basis, by value. Any bytes and any questions are answered or refused.
 ghost use mathlib.Core.Path.{_≡_};
 ghost use mathlib.Core.List.{map};
-ghost use Rattle.history.specs.History.{basisWith, AcceptedWith};
+ghost use Rattle.history.specs.History.{basisWith, Workable};
 ghost use Rattle.model_points.specs.Point.{pointOf};
 ghost use Rattle.small_set.specs.SmallSet.{smallSetOf};
 use basis::Check;
@@ -24,7 +24,7 @@ pub struct SmallSet {
 
 // The six answers on an accepted data run and its history.
 fn six(run: &[u8], history: &[u8], questions: [Question; 6]) -> [PointAnswer; 6]
-    requires { ⌜ AcceptedWith (now run) (now history) ⌝ }
+    requires { ⌜ Workable (now run) (now history) ⌝ }
     ensures { λ r. ⌜ r ≡ map (pointOf (basisWith (now (run .entry)) (now (history .entry)))) questions ⌝ }
 {
     [

@@ -2,7 +2,7 @@
 ghost use mathlib.Core.Path.{_≡_};
 ghost use Prim.Native.Nat.{_+_, _≤_};
 ghost use lib.IntN.{pos};
-ghost use Rattle.history.specs.History.{basisWith, AcceptedWith};
+ghost use Rattle.history.specs.History.{basisWith, Workable};
 ghost use Rattle.basis.specs.Outcome.{meaning};
 ghost use Rattle.projection.specs.Projection.{rateOf};
 ghost use Rattle.survivorship.specs.Survivorship.{yearOn, survivorsNext, survivorsAfterYear, survivorsOf};
@@ -49,7 +49,7 @@ pub fn survivors_by(run: &[u8], history: &[u8], age: u32, year: u32, rate: Answe
 
 // The same at an age in a year from B on.
 pub fn survivors_after_year(run: &[u8], history: &[u8], age: u32, year: u32, s: u64) -> Answer
-    requires { ⌜ AcceptedWith (now run) (now history) × (20 ≤ age) × (age ≤ 150) × (basisWith (now run) (now history) .base ≤ year) × (s ≤ 1_000_000_000) ⌝ }
+    requires { ⌜ Workable (now run) (now history) × (20 ≤ age) × (age ≤ 150) × (basisWith (now run) (now history) .base ≤ year) × (s ≤ 1_000_000_000) ⌝ }
     ensures { λ r. ⌜ meaning r ≡ survivorsAfterYear (basisWith (now (run .entry)) (now (history .entry))) age year (pos s) ⌝ }
 {
     let rate = projection::rate::rate_at(run, history, age, year);
@@ -58,7 +58,7 @@ pub fn survivors_after_year(run: &[u8], history: &[u8], age: u32, year: u32, s: 
 
 // The survivors after n years.
 pub fn survivors_at(run: &[u8], history: &[u8], kind: Kind, age: u32, year: u32, n: u32) -> Answer
-    requires { ⌜ AcceptedWith (now run) (now history) × (20 ≤ age) × (age + n ≤ 150) × (basisWith (now run) (now history) .base ≤ year) × (year ≤ 2130) ⌝ }
+    requires { ⌜ Workable (now run) (now history) × (20 ≤ age) × (age + n ≤ 150) × (basisWith (now run) (now history) .base ≤ year) × (year ≤ 2130) ⌝ }
     ensures { λ r. ⌜ meaning r ≡ survivorsOf (basisWith (now (run .entry)) (now (history .entry))) kind age year n ⌝ }
 {
     let mut s: u64 = UNIT;

@@ -10,7 +10,7 @@ use Rattle.basis.specs.declared.Refusal.{Refusal}
 use Rattle.basis.specs.Basis.{Basis}
 use Rattle.basis.specs.Outcome.{Outcome, refused}
 use Rattle.history.specs.History.{basisWith}
-use Rattle.history.proofs.Acceptance.{accepted-with}
+use Rattle.history.proofs.Acceptance.{accepted-workable}
 use Rattle.history.proofs.With.{limits-with}
 use Rattle.sweep.specs.Sweep.{sweepAfter}
 use Rattle.sweep.specs.Held.{heldIn, stateIn, Holds}
@@ -42,7 +42,7 @@ each-step run history =
     record {
       factor = λ passed lists n s k l age low high.
           held-at (holds run history lists n s k l) age low high
-          ∙ sweep-direct (basisWith run history) age (limits-with (accepted-with run history passed) .base-high) k;
+          ∙ sweep-direct (basisWith run history) age (limits-with (accepted-workable run history passed) .base-high) k;
       first = λ lists n s j k l m age low high r h.
           let e : k - j + j ≡ k = omega arith in
           let before = sym (held-at (holds run history lists n s j (omega arith)) age low high) ∙ h in

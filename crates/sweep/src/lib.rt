@@ -5,7 +5,7 @@ ghost use Prim.Native.Nat.{_+_, _-_, _≤_, _<_};
 ghost use lib.Dec.{ltb};
 ghost use lib.ListN.{length};
 ghost use Rattle.basis.specs.Outcome.{meaning};
-ghost use Rattle.history.specs.History.{basisWith, AcceptedWith};
+ghost use Rattle.history.specs.History.{basisWith, Workable};
 ghost use Rattle.sweep.specs.Sweep.{sweepStart, movedOn, sweepStep};
 ghost use Rattle.sweep.specs.Held.{refusedNumber, heldIn, stateIn, Holds};
 use basis::Answer;
@@ -43,7 +43,7 @@ pub fn start() -> [u32; 131]
 
 // One age from a year before 2130 to the next.
 fn moved_on(run: &[u8], history: &[u8], age: u32, year: u32, n: u32) -> u32
-    requires { ⌜ AcceptedWith (now run) (now history) × (20 ≤ age) × (age ≤ 150) × (basisWith (now run) (now history) .base ≤ year) × (year < 2130) ⌝ }
+    requires { ⌜ Workable (now run) (now history) × (20 ≤ age) × (age ≤ 150) × (basisWith (now run) (now history) .base ≤ year) × (year < 2130) ⌝ }
     ensures { λ r. ⌜ heldIn age r ≡ movedOn (basisWith (now (run .entry)) (now (history .entry))) age year (heldIn age n) ⌝ }
 {
     if 4_000_000_000 < n {
@@ -58,7 +58,7 @@ fn moved_on(run: &[u8], history: &[u8], age: u32, year: u32, n: u32) -> u32
 
 // One step: every age by itself. After 2130 the factors stand, and a step from 2260 on is none, which the answer says.
 pub fn step(run: &[u8], history: &[u8], year: u32, state: &mut [u32]) -> bool
-    requires { ⌜ AcceptedWith (now run) (now history) × (length (now state) ≡ 131) × (basisWith (now run) (now history) .base ≤ year) ⌝ }
+    requires { ⌜ Workable (now run) (now history) × (length (now state) ≡ 131) × (basisWith (now run) (now history) .base ≤ year) ⌝ }
     ensures { λ r. ⌜ r ≡ ltb year 2260 ⌝ }
     ensures { λ _. ⌜ Holds (now (state .exit)) (sweepStep (basisWith (now (run .entry)) (now (history .entry))) year (stateIn (now (state .entry)))) ⌝ }
 {

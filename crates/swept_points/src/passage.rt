@@ -3,7 +3,7 @@ ghost use mathlib.Core.Path.{_≡_};
 ghost use Prim.Native.Nat.{_+_, _≤_};
 ghost use lib.IntN.{pos};
 ghost use Rattle.basis.specs.Outcome.{meaning};
-ghost use Rattle.history.specs.History.{basisWith, AcceptedWith};
+ghost use Rattle.history.specs.History.{basisWith, Workable};
 ghost use Rattle.survivorship.specs.Survivorship.{survivorsAfterYear};
 ghost use Rattle.valuation.specs.Valuation.{expectationOf, annuityOf};
 ghost use Rattle.workings.specs.Workings.{Workings};
@@ -32,7 +32,7 @@ fn survivors_after_year(
     year: u32,
     s: u64,
 ) -> Answer
-    requires { ⌜ AcceptedWith (now run) (now history) × Workings (basisWith (now run) (now history)) (now workings) × (20 ≤ age) × (age ≤ 150) × (basisWith (now run) (now history) .base ≤ year) × (s ≤ 1_000_000_000) ⌝ }
+    requires { ⌜ Workable (now run) (now history) × Workings (basisWith (now run) (now history)) (now workings) × (20 ≤ age) × (age ≤ 150) × (basisWith (now run) (now history) .base ≤ year) × (s ≤ 1_000_000_000) ⌝ }
     ensures { λ r. ⌜ meaning r ≡ survivorsAfterYear (basisWith (now (run .entry)) (now (history .entry))) age year (pos s) ⌝ }
 {
     let factor = workings::factors::factor(run, history, workings, age, year);
@@ -42,7 +42,7 @@ fn survivors_after_year(
 
 // The payment after j years to the survivors: none before the deferment's end.
 fn due(run: &[u8], history: &[u8], workings: &[u32], deferment: u32, j: u32, s: u64) -> u64
-    requires { ⌜ AcceptedWith (now run) (now history) × Workings (basisWith (now run) (now history)) (now workings) × (j ≤ 130) × (s ≤ 1_000_000_000) ⌝ }
+    requires { ⌜ Workable (now run) (now history) × Workings (basisWith (now run) (now history)) (now workings) × (j ≤ 130) × (s ≤ 1_000_000_000) ⌝ }
     ensures { λ r. ⌜ (pos r ≡ dueAfter (basisWith (now (run .entry)) (now (history .entry))) deferment j (pos s)) × (r ≤ 4_000_000_000) ⌝ }
 {
     if j < deferment {
@@ -61,7 +61,7 @@ pub fn passage_from(
     year: u32,
     deferment: u32,
 ) -> Passage
-    requires { ⌜ AcceptedWith (now run) (now history) × Workings (basisWith (now run) (now history)) (now workings) × (20 ≤ age) × (age + deferment ≤ 150) × (basisWith (now run) (now history) .base ≤ year) × (year ≤ 2260) ⌝ }
+    requires { ⌜ Workable (now run) (now history) × Workings (basisWith (now run) (now history)) (now workings) × (20 ≤ age) × (age + deferment ≤ 150) × (basisWith (now run) (now history) .base ≤ year) × (year ≤ 2260) ⌝ }
     ensures { λ r. ⌜ expectationIn r ≡ expectationOf (basisWith (now (run .entry)) (now (history .entry))) kind age year 0 ⌝ }
     ensures { λ r. ⌜ annuityIn r ≡ annuityOf (basisWith (now (run .entry)) (now (history .entry))) kind age year deferment ⌝ }
 {

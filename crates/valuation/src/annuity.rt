@@ -4,7 +4,7 @@ ghost use Prim.Native.Nat.{_+_, _≤_};
 ghost use lib.IntN.{pos};
 ghost use Rattle.basis.specs.Basis.{basisOf, Accepted};
 ghost use Rattle.basis.specs.Outcome.{meaning, value};
-ghost use Rattle.history.specs.History.{basisWith, AcceptedWith};
+ghost use Rattle.history.specs.History.{basisWith, Workable};
 ghost use Rattle.survivorship.specs.Survivorship.{survivorsOf};
 ghost use Rattle.valuation.specs.Valuation.{discountNext, discountAfter, payment, annuityOf};
 use basis::Answer;
@@ -53,7 +53,7 @@ fn annuity_from(
     deferment: u32,
     first: u64,
 ) -> Answer
-    requires { ⌜ AcceptedWith (now run) (now history) × (20 ≤ age) × (age + deferment ≤ 150) × (basisWith (now run) (now history) .base ≤ year) × (year ≤ 2130) × (first ≤ 1_000_000_000) × (survivorsOf (basisWith (now run) (now history)) kind age year deferment ≡ value (pos first)) ⌝ }
+    requires { ⌜ Workable (now run) (now history) × (20 ≤ age) × (age + deferment ≤ 150) × (basisWith (now run) (now history) .base ≤ year) × (year ≤ 2130) × (first ≤ 1_000_000_000) × (survivorsOf (basisWith (now run) (now history)) kind age year deferment ≡ value (pos first)) ⌝ }
     ensures { λ r. ⌜ meaning r ≡ annuityOf (basisWith (now (run .entry)) (now (history .entry))) kind age year deferment ⌝ }
 {
     let accumulation = basis::fields::accumulation(run);
@@ -91,7 +91,7 @@ pub fn annuity_at(
     year: u32,
     deferment: u32,
 ) -> Answer
-    requires { ⌜ AcceptedWith (now run) (now history) × (20 ≤ age) × (age + deferment ≤ 150) × (basisWith (now run) (now history) .base ≤ year) × (year ≤ 2130) ⌝ }
+    requires { ⌜ Workable (now run) (now history) × (20 ≤ age) × (age + deferment ≤ 150) × (basisWith (now run) (now history) .base ≤ year) × (year ≤ 2130) ⌝ }
     ensures { λ r. ⌜ meaning r ≡ annuityOf (basisWith (now (run .entry)) (now (history .entry))) kind age year deferment ⌝ }
 {
     match survivorship::survivors_at(run, history, kind, age, year, deferment) {

@@ -1,7 +1,7 @@
 // The expectation of life: the years that U lives have left on average, with half a year for the year of death.
 ghost use mathlib.Core.Path.{_≡_};
 ghost use Prim.Native.Nat.{_+_, _≤_};
-ghost use Rattle.history.specs.History.{basisWith, AcceptedWith};
+ghost use Rattle.history.specs.History.{basisWith, Workable};
 ghost use Rattle.basis.specs.Outcome.{meaning};
 ghost use Rattle.valuation.specs.Valuation.{expectationOf};
 use basis::Answer;
@@ -20,7 +20,7 @@ pub fn expectation_at(
     year: u32,
     deferment: u32,
 ) -> Answer
-    requires { ⌜ AcceptedWith (now run) (now history) × (20 ≤ age) × (age + deferment ≤ 150) × (basisWith (now run) (now history) .base ≤ year) × (year ≤ 2130) ⌝ }
+    requires { ⌜ Workable (now run) (now history) × (20 ≤ age) × (age + deferment ≤ 150) × (basisWith (now run) (now history) .base ≤ year) × (year ≤ 2130) ⌝ }
     ensures { λ r. ⌜ meaning r ≡ expectationOf (basisWith (now (run .entry)) (now (history .entry))) kind age year deferment ⌝ }
 {
     let from = age + deferment;

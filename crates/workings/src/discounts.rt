@@ -3,7 +3,7 @@ ghost use mathlib.Core.Path.{_≡_};
 ghost use Prim.Native.Nat.{_≤_};
 ghost use lib.IntN.{pos};
 ghost use lib.ListN.{length};
-ghost use Rattle.history.specs.History.{basisWith, AcceptedWith};
+ghost use Rattle.history.specs.History.{basisWith, Workable};
 ghost use Rattle.valuation.specs.Valuation.{discountAfter};
 ghost use Rattle.workings.specs.Inner.Noting.{KeptBefore};
 ghost use Rattle.workings.specs.Workings.{DiscountsNoted, Workings};
@@ -11,7 +11,7 @@ ghost use Rattle.workings.specs.Workings.{DiscountsNoted, Workings};
 const UNIT: u64 = 1_000_000_000;
 
 pub(crate) fn note_discounts(run: &[u8], history: &[u8], numbers: &mut [u32])
-    requires { ⌜ AcceptedWith (now run) (now history) × (length (now numbers) ≡ 18340) ⌝ }
+    requires { ⌜ Workable (now run) (now history) × (length (now numbers) ≡ 18340) ⌝ }
     ensures { λ _. ⌜ DiscountsNoted (basisWith (now (run .entry)) (now (history .entry))) (now (numbers .exit)) 131 ⌝ }
     ensures { λ _. ⌜ KeptBefore 18209 (now (numbers .entry)) (now (numbers .exit)) ⌝ }
 {

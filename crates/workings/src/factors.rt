@@ -3,7 +3,7 @@ ghost use mathlib.Core.Path.{_≡_};
 ghost use Prim.Native.Nat.{_+_, _*_, _-_, _≤_};
 ghost use lib.ListN.{length};
 ghost use Rattle.basis.specs.Outcome.{meaning};
-ghost use Rattle.history.specs.History.{basisWith, AcceptedWith};
+ghost use Rattle.history.specs.History.{basisWith, Workable};
 ghost use Rattle.projection.specs.Projection.{factorOf};
 ghost use Rattle.workings.specs.Inner.Noting.{StandsAt, KeptBefore};
 ghost use Rattle.workings.specs.Workings.{YearsNoted, RestIsZero, Workings};
@@ -24,7 +24,7 @@ fn note_state(state: &[u32], at: usize, numbers: &mut [u32])
 
 // The sweep goes through the years once.
 pub(crate) fn note_years(run: &[u8], history: &[u8], numbers: &mut [u32])
-    requires { ⌜ AcceptedWith (now run) (now history) × (length (now numbers) ≡ 18340) ⌝ }
+    requires { ⌜ Workable (now run) (now history) × (length (now numbers) ≡ 18340) ⌝ }
     ensures { λ _. ⌜ YearsNoted (basisWith (now (run .entry)) (now (history .entry))) (now (numbers .exit)) (2131 - basisWith (now (run .entry)) (now (history .entry)) .base) ⌝ }
 {
     let base = basis::fields::base_year(run);
@@ -40,7 +40,7 @@ pub(crate) fn note_years(run: &[u8], history: &[u8], numbers: &mut [u32])
 
 // The room that no year takes.
 pub(crate) fn clear_rest(run: &[u8], history: &[u8], numbers: &mut [u32])
-    requires { ⌜ AcceptedWith (now run) (now history) × (length (now numbers) ≡ 18340) ⌝ }
+    requires { ⌜ Workable (now run) (now history) × (length (now numbers) ≡ 18340) ⌝ }
     ensures { λ _. ⌜ RestIsZero (basisWith (now (run .entry)) (now (history .entry))) (now (numbers .exit)) ⌝ }
     ensures { λ _. ⌜ KeptBefore (131 * (2131 - basisWith (now (run .entry)) (now (history .entry)) .base)) (now (numbers .entry)) (now (numbers .exit)) ⌝ }
 {
@@ -54,7 +54,7 @@ pub(crate) fn clear_rest(run: &[u8], history: &[u8], numbers: &mut [u32])
 
 // The factor at an age in a year from B on.
 pub fn factor(run: &[u8], history: &[u8], numbers: &[u32], age: u32, year: u32) -> Answer
-    requires { ⌜ AcceptedWith (now run) (now history) × Workings (basisWith (now run) (now history)) (now numbers) × (20 ≤ age) × (age ≤ 150) × (basisWith (now run) (now history) .base ≤ year) ⌝ }
+    requires { ⌜ Workable (now run) (now history) × Workings (basisWith (now run) (now history)) (now numbers) × (20 ≤ age) × (age ≤ 150) × (basisWith (now run) (now history) .base ≤ year) ⌝ }
     ensures { λ r. ⌜ meaning r ≡ factorOf (basisWith (now (run .entry)) (now (history .entry))) age year ⌝ }
 {
     let k = projection::factor::held_year(year) - basis::fields::base_year(run);

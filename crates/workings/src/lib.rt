@@ -6,11 +6,11 @@ pub mod factors;
 
 ghost use mathlib.Core.Path.{_≡_};
 ghost use lib.ListN.{length};
-ghost use Rattle.history.specs.History.{basisWith, AcceptedWith};
+ghost use Rattle.history.specs.History.{basisWith, Workable};
 ghost use Rattle.workings.specs.Workings.{Workings};
 
 pub fn work_out(run: &[u8], history: &[u8], numbers: &mut [u32])
-    requires { ⌜ AcceptedWith (now run) (now history) × (length (now numbers) ≡ 18340) ⌝ }
+    requires { ⌜ Workable (now run) (now history) × (length (now numbers) ≡ 18340) ⌝ }
     ensures { λ _. ⌜ Workings (basisWith (now (run .entry)) (now (history .entry))) (now (numbers .exit)) ⌝ }
 {
     factors::note_years(run, history, numbers);

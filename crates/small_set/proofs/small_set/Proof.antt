@@ -1,7 +1,7 @@
 -- The check of the run and its history decides; an accepted one is what the six answers ask for.
 use mathlib.Core.Path.{_∙_, sym}
 use borrow.Author.Needs.{needs}
-use Rattle.history.proofs.Acceptance.{accepted-with}
+use Rattle.history.proofs.Acceptance.{accepted-workable}
 use Rattle.small_set.specs.SmallSet.{smallSetOf}
 use Rattle.small_set.proofs.small_set.Statement.{statement}
 use Rattle.small_set.proofs.small_set.Tie as tie
@@ -16,7 +16,7 @@ six-requires : tie.Need-six-requires
 six-requires c κs =
     let told = c .before in
     let a = told .before .before .before .before .before .args in
-    accepted-with (a .run .now) (a .history .now) (sym (told .before .before .check-basis .ensures) ∙ told .enum-told .given .1)
+    accepted-workable (a .run .now) (a .history .now) (sym (told .before .before .check-basis .ensures) ∙ told .enum-told .given .1)
 
 enum-known-refusal : tie.Need-enum-known-refusal
 enum-known-refusal c = search needs

@@ -3,7 +3,7 @@ use mathlib.Core.Path.{_∙_, sym, ap}
 use Prim.Native.Nat.{ℕ}
 use borrow.Author.Needs.{needs}
 use Rattle.basis.proofs.Outcome.{first-passed, first-refused}
-use Rattle.history.proofs.Acceptance.{accepted-with}
+use Rattle.history.proofs.Acceptance.{accepted-workable}
 use Rattle.improvement.proofs.Cases.{first-with}
 use Rattle.question.specs.Question.{cellCheck}
 use Rattle.enquiry.proofs.cells.check_from_first.Statement.{statement}
@@ -18,7 +18,7 @@ enum-told c = search needs
 first-year-requires : tie.Need-first-year-requires
 first-year-requires c κs =
     let a = c .before .before .before .before .before .args in
-    accepted-with (a .run .now) (a .history .now) (sym (c .before .before .check-basis .ensures) ∙ c .enum-told .given .1) .basis
+    accepted-workable (a .run .now) (a .history .now) (sym (c .before .before .check-basis .ensures) ∙ c .enum-told .given .1) .basis
 
 check-cell-requires : tie.Need-check-cell-requires
 check-cell-requires c κs = search needs

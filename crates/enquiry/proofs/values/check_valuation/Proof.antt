@@ -2,7 +2,7 @@
 use mathlib.Core.Path.{_∙_, sym}
 use borrow.Author.Needs.{needs}
 use Rattle.basis.proofs.Outcome.{first-passed, first-refused}
-use Rattle.history.proofs.Acceptance.{accepted-with}
+use Rattle.history.proofs.Acceptance.{accepted-workable}
 use Rattle.enquiry.proofs.values.check_valuation.Statement.{statement}
 use Rattle.enquiry.proofs.values.check_valuation.Tie as tie
 
@@ -15,7 +15,7 @@ enum-told c = search needs
 check-question-requires : tie.Need-check-question-requires
 check-question-requires c κs =
     let a = c .before .before .before .before .before .args in
-    accepted-with (a .run .now) (a .history .now) (sym (c .before .before .check-basis .ensures) ∙ c .enum-told .given .1) .basis
+    accepted-workable (a .run .now) (a .history .now) (sym (c .before .before .check-basis .ensures) ∙ c .enum-told .given .1) .basis
 
 enum-known-r : tie.Need-enum-known-r
 enum-known-r c = search needs

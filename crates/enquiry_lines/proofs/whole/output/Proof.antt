@@ -6,7 +6,7 @@ use native.Mathlib.Omega.{arith}
 use lib.ListN.{replicate, length-replicate}
 use Rattle.basis.specs.declared.Check.the-variants.{Passed}
 use Rattle.basis_file.specs.File.{runIn}
-use Rattle.history.specs.History.{basisWith, AcceptedWith}
+use Rattle.history.specs.History.{basisWith, Workable}
 use Rattle.reply_text.proofs.Puts.{being, then}
 use Rattle.enquiry_lines.specs.Lines.{linesOf, replies}
 use Rattle.enquiry_lines.specs.Output.{filesCheck, printed}
@@ -25,7 +25,7 @@ run-is o h =
     o .open-files .ensures .1 .0
     ∙ opened-run (a .file .now) (a .history .now) (replicate 4554 0) (length-replicate {A = ℕ} 4554 0) _ (o .open-files .ensures .0) h
 
-accepted : (o : tie.After-open-files) → o .open-files .result .check ≡ Passed → AcceptedWith (o .open-files .last .1 .1 .0) (o .before .before .before .before .before .before .before .before .args .history .now)
+accepted : (o : tie.After-open-files) → o .open-files .result .check ≡ Passed → Workable (o .open-files .last .1 .1 .0) (o .before .before .before .before .before .before .before .before .args .history .now)
 accepted o h =
     let a = o .before .before .before .before .before .before .before .before .args in
     rw (run-is o h) (opened-with (a .file .now) (a .history .now) (sym (o .open-files .ensures .0) ∙ h))
