@@ -22,13 +22,8 @@ use Rattle.run_check.specs.Run.{runCheck}
 use Rattle.run_check.proofs.Acceptance as runs
 use Rattle.block.specs.Blocks.{blocksCheck}
 use Rattle.history.specs.History.{actualYears, lengthNeeded, historyData, placeOf, actualOf, movedTo, yearlyFields, youngerAges, firstRemaining, olderAges, secondRemaining, historyFields, historyCheck, basisCheck, Workable}
-<<<<<<< HEAD
-use Rattle.history.specs.Accepted.{AcceptedHistory, AcceptedBasis, HistoryAcceptance}
-use Rattle.history.proofs.RightBlocks.{blocks-right, blocks-pass}
-=======
 use Rattle.history.specs.Accepted.{AcceptedHistory, HistoryAcceptance}
-use Rattle.history.proofs.Numbered.{blocks-right, blocks-pass}
->>>>>>> acceptance
+use Rattle.history.proofs.RightBlocks.{blocks-right, blocks-pass}
 use Rattle.history.proofs.Yearly.{each-year, years-pass}
 use Rattle.history.proofs.Ways.{fields-parts, right-length}
 

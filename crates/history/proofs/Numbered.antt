@@ -1,10 +1,5 @@
-<<<<<<< HEAD
 -- No number but those of the papers' list: by the laws of what refuses by numbers of a list. Assumes nothing.
 use mathlib.Core.Path.{refl}
-=======
--- Blocks one after the other pass exactly if each is right at its place. Assumes nothing.
-use mathlib.Core.Path.{_≡_, refl}
->>>>>>> acceptance
 use mathlib.Core.List.{List}
 use Prim.Native.Nat.{ℕ, zero, suc, _+_, _*_}
 use lib.Dec.{eqb}
