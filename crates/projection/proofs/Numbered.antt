@@ -1,13 +1,12 @@
 -- No number but 6 to 10: by the laws of what refuses by numbers of a list. Assumes nothing.
 use mathlib.Core.Path.{refl}
-use Prim.Native.Nat.{ℕ, _+_, _-_}
+use Prim.Native.Nat.{ℕ, _-_}
 use lib.IntN.{ℤ, pos}
 use lib.Signed.{leZ}
 use Rattle.arithmetic.specs.Fraction.{U}
 use Rattle.basis.specs.Basis.{Basis}
 use Rattle.basis.specs.Refusals.{recordNumbers, isListed, RefusedBy}
 use Rattle.basis.proofs.Refusals.{value-by, work-by, work-cond-by, then-by, steps-by}
-use Rattle.improvement.specs.Improvement.{improvementOf}
 use Rattle.improvement.proofs.Numbered.{needed-numbered}
 use Rattle.projection.specs.Projection.{factorNext, factorNeeded, factorFrom, heldYear, factorOf, rateFrom, rateOf}
 
@@ -22,7 +21,7 @@ year-numbered age year i factor = then-by (needed-numbered age year i) (λ i. fa
 module _ (b : Basis) (age year : ℕ) where
   pub factor-numbered : RefusedBy recordNumbers (factorOf b age year)
   unfolding factorOf
-  factor-numbered = steps-by (pos U) (heldYear year - b .base) (λ k f. year-numbered age (b .base + 1 + k) (improvementOf b age (b .base + 1 + k)) f)
+  factor-numbered = steps-by (pos U) (heldYear year - b .base) (λ k f. year-numbered _ _ _ f)
 
   pub rate-numbered : RefusedBy recordNumbers (rateOf b age year)
   unfolding rateOf
