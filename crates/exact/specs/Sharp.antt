@@ -1,4 +1,4 @@
--- What keeps demand 3 as sharp as it reads: a quarter of a unit is a quarter, K is one of the k, and the premise asks for nothing of the
+-- What keeps demand 3 as sharp as it reads: a quarter of a unit is a quarter, K is one of the k, and the premise says nothing of the
 -- improvements that are not taken.
 use mathlib.Core.Path.{_≡_}
 use mathlib.Core.Bool.{cond, _||_}
