@@ -11,33 +11,31 @@ use lib.Dec.{eqb}
 use borrow.Author.Tests.{eqb-true}
 use lib.IntN.{ℤ, pos, _+ℤ_}
 use Rattle.basis.specs.declared.Refusal.{Refusal}
-use Rattle.basis.specs.declared.Check.{Check}
-use Rattle.basis.specs.declared.Check.the-variants.{Passed, Refused}
-use Rattle.basis.specs.Outcome.{Outcome, value, refused, unless, firstOf, checked, andThen, steps, sumOf}
+use Rattle.basis.specs.Outcome.{Verdict, passed, refusedBy, Outcome, value, refused, unless, firstOf, checked, andThen, steps, sumOf}
 use Rattle.basis.specs.Refusals.{numbers, recordNumbers, isListed, Listed, RefusesBy, RefusedBy}
 
 module _ {ns : List ℕ} where
   -- ---- checks
-  pub passed-by : RefusesBy ns Passed
+  pub passed-by : RefusesBy ns passed
   passed-by = record { listed = λ r h. let z : _≡_ {A = ℕ} 0 1 = cc in absurd (omega arith) }
 
-  pub refused-by : (q : Refusal) → Listed ns (q .number) → RefusesBy ns (Refused q)
+  pub refused-by : (q : Refusal) → Listed ns (q .number) → RefusesBy ns (refusedBy q)
   refused-by q l = record { listed = λ r h. let e : q ≡ r = cc in rw (← e) l }
 
   pub unless-by : (ok : Bool) (q : Refusal) → Listed ns (q .number) → RefusesBy ns (unless ok q)
   unless-by true q l = passed-by
   unless-by false q l = refused-by q l
 
-  pub cond-by : (t : Bool) {check other : Check} → RefusesBy ns check → RefusesBy ns other → RefusesBy ns (cond t check other)
+  pub cond-by : (t : Bool) {check other : Verdict} → RefusesBy ns check → RefusesBy ns other → RefusesBy ns (cond t check other)
   cond-by true p q = p
   cond-by false p q = q
 
-  pub first-by : {first next : Check} → RefusesBy ns first → RefusesBy ns next → RefusesBy ns (firstOf first next)
+  pub first-by : {first next : Verdict} → RefusesBy ns first → RefusesBy ns next → RefusesBy ns (firstOf first next)
   first-by {first} {next} p q = by first p
     where
-      by : (c : Check) → RefusesBy ns c → RefusesBy ns (firstOf c next)
-      by Passed p = q
-      by (Refused r) p = p
+      by : (c : Verdict) → RefusesBy ns c → RefusesBy ns (firstOf c next)
+      by passed p = q
+      by (refusedBy r) p = p
 
   -- ---- work
   pub value-by : {A : Type 0} (a : A) → RefusedBy ns (value a)
@@ -50,12 +48,12 @@ module _ {ns : List ℕ} where
   work-cond-by true p q = p
   work-cond-by false p q = q
 
-  pub checked-by : {A : Type 0} {check : Check} {work : Outcome A} → RefusesBy ns check → RefusedBy ns work → RefusedBy ns (checked check work)
+  pub checked-by : {A : Type 0} {check : Verdict} {work : Outcome A} → RefusesBy ns check → RefusedBy ns work → RefusedBy ns (checked check work)
   checked-by {A} {check} {work} p q = by check p
     where
-      by : (c : Check) → RefusesBy ns c → RefusedBy ns (checked c work)
-      by Passed p = q
-      by (Refused r) p = work-by r (p .listed r refl)
+      by : (c : Verdict) → RefusesBy ns c → RefusedBy ns (checked c work)
+      by passed p = q
+      by (refusedBy r) p = work-by r (p .listed r refl)
 
   pub then-by : {A B : Type 0} {work : Outcome A} {next : A → Outcome B} → RefusedBy ns work → ((a : A) → RefusedBy ns (next a)) → RefusedBy ns (andThen work next)
   then-by {A} {B} {work} {next} p q = by work p
@@ -78,7 +76,7 @@ abbrev pub Among : List ℕ → List ℕ → Type 0
 Among ns ms = (n : ℕ) → Listed ns n → Listed ms n
 
 module _ {ns ms : List ℕ} (among : Among ns ms) where
-  pub check-among : {check : Check} → RefusesBy ns check → RefusesBy ms check
+  pub check-among : {check : Verdict} → RefusesBy ns check → RefusesBy ms check
   check-among p = record { listed = λ r h. among (r .number) (p .listed r h) }
 
   pub work-among : {A : Type 0} {work : Outcome A} → RefusedBy ns work → RefusedBy ms work

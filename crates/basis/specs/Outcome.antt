@@ -4,7 +4,7 @@ use mathlib.Core.Bool.{Bool, true, false, cond}
 use lib.IntN.{ℤ, pos, _+ℤ_}
 use Rattle.basis.specs.declared.Refusal.{Refusal}
 use Rattle.basis.specs.declared.Check.{Check}
-use Rattle.basis.specs.declared.Check.the-variants.{Passed, Refused}
+use Rattle.basis.specs.declared.Check.the-variants as check
 use Rattle.basis.specs.declared.Answer.{Answer}
 use Rattle.basis.specs.declared.Answer.the-variants as answer
 use Rattle.basis.specs.declared.SignedAnswer.{SignedAnswer}
@@ -19,19 +19,24 @@ abbrev pub noRefusal : Refusal
 noRefusal = refusal 0 0 0
 
 -- ---- checks
+-- what a check comes to: nothing is refused, or there is a refusal
+pub data Verdict : Type 0 where
+  passed : Verdict
+  refusedBy : Refusal → Verdict
+
 -- what has to hold, and the refusal where it does not
-abbrev pub unless : Bool → Refusal → Check
-unless ok r = cond ok Passed (Refused r)
+abbrev pub unless : Bool → Refusal → Verdict
+unless ok r = cond ok passed (refusedBy r)
 
 -- whether a check refuses nothing
-abbrev pub passes : Check → Bool
-passes Passed = true
-passes (Refused r) = false
+abbrev pub passes : Verdict → Bool
+passes passed = true
+passes (refusedBy r) = false
 
 -- the first refusal of two checks
-abbrev pub firstOf : Check → Check → Check
-firstOf Passed next = next
-firstOf (Refused r) next = Refused r
+abbrev pub firstOf : Verdict → Verdict → Verdict
+firstOf passed next = next
+firstOf (refusedBy r) next = refusedBy r
 
 -- ---- work
 pub data Outcome (A : Type 0) : Type 0 where
@@ -39,9 +44,9 @@ pub data Outcome (A : Type 0) : Type 0 where
   refused : Refusal → Outcome A
 
 -- work that follows a check
-abbrev pub checked : {A : Type 0} → Check → Outcome A → Outcome A
-checked Passed work = work
-checked (Refused r) work = refused r
+abbrev pub checked : {A : Type 0} → Verdict → Outcome A → Outcome A
+checked passed work = work
+checked (refusedBy r) work = refused r
 
 -- work that takes what the work before it gave
 abbrev pub andThen : {A B : Type 0} → Outcome A → (A → Outcome B) → Outcome B
@@ -60,7 +65,11 @@ addTo term k total = andThen (term k) (λ t. value (total +ℤ t))
 unfoldable pub sumOf : (ℕ → Outcome ℤ) → ℕ → Outcome ℤ
 sumOf term n = steps (addTo term) (pos 0) n
 
--- ---- what an answer of the engine stands for
+-- ---- what an answer of the engine stands for, in each of its cases
+abbrev pub verdict : Check → Verdict
+verdict check.Passed = passed
+verdict (check.Refused r) = refusedBy r
+
 abbrev pub meaning : Answer → Outcome ℤ
 meaning (answer.Value n) = value (pos n)
 meaning (answer.Refused r) = refused r

@@ -6,9 +6,7 @@ use native.Mathlib.Omega.{arith}
 use lib.ListN.{length, take, drop, length-take, length-drop, length-append}
 use borrow.Author.Tests.{eqb-true, eq-eqb, ne-eqb}
 use Rattle.basis.specs.declared.Refusal.{Refusal}
-use Rattle.basis.specs.declared.Check.{Check}
-use Rattle.basis.specs.declared.Check.the-variants.{Passed, Refused}
-use Rattle.basis.specs.Outcome.{refusal, firstOf}
+use Rattle.basis.specs.Outcome.{Verdict, passed, refusedBy, refusal, firstOf}
 use Rattle.run_check.specs.Run.{runCheck}
 use Rattle.basis.proofs.Outcome.{unless-passed, both-passed, first-stands, first-passed, first-together}
 use Rattle.run_check.proofs.Acceptance.{accepted}
@@ -38,7 +36,7 @@ run-length file h = parts-length 9 file h
 
 -- ---- the ways through a file's check
 module _ (file : List ℕ) where
-  pub wrong-size : (length file ≡ 4608 → ⊥) → outerCheck file ≡ Refused (refusal 1 0 0)
+  pub wrong-size : (length file ≡ 4608 → ⊥) → outerCheck file ≡ refusedBy (refusal 1 0 0)
   unfolding outerCheck
   wrong-size h = simp (ne-eqb (length file) 4608 h)
 
@@ -46,32 +44,32 @@ module _ (file : List ℕ) where
   unfolding outerCheck
   right-size h = simp (eq-eqb (length file) 4608 h)
 
-  pub outer-passed : outerCheck file ≡ Passed → (length file ≡ 4608) × (nineCheck file ≡ Passed)
+  pub outer-passed : outerCheck file ≡ passed → (length file ≡ 4608) × (nineCheck file ≡ passed)
   unfolding outerCheck
   outer-passed h = let e = both-passed _ _ h in (eqb-true _ _ (unless-passed _ _ (e .0)), e .1)
 
-  pub file-passed : fileCheck file ≡ Passed → (outerCheck file ≡ Passed) × (runCheck (runIn file) ≡ Passed)
+  pub file-passed : fileCheck file ≡ passed → (outerCheck file ≡ passed) × (runCheck (runIn file) ≡ passed)
   unfolding fileCheck
   file-passed h = both-passed _ _ h
 
   -- an accepted file has its length
-  pub accepted-file : fileCheck file ≡ Passed → length file ≡ 4608
+  pub accepted-file : fileCheck file ≡ passed → length file ≡ 4608
   accepted-file h = outer-passed (file-passed h .0) .0
 
 -- and so has an accepted run
-pub accepted-run : (run : List ℕ) → runCheck run ≡ Passed → length run ≡ 4554
+pub accepted-run : (run : List ℕ) → runCheck run ≡ passed → length run ≡ 4554
 accepted-run run h = accepted run h .size
 
 -- ---- reading: the room and the outer check, then the run's own
-module _ (file out : List ℕ) (outer : Check) (e : outer ≡ firstOf (roomCheck 4554 out) (outerCheck file)) where
+module _ (file out : List ℕ) (outer : Verdict) (e : outer ≡ firstOf (roomCheck 4554 out) (outerCheck file)) where
   then-run : firstOf outer (runCheck (runIn file)) ≡ firstOf (roomCheck 4554 out) (fileCheck file)
   unfolding fileCheck
   then-run = rw e (first-together (roomCheck 4554 out) (outerCheck file) (runCheck (runIn file)))
 
-  pub outer-refuses : (r : Refusal) → outer ≡ Refused r → outer ≡ firstOf (roomCheck 4554 out) (fileCheck file)
+  pub outer-refuses : (r : Refusal) → outer ≡ refusedBy r → outer ≡ firstOf (roomCheck 4554 out) (fileCheck file)
   outer-refuses r h = sym (first-stands outer _ h) ∙ then-run
 
-  pub outer-lets : outer ≡ Passed → (4554 ≤ length out) × (length file ≡ 4608) × (runCheck (runIn file) ≡ firstOf (roomCheck 4554 out) (fileCheck file))
+  pub outer-lets : outer ≡ passed → (4554 ≤ length out) × (length file ≡ 4608) × (runCheck (runIn file) ≡ firstOf (roomCheck 4554 out) (fileCheck file))
   outer-lets h =
       let p = room-passed 4554 out (outerCheck file) (sym e ∙ h) in
       (p .0, outer-passed file (p .1) .0, sym (first-passed outer _ h) ∙ then-run)

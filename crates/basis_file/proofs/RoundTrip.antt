@@ -6,7 +6,6 @@ use Prim.Native.Nat.{ℕ, zero, suc, _+_, _*_, _<_, _≤_}
 use native.Mathlib.Omega.{arith}
 use lib.ListN.{length, take, drop, getD, length-take, length-drop, take-append-drop}
 use lib.Seq.{take-at, drop-at, take-take, getD-take, getD-drop}
-use Rattle.basis.specs.declared.Check.the-variants.{Passed}
 use Rattle.run_check.specs.Run.{runCheck}
 use Rattle.basis.proofs.Outcome.{both-passed}
 use Rattle.block.specs.Block.{blockCheck, blockOf}
@@ -15,6 +14,7 @@ use Rattle.block.specs.Blocks.{partsOf, blocksOf, blocksCheck}
 use Rattle.basis_file.specs.File.{runIn, fileOf, fileCheck}
 use Rattle.basis_file.specs.RoundTrips.{RoundTrips}
 use Rattle.basis_file.proofs.Files.{file-length, right-size, outer-passed, file-passed, accepted-run}
+use Rattle.basis.specs.Outcome.{passed}
 
 -- ---- from a run to its file and back
 parts-back : (n place : ℕ) (run : List ℕ) → length run ≡ 506 * n → partsOf n (blocksOf place n run) ≡ run
@@ -33,7 +33,7 @@ pub run-back : (run : List ℕ) → length run ≡ 4554 → runIn (fileOf run) �
 unfolding runIn fileOf
 run-back run h = parts-back 9 0 run h
 
-blocks-accepted : (n place : ℕ) (run : List ℕ) → place + n ≤ 65536 → length run ≡ 506 * n → blocksCheck place n (blocksOf place n run) ≡ Passed
+blocks-accepted : (n place : ℕ) (run : List ℕ) → place + n ≤ 65536 → length run ≡ 506 * n → blocksCheck place n (blocksOf place n run) ≡ passed
 unfolding blocksCheck blocksOf
 blocks-accepted zero place run h l = refl
 blocks-accepted (suc n) place run h l =
@@ -48,7 +48,7 @@ blocks-accepted (suc n) place run h l =
       blocks-accepted n (place + 1) (drop 506 run) (omega arith) (simp length-drop (omega arith)),
     )
 
-nine-accepted : (run : List ℕ) → length run ≡ 4554 → blocksCheck 0 9 (fileOf run) ≡ Passed
+nine-accepted : (run : List ℕ) → length run ≡ 4554 → blocksCheck 0 9 (fileOf run) ≡ passed
 unfolding fileOf
 nine-accepted run l = blocks-accepted 9 0 run (omega arith) l
 
@@ -58,7 +58,7 @@ part-of [] = refl
 part-of (a ∷ []) = refl
 part-of (a ∷ b ∷ file) = take-take 506 510 file (omega arith)
 
-blocks-back : (n place : ℕ) (file : List ℕ) → length file ≡ 512 * n → ((i : ℕ) → getD file i 0 < 256) → blocksCheck place n file ≡ Passed
+blocks-back : (n place : ℕ) (file : List ℕ) → length file ≡ 512 * n → ((i : ℕ) → getD file i 0 < 256) → blocksCheck place n file ≡ passed
     → blocksOf place n (partsOf n file) ≡ file
 unfolding blocksCheck blocksOf partsOf
 blocks-back zero place [] l b h = refl
@@ -76,7 +76,7 @@ blocks-back (suc n) place file l b h =
     (ap (λ x. blockOf place x ++ behind) (sym (part-of file)) ∙ ap (λ x. x ++ behind) back ∙ take-append-drop 512 file)
 
 -- the run in an accepted file is accepted
-pub run-accepted : (file : List ℕ) → fileCheck file ≡ Passed → runCheck (runIn file) ≡ Passed
+pub run-accepted : (file : List ℕ) → fileCheck file ≡ passed → runCheck (runIn file) ≡ passed
 run-accepted file h = file-passed file h .1
 
 -- ---- both ways round
@@ -86,7 +86,7 @@ round-trips =
     record {
       sameFile = λ file b h.
           let o = outer-passed file (file-passed file h .0) in
-          let nine : blocksCheck 0 9 file ≡ Passed = cc (o .1) in
+          let nine : blocksCheck 0 9 file ≡ passed = cc (o .1) in
           blocks-back 9 0 file (o .0) b nine;
       sameBasis = λ run h.
           let l = accepted-run run h in

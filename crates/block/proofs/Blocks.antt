@@ -6,9 +6,9 @@ use native.Mathlib.Omega.{arith}
 use lib.ListN.{length, take, drop, getD, length-take, length-drop, length-append, take-append-drop}
 use lib.Seq.{take-at, take-add, getD-drop, getD-append-add}
 use borrow.Author.Tests.{eqb-true}
-use Rattle.basis.specs.declared.Check.the-variants.{Passed}
 use Rattle.little_endian.specs.Bytes.{u16At, u32At, u16Bytes, u32Bytes}
 use Rattle.basis.proofs.Outcome.{unless-passed, both-passed}
+use Rattle.basis.specs.Outcome.{passed}
 use Rattle.little_endian.proofs.Bytes.{u16-back, u32-back, bytes-of-u16, bytes-of-u32}
 use Rattle.block.specs.Block.{checkOf, blockCheck, blockOf}
 use Rattle.block.proofs.WordSums.{check-local, check-fits}
@@ -42,7 +42,7 @@ module _ (place : ℕ) (part : List ℕ) (l : length part ≡ 506) where
   unfolding blockOf
   right-number h = u16-back place h
 
-  pub block-accepted : place < 65536 → blockCheck place (blockOf place part) ≡ Passed
+  pub block-accepted : place < 65536 → blockCheck place (blockOf place part) ≡ passed
   block-accepted h = sound place (blockOf place part) right-check (right-number h)
 
 -- ---- from a block to its data and back
@@ -60,7 +60,7 @@ four (a ∷ b ∷ c ∷ d ∷ []) h = refl
 four (a ∷ b ∷ c ∷ d ∷ e ∷ l) h = absurd (omega arith)
 
 module _ (place : ℕ) (block : List ℕ) (l : length block ≡ 512) (bytes : (i : ℕ) → i < 512 → getD block i 0 < 256)
-    (h : blockCheck place block ≡ Passed) where
+    (h : blockCheck place block ≡ passed) where
   has : (u32At block 508 ≡ checkOf block) × (u16At block 0 ≡ place)
   unfolding blockCheck
   has = let e = both-passed _ _ h in (eqb-true _ _ (unless-passed _ _ (e .0)), eqb-true _ _ (unless-passed _ _ (e .1)))

@@ -7,24 +7,23 @@ use native.Mathlib.Nat.{add-sub-cancel-left}
 use native.Mathlib.Omega.{arith}
 use lib.ListN.{length, take, drop, length-append}
 use borrow.Author.Tests.{eq-eqb, ne-eqb}
-use Rattle.basis.specs.declared.Check.the-variants.{Passed, Refused}
 use Rattle.little_endian.specs.Bytes.{u16At, u32At, u16Bytes, u32Bytes}
-use Rattle.basis.specs.Outcome.{refusal}
+use Rattle.basis.specs.Outcome.{passed, refusedBy, refusal}
 use Rattle.lent.specs.Lent.{placed}
 use Rattle.lent.proofs.Lent.{placed-there, then}
 use Rattle.block.specs.Block.{checkOf, blockCheck, blockOf}
 
 -- ---- the ways through a block's check
 module _ (place : ℕ) (block : List ℕ) where
-  pub wrong-check : (u32At block 508 ≡ checkOf block → ⊥) → blockCheck place block ≡ Refused (refusal 2 place 0)
+  pub wrong-check : (u32At block 508 ≡ checkOf block → ⊥) → blockCheck place block ≡ refusedBy (refusal 2 place 0)
   unfolding blockCheck
   wrong-check h = simp (ne-eqb (u32At block 508) (checkOf block) h)
 
-  pub wrong-number : u32At block 508 ≡ checkOf block → (u16At block 0 ≡ place → ⊥) → blockCheck place block ≡ Refused (refusal 3 place 0)
+  pub wrong-number : u32At block 508 ≡ checkOf block → (u16At block 0 ≡ place → ⊥) → blockCheck place block ≡ refusedBy (refusal 3 place 0)
   unfolding blockCheck
   wrong-number e h = simp (eq-eqb (u32At block 508) (checkOf block) e, ne-eqb (u16At block 0) place h)
 
-  pub sound : u32At block 508 ≡ checkOf block → u16At block 0 ≡ place → blockCheck place block ≡ Passed
+  pub sound : u32At block 508 ≡ checkOf block → u16At block 0 ≡ place → blockCheck place block ≡ passed
   unfolding blockCheck
   sound e h = simp (eq-eqb (u32At block 508) (checkOf block) e, eq-eqb (u16At block 0) place h)
 

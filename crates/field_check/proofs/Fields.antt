@@ -3,9 +3,7 @@ use mathlib.Core.Path.{_≡_, refl, sym, ap, _∙_}
 use mathlib.Core.Bool.{Bool, _&&_}
 use mathlib.Core.List.{List, [], _∷_, _++_}
 use Prim.Native.Nat.{ℕ}
-use Rattle.basis.specs.declared.Check.{Check}
-use Rattle.basis.specs.declared.Check.the-variants.{Passed, Refused}
-use Rattle.basis.specs.Outcome.{firstOf, passes}
+use Rattle.basis.specs.Outcome.{Verdict, passed, refusedBy, firstOf, passes}
 use Rattle.basis.proofs.Outcome.{both-passed, both-pass, first-together}
 use Rattle.field_check.specs.declared.Field.{Field}
 use Rattle.field_check.specs.Field.{fieldCheck, fieldsCheck}
@@ -17,25 +15,25 @@ module _ (run : List ℕ) where
     none : AllHold []
     _and_ : {f : Field} {fs : List Field} → Holds run f → AllHold fs → AllHold (f ∷ fs)
 
-  pub all-hold : (fs : List Field) → fieldsCheck run fs ≡ Passed → AllHold fs
+  pub all-hold : (fs : List Field) → fieldsCheck run fs ≡ passed → AllHold fs
   unfolding fieldsCheck
   all-hold [] h = none
   all-hold (f ∷ fs) h =
       let p = both-passed (fieldCheck run f) (fieldsCheck run fs) h in
       field-holds run f (p .0) and all-hold fs (p .1)
 
-  pub all-pass : {fs : List Field} → AllHold fs → fieldsCheck run fs ≡ Passed
+  pub all-pass : {fs : List Field} → AllHold fs → fieldsCheck run fs ≡ passed
   unfolding fieldsCheck
   all-pass none = refl
   all-pass (_and_ {f} {fs} h hs) = rw (field-passes run f h) (all-pass hs)
 
 -- a row before others: the first refusal of both is that of the longer table
-pub row-first : (run : List ℕ) (f : Field) (fs : List Field) {c rest r : Check}
+pub row-first : (run : List ℕ) (f : Field) (fs : List Field) {c rest r : Verdict}
     → c ≡ fieldCheck run f → rest ≡ fieldsCheck run fs → r ≡ firstOf c rest → r ≡ fieldsCheck run (f ∷ fs)
 unfolding fieldsCheck
 row-first run f fs e g h = h ∙ rw (e, g) refl
 
-pub no-rows : (run : List ℕ) → Passed ≡ fieldsCheck run []
+pub no-rows : (run : List ℕ) → passed ≡ fieldsCheck run []
 unfolding fieldsCheck
 no-rows run = refl
 
@@ -43,7 +41,7 @@ no-rows run = refl
 pub rows-join : (run : List ℕ) (fs gs : List Field) → fieldsCheck run (fs ++ gs) ≡ firstOf (fieldsCheck run fs) (fieldsCheck run gs)
 unfolding fieldsCheck
 rows-join run [] gs = refl
-rows-join run (f ∷ fs) gs = ap (λ (c : Check). firstOf (fieldCheck run f) c) (rows-join run fs gs) ∙ sym (first-together (fieldCheck run f) _ _)
+rows-join run (f ∷ fs) gs = ap (λ (c : Verdict). firstOf (fieldCheck run f) c) (rows-join run fs gs) ∙ sym (first-together (fieldCheck run f) _ _)
 
 -- two tables pass where each does, row by row
 pub row-passes : (run : List ℕ) (f : Field) (fs : List Field) {ok rest : Bool}
@@ -55,6 +53,6 @@ pub last-passes : (run : List ℕ) (f : Field) {ok : Bool} → ok ≡ passes (fi
 unfolding fieldsCheck
 last-passes run f e = e ∙ by (fieldCheck run f)
   where
-    by : (c : Check) → passes c ≡ passes (firstOf c Passed)
-    by Passed = refl
-    by (Refused r) = refl
+    by : (c : Verdict) → passes c ≡ passes (firstOf c passed)
+    by passed = refl
+    by (refusedBy r) = refl

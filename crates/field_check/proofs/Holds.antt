@@ -6,8 +6,7 @@ use Prim.Native.Nat.{ℕ, zero, suc, _+_, _*_, _<_}
 use native.Mathlib.Nat.{not-suc-le-zero, le-of-suc-le-suc}
 use native.Mathlib.Omega.{arith}
 use lib.IntN.{ℤ}
-use Rattle.basis.specs.declared.Check.the-variants.{Passed, Refused}
-use Rattle.basis.specs.Outcome.{refusal}
+use Rattle.basis.specs.Outcome.{passed, refusedBy, refusal}
 use Rattle.field_check.specs.declared.Number.{Number}
 use Rattle.field_check.specs.declared.Field.{Field}
 use Rattle.field_check.specs.Field.{widthOf, valueAt, between, entriesCheck, fieldCheck}
@@ -29,21 +28,21 @@ module _ (run : List ℕ) (number : ℕ) (kind : Number) (low high : ℤ) where
   abbrev Entries : ℕ → ℕ → Type 0
   Entries at n = (i : ℕ) → i < n → Between low (valueAt kind run (at + widthOf kind * i)) high
 
-  entries-hold : (at n : ℕ) → entriesCheck run number kind low high at n ≡ Passed → Entries at n
+  entries-hold : (at n : ℕ) → entriesCheck run number kind low high at n ≡ passed → Entries at n
   unfolding entriesCheck
   entries-hold at zero h i l = absurd (not-suc-le-zero l)
   entries-hold at (suc n) h i l = by (λ k i l. entries-hold (at + widthOf kind) n k i l) (between low high (valueAt kind run at)) refl h i l
     where
-      by : (entriesCheck run number kind low high (at + widthOf kind) n ≡ Passed → Entries (at + widthOf kind) n)
+      by : (entriesCheck run number kind low high (at + widthOf kind) n ≡ passed → Entries (at + widthOf kind) n)
           → (t : Bool) → between low high (valueAt kind run at) ≡ t
-          → cond t (entriesCheck run number kind low high (at + widthOf kind) n) (Refused (refusal number at 0)) ≡ Passed → Entries at (suc n)
+          → cond t (entriesCheck run number kind low high (at + widthOf kind) n) (refusedBy (refusal number at 0)) ≡ passed → Entries at (suc n)
       by rest true p k zero l = let e : at + widthOf kind * 0 ≡ at = omega arith in rw e (opened low high (valueAt kind run at) p)
       by rest true p k (suc i) l =
           let e : at + widthOf kind * suc i ≡ at + widthOf kind + widthOf kind * i = omega arith in
           rw e (rest k i (le-of-suc-le-suc l))
       by rest false p k i l = let z : _≡_ {A = ℕ} 0 1 = cc in absurd (omega arith)
 
-  entries-pass : (at n : ℕ) → Entries at n → entriesCheck run number kind low high at n ≡ Passed
+  entries-pass : (at n : ℕ) → Entries at n → entriesCheck run number kind low high at n ≡ passed
   unfolding entriesCheck
   entries-pass at zero b = refl
   entries-pass at (suc n) b =
@@ -53,10 +52,10 @@ module _ (run : List ℕ) (number : ℕ) (kind : Number) (low high : ℤ) where
       (entries-pass (at + widthOf kind) n (λ i l. rw (next i) at (b (suc i) (omega arith))))
 
 module _ (run : List ℕ) where
-  pub field-holds : (f : Field) → fieldCheck run f ≡ Passed → Holds run f
+  pub field-holds : (f : Field) → fieldCheck run f ≡ passed → Holds run f
   unfolding fieldCheck
   field-holds f h = record { within = entries-hold run (f .0) (f .1) (f .2) (f .3) (f .4) (f .5) h }
 
-  pub field-passes : (f : Field) → Holds run f → fieldCheck run f ≡ Passed
+  pub field-passes : (f : Field) → Holds run f → fieldCheck run f ≡ passed
   unfolding fieldCheck
   field-passes f h = entries-pass run (f .0) (f .1) (f .2) (f .3) (f .4) (f .5) (h .within)

@@ -6,12 +6,11 @@ use native.Mathlib.Nat.{not-suc-le-zero, le-of-suc-le-suc}
 use lib.Dec.{leb}
 use lib.ListN.{length, getD, set}
 use borrow.Author.Tests.{leb-true}
-use Rattle.basis.specs.declared.Check.{Check}
-use Rattle.basis.specs.declared.Check.the-variants.{Passed, Refused}
 use Rattle.basis.specs.Basis.{Basis}
 use Rattle.history.specs.History.{basisWith, basisCheck, Workable}
 use Rattle.history.proofs.Acceptance.{accepted-workable}
 use Rattle.basis.proofs.Outcome.{both-passed, unless-passed}
+use Rattle.basis.specs.Outcome.{Verdict, passed, refusedBy}
 use Rattle.grid_record.specs.declared.Point.{Point}
 use Rattle.grid_record.specs.Record.{answeredOf}
 use Rattle.lent.specs.Lent.{countCheck}
@@ -42,9 +41,9 @@ unfolding gridOf
 grid-is run history points = refl
 
 -- ---- the count: a record is answered only where the checks have passed
-passes : (check : Check) (i : ℕ) → i < recordsOf check → check ≡ Passed
-passes Passed i h = refl
-passes (Refused r) i h = absurd (not-suc-le-zero h)
+passes : (check : Verdict) (i : ℕ) → i < recordsOf check → check ≡ passed
+passes passed i h = refl
+passes (refusedBy r) i h = absurd (not-suc-le-zero h)
 
 module _ (run history : List ℕ) (count : ℕ) where
   -- no more records are answered than there are
@@ -52,9 +51,9 @@ module _ (run history : List ℕ) (count : ℕ) where
   unfolding gridCheck countCheck
   records-fit = by (gridCheck run history count) refl
     where
-      by : (check : Check) → gridCheck run history count ≡ check → recordsOf check ≤ count
-      by Passed h = leb-true 119 count (unless-passed (leb 119 count) _ (both-passed (countCheck 119 count) (basisCheck run history) h .0))
-      by (Refused r) h = zero-le
+      by : (check : Verdict) → gridCheck run history count ≡ check → recordsOf check ≤ count
+      by passed h = leb-true 119 count (unless-passed (leb 119 count) _ (both-passed (countCheck 119 count) (basisCheck run history) h .0))
+      by (refusedBy r) h = zero-le
 
   -- and the run is accepted with its history
   pub turn-accepted : (i : ℕ) → i < recordsOf (gridCheck run history count) → Workable run history

@@ -2,10 +2,8 @@
 use Prim.Native.Nat.{ℕ, zero, suc}
 use mathlib.Core.List.{List, [], _∷_}
 use lib.ListN.{length}
-use Rattle.basis.specs.declared.Check.{Check}
-use Rattle.basis.specs.declared.Check.the-variants.{Passed, Refused}
 use Rattle.basis.specs.Basis.{Basis}
-use Rattle.basis.specs.Outcome.{firstOf}
+use Rattle.basis.specs.Outcome.{Verdict, passed, refusedBy, firstOf}
 use Rattle.history.specs.History.{basisWith, basisCheck}
 use Rattle.lent.specs.Lent.{countCheck}
 use Rattle.grid_record.specs.declared.Point.{Point}
@@ -13,15 +11,15 @@ use Rattle.grid_record.specs.Record.{answeredOf}
 use Rattle.grid.specs.declared.GridStart.{GridStart}
 
 -- a list shorter than 119 is refused as 11 with 119 for the bytes, before the basis and its history are looked at
-unfoldable pub gridCheck : List ℕ → List ℕ → ℕ → Check
+unfoldable pub gridCheck : List ℕ → List ℕ → ℕ → Verdict
 gridCheck run history count = firstOf (countCheck 119 count) (basisCheck run history)
 
 -- how many records are answered: 119, and none of a refused grid
-abbrev pub recordsOf : Check → ℕ
-recordsOf Passed = 119
-recordsOf (Refused r) = 0
+abbrev pub recordsOf : Verdict → ℕ
+recordsOf passed = 119
+recordsOf (refusedBy r) = 0
 
-abbrev pub gridStart : Check → GridStart
+abbrev pub gridStart : Verdict → GridStart
 gridStart check = record { check = check; records = recordsOf check }
 
 -- each of the first n records answered; further records are kept

@@ -12,9 +12,9 @@ use lib.Signed.{_≤ℤ_}
 use borrow.Author.Tests.{eqb-true, le-leb, lt-leb}
 use Rattle.arithmetic.proofs.Difference.{≤-parts}
 use Rattle.little_endian.specs.Bytes.{byteAt, i32At}
-use Rattle.basis.specs.declared.Check.the-variants.{Passed}
 use Rattle.basis.specs.Basis.{Basis, basisOf}
 use Rattle.basis.proofs.Outcome.{unless-passed, both-passed, first-passed}
+use Rattle.basis.specs.Outcome.{passed}
 use Rattle.field_check.specs.Field.{fieldCheck, fieldsCheck}
 use Rattle.field_check.proofs.Limits.{Between, most, natural, sized}
 use Rattle.field_check.proofs.Holds.{Holds, field-holds, field-passes}
@@ -37,15 +37,15 @@ module _ (b : Basis) (history : List ℕ) where
   Data = historyData b history
 
   -- ---- what passes is accepted
-  module _ (h : historyCheck b history ≡ Passed) where
-    parts : (length history ≡ lengthNeeded b) × (blocksCheck 0 (2 * actualYears b) history ≡ Passed) × (fieldsCheck Data (historyFields (actualYears b)) ≡ Passed)
+  module _ (h : historyCheck b history ≡ passed) where
+    parts : (length history ≡ lengthNeeded b) × (blocksCheck 0 (2 * actualYears b) history ≡ passed) × (fieldsCheck Data (historyFields (actualYears b)) ≡ passed)
     unfolding historyCheck
     parts =
         let p = both-passed _ _ h in
         let q = both-passed (blocksCheck 0 (2 * actualYears b) history) _ (p .1) in
         (eqb-true _ _ (unless-passed _ _ (p .0)), q .0, q .1)
 
-    tables : (fieldsCheck Data (yearlyFields firstRemaining secondRemaining 0 (actualYears b)) ≡ Passed) × (fieldsCheck Data (yearlyFields youngerAges olderAges 0 (actualYears b)) ≡ Passed)
+    tables : (fieldsCheck Data (yearlyFields firstRemaining secondRemaining 0 (actualYears b)) ≡ passed) × (fieldsCheck Data (yearlyFields youngerAges olderAges 0 (actualYears b)) ≡ passed)
     tables =
         both-passed (fieldsCheck Data (yearlyFields firstRemaining secondRemaining 0 (actualYears b))) _
         (sym (fields-parts Data (actualYears b)) ∙ parts .2)
@@ -54,10 +54,10 @@ module _ (b : Basis) (history : List ℕ) where
       abbrev K : ℕ
       K = year - (b .base + 1)
 
-      rates : (fieldCheck Data (movedTo (0 + 1012 * K) youngerAges) ≡ Passed) × (fieldCheck Data (movedTo (0 + 1012 * K + 506) olderAges) ≡ Passed)
+      rates : (fieldCheck Data (movedTo (0 + 1012 * K) youngerAges) ≡ passed) × (fieldCheck Data (movedTo (0 + 1012 * K + 506) olderAges) ≡ passed)
       rates = each-year Data youngerAges olderAges (actualYears b) K 0 (omega arith) (tables .1)
 
-      rests : (fieldCheck Data (movedTo (0 + 1012 * K) firstRemaining) ≡ Passed) × (fieldCheck Data (movedTo (0 + 1012 * K + 506) secondRemaining) ≡ Passed)
+      rests : (fieldCheck Data (movedTo (0 + 1012 * K) firstRemaining) ≡ passed) × (fieldCheck Data (movedTo (0 + 1012 * K + 506) secondRemaining) ≡ passed)
       rests = each-year Data firstRemaining secondRemaining (actualYears b) K 0 (omega arith) (tables .0)
 
       within : (age : ℕ) → 20 ≤ age → age ≤ 150 → natAbs (actualOf b history age year) ≤ 500_000_000
@@ -143,13 +143,13 @@ module _ (b : Basis) (history : List ℕ) where
                 natural (omega arith) (omega (arith, z));
           }
 
-    fields-pass : fieldsCheck Data (historyFields (actualYears b)) ≡ Passed
+    fields-pass : fieldsCheck Data (historyFields (actualYears b)) ≡ passed
     fields-pass =
         let fours = years-pass Data firstRemaining secondRemaining (actualYears b) 0 (λ k l. (field-passes Data _ (first-hold k l), field-passes Data _ (second-hold k l))) in
         let fives = years-pass Data youngerAges olderAges (actualYears b) 0 (λ k l. (field-passes Data _ (younger-hold k l), field-passes Data _ (older-hold k l))) in
         fields-parts Data (actualYears b) ∙ first-passed _ _ fours ∙ fives
 
-    passes : historyCheck b history ≡ Passed
+    passes : historyCheck b history ≡ passed
     passes = right-length b history (a .size) ∙ first-passed _ _ (blocks-pass 0 (2 * actualYears b) history (λ place l. rw zero-add (a .blocks place l))) ∙ fields-pass
 
 -- ---- the theorem
@@ -166,7 +166,7 @@ history-acceptance =
     }
 
 -- ---- what the work asks of it
-pub accepted-workable : (run history : List ℕ) → basisCheck run history ≡ Passed → Workable run history
+pub accepted-workable : (run history : List ℕ) → basisCheck run history ≡ passed → Workable run history
 accepted-workable run history h =
     let a = history-acceptance .basis-accepted run history h in
     record { basis = a .by-run; size = a .by-history .size; actual = a .by-history .actual }

@@ -6,20 +6,20 @@ use native.Mathlib.Omega.{arith}
 use lib.ListN.{take, drop}
 use lib.Seq.{drop-drop}
 use borrow.Author.Tests.{eqb-true, eq-eqb}
-use Rattle.basis.specs.declared.Check.the-variants.{Passed}
 use Rattle.basis.proofs.Outcome.{unless-passed, both-passed}
+use Rattle.basis.specs.Outcome.{passed}
 use Rattle.block.specs.Block.{blockCheck}
 use Rattle.block.specs.Blocks.{blocksCheck}
 use Rattle.history.specs.Accepted.{RightBlock}
 
 -- ---- one block
-right-of : (place : ℕ) (block : List ℕ) → blockCheck place block ≡ Passed → RightBlock place block
+right-of : (place : ℕ) (block : List ℕ) → blockCheck place block ≡ passed → RightBlock place block
 unfolding blockCheck
 right-of place block h =
     let p = both-passed _ _ h in
     record { check = eqb-true _ _ (unless-passed _ _ (p .0)); number = eqb-true _ _ (unless-passed _ _ (p .1)) }
 
-passes-right : (place : ℕ) (block : List ℕ) → RightBlock place block → blockCheck place block ≡ Passed
+passes-right : (place : ℕ) (block : List ℕ) → RightBlock place block → blockCheck place block ≡ passed
 unfolding blockCheck
 passes-right place block h = simp (eq-eqb _ _ (h .check), eq-eqb _ _ (h .number))
 
@@ -27,7 +27,7 @@ passes-right place block h = simp (eq-eqb _ _ (h .check), eq-eqb _ _ (h .number)
 abbrev Right : ℕ → ℕ → List ℕ → Type 0
 Right place n blocks = (i : ℕ) → i < n → RightBlock (place + i) (take 512 (drop (512 * i) blocks))
 
-pub blocks-right : (place n : ℕ) (blocks : List ℕ) → blocksCheck place n blocks ≡ Passed → Right place n blocks
+pub blocks-right : (place n : ℕ) (blocks : List ℕ) → blocksCheck place n blocks ≡ passed → Right place n blocks
 unfolding blocksCheck
 blocks-right place zero blocks h i l = absurd (omega arith)
 blocks-right place (suc n) blocks h zero l =
@@ -39,7 +39,7 @@ blocks-right place (suc n) blocks h (suc i) l =
     let f : 512 * suc i ≡ 512 + 512 * i = omega arith in
     rw (e, f, ← drop-drop (512 * i) 512 blocks) (blocks-right (place + 1) n (drop 512 blocks) rest i (omega arith))
 
-pub blocks-pass : (place n : ℕ) (blocks : List ℕ) → Right place n blocks → blocksCheck place n blocks ≡ Passed
+pub blocks-pass : (place n : ℕ) (blocks : List ℕ) → Right place n blocks → blocksCheck place n blocks ≡ passed
 unfolding blocksCheck
 blocks-pass place zero blocks h = refl
 blocks-pass place (suc n) blocks h =

@@ -4,9 +4,8 @@ use mathlib.Core.List.{List}
 use Prim.Native.Nat.{ℕ, _*_}
 use lib.ListN.{length}
 use borrow.Author.Tests.{eq-eqb, ne-eqb}
-use Rattle.basis.specs.declared.Check.the-variants.{Refused}
 use Rattle.basis.specs.Basis.{Basis}
-use Rattle.basis.specs.Outcome.{refusal, firstOf}
+use Rattle.basis.specs.Outcome.{refusedBy, refusal, firstOf}
 use Rattle.field_check.specs.Field.{fieldsCheck}
 use Rattle.field_check.proofs.Fields.{rows-join}
 use Rattle.block.specs.Blocks.{partsOf, blocksCheck}
@@ -20,7 +19,7 @@ fields-parts s years = rows-join s (yearlyFields firstRemaining secondRemaining 
 
 -- ---- the ways through the check
 module _ (b : Basis) (history : List ℕ) where
-  pub wrong-length : (length history ≡ lengthNeeded b → ⊥) → historyCheck b history ≡ Refused (refusal 13 (lengthNeeded b) 0)
+  pub wrong-length : (length history ≡ lengthNeeded b → ⊥) → historyCheck b history ≡ refusedBy (refusal 13 (lengthNeeded b) 0)
   unfolding historyCheck
   wrong-length h = simp (ne-eqb (length history) (lengthNeeded b) h)
 

@@ -9,9 +9,8 @@ use lib.ListN.{length, take, drop}
 use lib.Seq.{getD-take, getD-drop}
 use lib.IntN.{ℤ, pos}
 use Rattle.little_endian.specs.Bytes.{byteAt, u32At, signed32}
-use Rattle.basis.specs.declared.Check.the-variants.{Refused}
 use Rattle.basis.specs.declared.Refusal.{Refusal}
-use Rattle.basis.specs.Outcome.{refusal}
+use Rattle.basis.specs.Outcome.{refusedBy, refusal}
 use Rattle.field_check.specs.declared.Number.{Number}
 use Rattle.field_check.specs.declared.Number.the-variants.{Byte, Half, Word, SignedWord}
 use Rattle.field_check.specs.declared.Field.{Field}
@@ -58,8 +57,8 @@ module _ (s : List ℕ) (from n : ℕ) where
       where
         by : (t : Bool) → entriesCheck s number kind low high (from + (at + widthOf kind)) m
             ≡ countedFrom from (entriesCheck Part number kind low high (at + widthOf kind) m)
-            → cond t (entriesCheck s number kind low high (from + (at + widthOf kind)) m) (Refused (refusal number (from + at) 0))
-            ≡ countedFrom from (cond t (entriesCheck Part number kind low high (at + widthOf kind) m) (Refused (refusal number at 0)))
+            → cond t (entriesCheck s number kind low high (from + (at + widthOf kind)) m) (refusedBy (refusal number (from + at) 0))
+            ≡ countedFrom from (cond t (entriesCheck Part number kind low high (at + widthOf kind) m) (refusedBy (refusal number at 0)))
         by true g = g
         by false g = refl
 
@@ -75,18 +74,18 @@ part-field n b blocks f h l w =
     ∙ sym (field-there (partsOf n blocks) (506 * b) 506 f w)
 
 -- ---- the place of a refusal lies in the field
-place-in : (s : List ℕ) (number : ℕ) (kind : Number) (low high : ℤ) (at m : ℕ) (r : Refusal) → entriesCheck s number kind low high at m ≡ Refused r
+place-in : (s : List ℕ) (number : ℕ) (kind : Number) (low high : ℤ) (at m : ℕ) (r : Refusal) → entriesCheck s number kind low high at m ≡ refusedBy r
     → r .first ≤ at + m * widthOf kind
 unfolding entriesCheck
 place-in s number kind low high at zero r h = let z : _≡_ {A = ℕ} 0 1 = cc in absurd (omega arith)
 place-in s number kind low high at (suc m) r h = by (λ g. place-in s number kind low high (at + widthOf kind) m r g) (between low high (valueAt kind s at)) h
   where
-    by : (entriesCheck s number kind low high (at + widthOf kind) m ≡ Refused r → r .first ≤ at + widthOf kind + m * widthOf kind)
-        → (t : Bool) → cond t (entriesCheck s number kind low high (at + widthOf kind) m) (Refused (refusal number at 0)) ≡ Refused r
+    by : (entriesCheck s number kind low high (at + widthOf kind) m ≡ refusedBy r → r .first ≤ at + widthOf kind + m * widthOf kind)
+        → (t : Bool) → cond t (entriesCheck s number kind low high (at + widthOf kind) m) (refusedBy (refusal number at 0)) ≡ refusedBy r
         → r .first ≤ at + suc m * widthOf kind
     by rest true g = omega (arith, rest g, suc-mul m (widthOf kind))
     by rest false g = let e : r .first ≡ at = cc in omega (arith, e)
 
-pub refused-in : (s : List ℕ) (f : Field) (r : Refusal) → fieldCheck s f ≡ Refused r → r .first ≤ f .4 + f .5 * widthOf (f .1)
+pub refused-in : (s : List ℕ) (f : Field) (r : Refusal) → fieldCheck s f ≡ refusedBy r → r .first ≤ f .4 + f .5 * widthOf (f .1)
 unfolding fieldCheck
 refused-in s f r h = place-in s (f .0) (f .1) (f .2) (f .3) (f .4) (f .5) r h

@@ -4,9 +4,7 @@ use mathlib.Core.List.{List}
 use Prim.Native.Nat.{ℕ, zero, suc, _+_, _*_, _-_, _<_, _≤_}
 use native.Mathlib.Omega.{arith}
 use lib.ListN.{length}
-use Rattle.basis.specs.declared.Check.{Check}
-use Rattle.basis.specs.declared.Check.the-variants.{Passed}
-use Rattle.basis.specs.Outcome.{firstOf}
+use Rattle.basis.specs.Outcome.{Verdict, passed, firstOf}
 use Rattle.basis.proofs.Outcome.{both-passed, first-together}
 use Rattle.field_check.specs.declared.Field.{Field}
 use Rattle.field_check.specs.Field.{widthOf, fieldCheck, fieldsCheck}
@@ -16,10 +14,10 @@ use Rattle.history.specs.Inner.Part.{partCheck}
 use Rattle.history.proofs.Window.{part-field}
 
 module _ (s : List ℕ) (first second : Field) where
-  abbrev Yearly : ℕ → ℕ → Check
+  abbrev Yearly : ℕ → ℕ → Verdict
   Yearly at n = fieldsCheck s (yearlyFields first second at n)
 
-  pub no-years : (at : ℕ) → Passed ≡ Yearly at 0
+  pub no-years : (at : ℕ) → passed ≡ Yearly at 0
   unfolding fieldsCheck yearlyFields
   no-years at = refl
 
@@ -41,9 +39,9 @@ module _ (s : List ℕ) (first second : Field) where
       let C = Yearly (1012 * k + 1012) (n - (k + 1)) in
       rw (left, young, old, more) (first-together A B C ∙ sym (a-year (1012 * k) (n - (k + 1))))
 
-  passed : (at n : ℕ) → Yearly at (suc n) ≡ Passed
-      → (fieldCheck s (movedTo at first) ≡ Passed) × (fieldCheck s (movedTo (at + 506) second) ≡ Passed) × (Yearly (at + 1012) n ≡ Passed)
-  passed at n h =
+  first-year : (at n : ℕ) → Yearly at (suc n) ≡ passed
+      → (fieldCheck s (movedTo at first) ≡ passed) × (fieldCheck s (movedTo (at + 506) second) ≡ passed) × (Yearly (at + 1012) n ≡ passed)
+  first-year at n h =
       let A = fieldCheck s (movedTo at first) in
       let B = fieldCheck s (movedTo (at + 506) second) in
       let C = Yearly (at + 1012) n in
@@ -52,34 +50,34 @@ module _ (s : List ℕ) (first second : Field) where
       (p .0, q .0, q .1)
 
   -- what passes, passes in each year
-  pub each-year : (n k at : ℕ) → k < n → Yearly at n ≡ Passed
-      → (fieldCheck s (movedTo (at + 1012 * k) first) ≡ Passed) × (fieldCheck s (movedTo (at + 1012 * k + 506) second) ≡ Passed)
+  pub each-year : (n k at : ℕ) → k < n → Yearly at n ≡ passed
+      → (fieldCheck s (movedTo (at + 1012 * k) first) ≡ passed) × (fieldCheck s (movedTo (at + 1012 * k + 506) second) ≡ passed)
   each-year zero k at l h = absurd (omega arith)
   each-year (suc n) zero at l h =
-      let p = passed at n h in
+      let p = first-year at n h in
       let e : at + 1012 * 0 ≡ at = omega arith in
       rw e (p .0, p .1)
   each-year (suc n) (suc k) at l h =
-      let p = passed at n h in
+      let p = first-year at n h in
       let e : at + 1012 * suc k ≡ at + 1012 + 1012 * k = omega arith in
       rw e (each-year n k (at + 1012) (omega arith) (p .2))
 
   -- and what passes in each year, passes
   pub years-pass : (n at : ℕ) → ((k : ℕ) → k < n
-      → (fieldCheck s (movedTo (at + 1012 * k) first) ≡ Passed) × (fieldCheck s (movedTo (at + 1012 * k + 506) second) ≡ Passed)) → Yearly at n ≡ Passed
+      → (fieldCheck s (movedTo (at + 1012 * k) first) ≡ passed) × (fieldCheck s (movedTo (at + 1012 * k + 506) second) ≡ passed)) → Yearly at n ≡ passed
   years-pass zero at h = sym (no-years at)
   years-pass (suc n) at h =
       let e : at + 1012 * 0 ≡ at = omega arith in
       let here = rw e at (h 0 (omega arith)) in
       let next : (k : ℕ) → k < n
-      → (fieldCheck s (movedTo (at + 1012 + 1012 * k) first) ≡ Passed) × (fieldCheck s (movedTo (at + 1012 + 1012 * k + 506) second) ≡ Passed) =
+      → (fieldCheck s (movedTo (at + 1012 + 1012 * k) first) ≡ passed) × (fieldCheck s (movedTo (at + 1012 + 1012 * k + 506) second) ≡ passed) =
       λ k l.
       let f : at + 1012 * suc k ≡ at + 1012 + 1012 * k = omega arith in
       rw f at (h (suc k) (omega arith)) in
       a-year at n ∙ rw (here .0, here .1) (years-pass n (at + 1012) next)
 
 -- the same with the year's two blocks as they lie in the file; the years that are looked at begin at `after`
-pub year-turn : (history : List ℕ) (first second : Field) (n k after : ℕ) {younger older r rest next : Check}
+pub year-turn : (history : List ℕ) (first second : Field) (n k after : ℕ) {younger older r rest next : Verdict}
     → length history ≡ 1024 * n → k < n → after ≡ k + 1
     → first .4 + first .5 * widthOf (first .1) ≤ 506 → second .4 + second .5 * widthOf (second .1) ≤ 506
     → younger ≡ partCheck history (2 * k) first → older ≡ partCheck history (2 * k + 1) second → r ≡ firstOf younger older

@@ -5,8 +5,8 @@ use mathlib.Core.List.{List}
 use lib.ListN.{length, take, drop}
 use lib.IntN.{natAbs}
 use Rattle.little_endian.specs.Bytes.{byteAt, u16At, u32At}
-use Rattle.basis.specs.declared.Check.the-variants.{Passed}
 use Rattle.basis.specs.Basis.{Basis, basisOf, Accepted}
+use Rattle.basis.specs.Outcome.{passed}
 use Rattle.block.specs.Block.{checkOf}
 use Rattle.history.specs.History.{historyData, actualOf, historyCheck, basisCheck}
 
@@ -36,7 +36,7 @@ pub record AcceptedBasis (run history : List ℕ) : Type 0 where
 
 -- ---- a history passes exactly if it is accepted, and so does a data run with its history
 pub record HistoryAcceptance : Type 0 where
-  pub accepted : (b : Basis) (history : List ℕ) → historyCheck b history ≡ Passed → AcceptedHistory b history
-  pub passes : (b : Basis) (history : List ℕ) → AcceptedHistory b history → historyCheck b history ≡ Passed
-  pub basis-accepted : (run history : List ℕ) → basisCheck run history ≡ Passed → AcceptedBasis run history
-  pub basis-passes : (run history : List ℕ) → AcceptedBasis run history → basisCheck run history ≡ Passed
+  pub accepted : (b : Basis) (history : List ℕ) → historyCheck b history ≡ passed → AcceptedHistory b history
+  pub passes : (b : Basis) (history : List ℕ) → AcceptedHistory b history → historyCheck b history ≡ passed
+  pub basis-accepted : (run history : List ℕ) → basisCheck run history ≡ passed → AcceptedBasis run history
+  pub basis-passes : (run history : List ℕ) → AcceptedBasis run history → basisCheck run history ≡ passed

@@ -5,9 +5,8 @@ use mathlib.Core.List.{List}
 use Prim.Native.Nat.{ℕ, _<_, _≤_}
 use lib.IntN.{pos, negsuc}
 use Rattle.arithmetic.specs.Fraction.{_over_, round}
-use Rattle.basis.specs.declared.Check.the-variants.{Passed}
 use Rattle.basis.specs.Basis.{basisOf}
-use Rattle.basis.specs.Outcome.{value}
+use Rattle.basis.specs.Outcome.{passed, value}
 use Rattle.history.specs.History.{actualOf, basisWith, basisCheck}
 use Rattle.improvement.specs.Improvement.{usable, improvementOf, improvementNeeded}
 
@@ -21,5 +20,5 @@ pub record Edges : Type 0 where
 
 -- an improvement from B + 1 to F is answered from the history (02, change 2)
 pub record ActualAnswered (run history : List ℕ) : Type 0 where
-  pub answered : (age year : ℕ) → basisCheck run history ≡ Passed → 20 ≤ age → age ≤ 150 → basisOf run .base < year → year ≤ basisOf run .foundation
+  pub answered : (age year : ℕ) → basisCheck run history ≡ passed → 20 ≤ age → age ≤ 150 → basisOf run .base < year → year ≤ basisOf run .foundation
       → improvementNeeded age year (improvementOf (basisWith run history) age year) ≡ value (actualOf (basisOf run) history age year)

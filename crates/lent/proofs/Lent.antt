@@ -9,31 +9,29 @@ use lib.ListN.{length, take, drop, set, length-append, length-drop, take-append-
 use lib.Seq.{length-take-le, take-at, drop-at, drop-drop, take-suc-set, drop-set-lt}
 use borrow.Author.Tests.{le-leb, leb-true}
 use Rattle.basis.specs.declared.Refusal.{Refusal}
-use Rattle.basis.specs.declared.Check.{Check}
-use Rattle.basis.specs.declared.Check.the-variants.{Passed, Refused}
-use Rattle.basis.specs.Outcome.{firstOf}
+use Rattle.basis.specs.Outcome.{Verdict, passed, refusedBy, firstOf}
 use Rattle.basis.proofs.Outcome.{unless-passed, both-passed}
 use Rattle.lent.specs.Lent.{countCheck, roomCheck, written, placed}
 
 -- the room comes before every other check
-module _ {A : Type 0} (need : ℕ) (out : List A) (next : Check) where
+module _ {A : Type 0} (need : ℕ) (out : List A) (next : Verdict) where
   pub roomy : need ≤ length out → firstOf (roomCheck need out) next ≡ next
   unfolding countCheck
   roomy h = simp (le-leb need (length out) h)
 
-  pub room-passed : firstOf (roomCheck need out) next ≡ Passed → (need ≤ length out) × (next ≡ Passed)
+  pub room-passed : firstOf (roomCheck need out) next ≡ passed → (need ≤ length out) × (next ≡ passed)
   unfolding countCheck
   room-passed h = let e = both-passed _ _ h in (leb-true need (length out) (unless-passed _ _ (e .0)), e .1)
 
 -- what stands in the output then
-module _ {A : Type 0} (c : Check) (new out : List A) where
-  pub filled : (n : ℕ) → c ≡ Passed → length new ≡ n → written c new out ≡ new ++ drop n out
+module _ {A : Type 0} (c : Verdict) (new out : List A) where
+  pub filled : (n : ℕ) → c ≡ passed → length new ≡ n → written c new out ≡ new ++ drop n out
   filled n e l = simp (e, l)
 
-  pub kept : (r : Refusal) → c ≡ Refused r → written c new out ≡ out
+  pub kept : (r : Refusal) → c ≡ refusedBy r → written c new out ≡ out
   kept r e = rw e
 
-  pub put-in-front : c ≡ Passed → placed out 0 new ≡ written c new out
+  pub put-in-front : c ≡ passed → placed out 0 new ≡ written c new out
   put-in-front e = rw (e, zero-add (length new))
 
 -- ---- one part after another

@@ -3,21 +3,19 @@ use Prim.Native.Nat.{ℕ, _+_}
 use mathlib.Core.List.{List, _++_}
 use lib.ListN.{length, take, drop}
 use lib.Dec.{leb}
-use Rattle.basis.specs.declared.Check.{Check}
-use Rattle.basis.specs.declared.Check.the-variants.{Passed, Refused}
-use Rattle.basis.specs.Outcome.{refusal, unless}
+use Rattle.basis.specs.Outcome.{Verdict, passed, refusedBy, refusal, unless}
 
 -- too short (11): fewer elements are lent than are needed
-unfoldable pub countCheck : ℕ → ℕ → Check
+unfoldable pub countCheck : ℕ → ℕ → Verdict
 countCheck needed lent = unless (leb needed lent) (refusal 11 needed 0)
 
-abbrev pub roomCheck : {A : Type 0} → ℕ → List A → Check
+abbrev pub roomCheck : {A : Type 0} → ℕ → List A → Verdict
 roomCheck needed out = countCheck needed (length out)
 
 -- what stands in an output after the check: the new elements in front of its further ones, or what stood there
-abbrev pub written : {A : Type 0} → Check → List A → List A → List A
-written Passed new out = new ++ drop (length new) out
-written (Refused r) new out = out
+abbrev pub written : {A : Type 0} → Verdict → List A → List A → List A
+written passed new out = new ++ drop (length new) out
+written (refusedBy r) new out = out
 
 -- an output with other elements in one place of it
 abbrev pub placed : {A : Type 0} → List A → ℕ → List A → List A

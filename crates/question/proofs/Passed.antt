@@ -5,8 +5,7 @@ use Prim.Native.Nat.{ℕ, _+_, _≤_}
 use native.Mathlib.Omega.{arith}
 use lib.Dec.{leb}
 use borrow.Author.Tests.{leb-true}
-use Rattle.basis.specs.declared.Check.the-variants.{Passed}
-use Rattle.basis.specs.Outcome.{firstOf}
+use Rattle.basis.specs.Outcome.{passed, firstOf}
 use Rattle.basis.proofs.Outcome.{unless-passed, both-passed}
 use Rattle.question.specs.Question.{inRange, ageCheck, defermentCheck, yearCheck, cellCheck, questionCheck}
 
@@ -19,20 +18,20 @@ in-range low high n h = by (leb low n) refl (leb n high) refl h
     by false e t g k = let z : _≡_ {A = ℕ} 0 1 = cc in absurd (omega arith)
 
 -- ---- one check
-pub age-passed : (age : ℕ) → ageCheck age ≡ Passed → (20 ≤ age) × (age ≤ 150)
+pub age-passed : (age : ℕ) → ageCheck age ≡ passed → (20 ≤ age) × (age ≤ 150)
 unfolding ageCheck
 age-passed age h = in-range 20 150 age (unless-passed (inRange 20 150 age) _ h)
 
-deferment-passed : (age deferment : ℕ) → defermentCheck age deferment ≡ Passed → age + deferment ≤ 150
+deferment-passed : (age deferment : ℕ) → defermentCheck age deferment ≡ passed → age + deferment ≤ 150
 unfolding defermentCheck
 deferment-passed age deferment h = leb-true (age + deferment) 150 (unless-passed (leb (age + deferment) 150) _ h)
 
-year-passed : (first year : ℕ) → yearCheck first year ≡ Passed → (first ≤ year) × (year ≤ 2130)
+year-passed : (first year : ℕ) → yearCheck first year ≡ passed → (first ≤ year) × (year ≤ 2130)
 unfolding yearCheck
 year-passed first year h = in-range first 2130 year (unless-passed (inRange first 2130 year) _ h)
 
 -- ---- all of them
-pub cell-passed : (first age year : ℕ) → cellCheck first age year ≡ Passed → (20 ≤ age) × (age ≤ 150) × (first ≤ year) × (year ≤ 2130)
+pub cell-passed : (first age year : ℕ) → cellCheck first age year ≡ passed → (20 ≤ age) × (age ≤ 150) × (first ≤ year) × (year ≤ 2130)
 cell-passed first age year h =
     let p = both-passed (ageCheck age) (yearCheck first year) h in
     let a = age-passed age (p .0) in
@@ -40,15 +39,15 @@ cell-passed first age year h =
     (a .0, a .1, y .0, y .1)
 
 -- each of the three
-pub question-parts : (base age deferment year : ℕ) → questionCheck base age deferment year ≡ Passed
-    → (ageCheck age ≡ Passed) × (defermentCheck age deferment ≡ Passed) × (yearCheck base year ≡ Passed)
+pub question-parts : (base age deferment year : ℕ) → questionCheck base age deferment year ≡ passed
+    → (ageCheck age ≡ passed) × (defermentCheck age deferment ≡ passed) × (yearCheck base year ≡ passed)
 unfolding questionCheck
 question-parts base age deferment year h =
     let p = both-passed (ageCheck age) (firstOf (defermentCheck age deferment) (yearCheck base year)) h in
     let q = both-passed (defermentCheck age deferment) (yearCheck base year) (p .1) in
     (p .0, q .0, q .1)
 
-pub question-passed : (base age deferment year : ℕ) → questionCheck base age deferment year ≡ Passed
+pub question-passed : (base age deferment year : ℕ) → questionCheck base age deferment year ≡ passed
     → (20 ≤ age) × (age + deferment ≤ 150) × (base ≤ year) × (year ≤ 2130)
 question-passed base age deferment year h =
     let p = question-parts base age deferment year h in

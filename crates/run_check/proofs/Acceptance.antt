@@ -9,9 +9,8 @@ use lib.ListN.{length, getD, take}
 use lib.Seq.{getD-take}
 use lib.Dec.{eqb, eqb→eq}
 use lib.IntN.{pos, negℤ}
-use Rattle.basis.specs.declared.Check.the-variants.{Passed, Refused}
 use Rattle.little_endian.specs.Bytes.{byteAt, i32At}
-use Rattle.basis.specs.Outcome.{refusal}
+use Rattle.basis.specs.Outcome.{passed, refusedBy, refusal}
 use Rattle.basis.specs.Basis.{basisOf, termsAt, ConvergenceLimits, Accepted}
 use Rattle.field_check.specs.declared.Number.the-variants.{Byte, Word, SignedWord}
 use Rattle.field_check.specs.Field.{field, fieldsCheck}
@@ -157,16 +156,16 @@ module _ (run : List ℕ) (a : Accepted run) where
       and none
 
 -- ---- the theorem, each way
-right-length : (run : List ℕ) → runCheck run ≡ Passed → length run ≡ 4554
+right-length : (run : List ℕ) → runCheck run ≡ passed → length run ≡ 4554
 unfolding runCheck
 right-length run h = by (eqb (length run) 4554) refl h
   where
-    by : (t : Bool) → eqb (length run) 4554 ≡ t → cond t (fieldsCheck run runFields) (Refused (refusal 1 0 0)) ≡ Passed → length run ≡ 4554
+    by : (t : Bool) → eqb (length run) 4554 ≡ t → cond t (fieldsCheck run runFields) (refusedBy (refusal 1 0 0)) ≡ passed → length run ≡ 4554
     by true e k = eqb→eq (length run) 4554 (rw e tt)
     by false e k = let z : _≡_ {A = ℕ} 0 1 = cc in absurd (omega arith)
 
-pub accepted : (run : List ℕ) → runCheck run ≡ Passed → Accepted run
+pub accepted : (run : List ℕ) → runCheck run ≡ passed → Accepted run
 accepted run h = let long = right-length run h in of-rows run long (all-hold run runFields (sym (whole run long) ∙ h))
 
-pub passes : (run : List ℕ) → Accepted run → runCheck run ≡ Passed
+pub passes : (run : List ℕ) → Accepted run → runCheck run ≡ passed
 passes run a = whole run (a .size) ∙ all-pass run (rows-hold run a)

@@ -4,24 +4,23 @@ use mathlib.Core.List.{List, _++_}
 use Prim.Native.Nat.{ℕ}
 use lib.ListN.{length, take, drop}
 use borrow.Author.Tests.{eq-eqb}
-use Rattle.basis.specs.declared.Check.{Check}
-use Rattle.basis.specs.Outcome.{firstOf}
+use Rattle.basis.specs.Outcome.{Verdict, firstOf}
 use Rattle.field_check.specs.Field.{fieldsCheck}
 use Rattle.field_check.proofs.Fields.{rows-join}
 use Rattle.run_check.specs.Run.{runFields, runCheck}
 
 -- the four parts of the table are the table
 module _ (run : List ℕ) where
-  abbrev Mark : Check
+  abbrev Mark : Verdict
   Mark = fieldsCheck run (take 5 runFields)
 
-  abbrev Single : Check
+  abbrev Single : Verdict
   Single = fieldsCheck run (take 4 (drop 5 runFields))
 
-  abbrev Ages : Check
+  abbrev Ages : Verdict
   Ages = fieldsCheck run (take 5 (drop 9 runFields))
 
-  abbrev Births : Check
+  abbrev Births : Verdict
   Births = fieldsCheck run (take 4 (drop 14 runFields))
 
   parts : fieldsCheck run runFields ≡ firstOf Mark (firstOf Single (firstOf Ages Births))
@@ -32,13 +31,13 @@ module _ (run : List ℕ) where
       let c = take 5 (drop 9 runFields) in
       let d = take 4 (drop 14 runFields) in
       rows-join run a (b ++ (c ++ d))
-      ∙ ap (λ (x : Check). firstOf Mark x) (rows-join run b (c ++ d) ∙ ap (λ (x : Check). firstOf Single x) (rows-join run c d))
+      ∙ ap (λ (x : Verdict). firstOf Mark x) (rows-join run b (c ++ d) ∙ ap (λ (x : Verdict). firstOf Single x) (rows-join run c d))
 
 pub whole : (run : List ℕ) → length run ≡ 4554 → runCheck run ≡ fieldsCheck run runFields
 unfolding runCheck
 whole run h = simp (eq-eqb (length run) 4554 h)
 
-pub joined : (run : List ℕ) {m s a b r r₁ r₂ : Check} → length run ≡ 4554
+pub joined : (run : List ℕ) {m s a b r r₁ r₂ : Verdict} → length run ≡ 4554
     → m ≡ Mark run → s ≡ Single run → a ≡ Ages run → b ≡ Births run
     → r₁ ≡ firstOf a b → r₂ ≡ firstOf s r₁ → r ≡ firstOf m r₂ → r ≡ runCheck run
 joined run l em es ea eb e₁ e₂ e = e ∙ rw (em, e₂, es, e₁, ea, eb) (sym (whole run l ∙ parts run))

@@ -5,9 +5,7 @@ use mathlib.Core.List.{List, [], _∷_}
 use lib.ListN.{length}
 use lib.Dec.{eqb}
 use lib.IntN.{pos, negℤ}
-use Rattle.basis.specs.declared.Check.{Check}
-use Rattle.basis.specs.declared.Check.the-variants.{Refused}
-use Rattle.basis.specs.Outcome.{refusal}
+use Rattle.basis.specs.Outcome.{Verdict, refusedBy, refusal}
 use Rattle.field_check.specs.declared.Field.{Field}
 use Rattle.field_check.specs.declared.Number.the-variants.{Byte, Half, Word, SignedWord}
 use Rattle.field_check.specs.Field.{field, fieldsCheck}
@@ -36,5 +34,5 @@ runFields =
     ∷ []
 
 -- the length (1), then the fields
-unfoldable pub runCheck : List ℕ → Check
-runCheck run = cond (eqb (length run) 4554) (fieldsCheck run runFields) (Refused (refusal 1 0 0))
+unfoldable pub runCheck : List ℕ → Verdict
+runCheck run = cond (eqb (length run) 4554) (fieldsCheck run runFields) (refusedBy (refusal 1 0 0))

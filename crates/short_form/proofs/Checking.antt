@@ -7,10 +7,8 @@ use Prim.Native.Nat.{ℕ, _-_, _≤_}
 use lib.ListN.{length}
 use lib.IntN.{ℤ, pos, negℤ, natAbs}
 use Rattle.basis.specs.declared.Refusal.{Refusal}
-use Rattle.basis.specs.declared.Check.{Check}
-use Rattle.basis.specs.declared.Check.the-variants.{Passed, Refused}
 use Rattle.basis.specs.Basis.{Accepted}
-use Rattle.basis.specs.Outcome.{refusal, unless, firstOf}
+use Rattle.basis.specs.Outcome.{Verdict, passed, refusedBy, refusal, unless, firstOf}
 use Rattle.field_check.specs.Field.{between}
 use Rattle.run_check.specs.Run.{runCheck}
 use Rattle.basis.proofs.Outcome.{first-stands, unless-passed, both-passed}
@@ -21,22 +19,22 @@ use Rattle.lent.proofs.Lent.{room-passed}
 use Rattle.short_form.specs.ShortForm.{rateLimit, shortFormCheck}
 
 module _ (run : List ℕ) (rate : ℤ) where
-  pub run-refused : (c : Check) {r : Refusal} → c ≡ runCheck run → c ≡ Refused r → c ≡ shortFormCheck run rate
+  pub run-refused : (c : Verdict) {r : Refusal} → c ≡ runCheck run → c ≡ refusedBy r → c ≡ shortFormCheck run rate
   unfolding shortFormCheck
   run-refused c e f = e ∙ sym (first-stands (runCheck run) _ (sym e ∙ f))
 
-  pub run-passed : (t : Bool) → runCheck run ≡ Passed → t ≡ between (negℤ (pos rateLimit)) (pos rateLimit) rate
+  pub run-passed : (t : Bool) → runCheck run ≡ passed → t ≡ between (negℤ (pos rateLimit)) (pos rateLimit) rate
       → unless t (refusal 5 1078 0) ≡ shortFormCheck run rate
   unfolding shortFormCheck
   run-passed t e f = rw (e, f) refl
 
-  pub passed : shortFormCheck run rate ≡ Passed → Accepted run × (natAbs rate ≤ rateLimit)
+  pub passed : shortFormCheck run rate ≡ passed → Accepted run × (natAbs rate ≤ rateLimit)
   unfolding shortFormCheck
   passed h =
       let e = both-passed (runCheck run) _ h in
       (accepted run (e .0), size (rateLimit - 1) rate (opened (negℤ (pos rateLimit)) (pos rateLimit) rate (unless-passed _ _ (e .1))))
 
-  pub through : (out : List ℕ) → firstOf (roomCheck 4554 out) (shortFormCheck run rate) ≡ Passed
+  pub through : (out : List ℕ) → firstOf (roomCheck 4554 out) (shortFormCheck run rate) ≡ passed
       → (length run ≡ 4554) × (natAbs rate ≤ rateLimit) × (4554 ≤ length out)
   through out h =
       let p = room-passed 4554 out (shortFormCheck run rate) h in

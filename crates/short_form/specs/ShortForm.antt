@@ -6,11 +6,9 @@ use mathlib.Core.List.{List, [], _++_}
 use lib.ListN.{take, drop, replicate}
 use lib.IntN.{ℤ, pos, negℤ, _*ℤ_}
 use Rattle.arithmetic.specs.Round.{roundDiv}
-use Rattle.basis.specs.declared.Check.{Check}
-use Rattle.basis.specs.declared.Check.the-variants.{Passed}
 use Rattle.basis.specs.declared.Convergence.{Convergence}
 use Rattle.little_endian.specs.Bytes.{i32Bytes}
-use Rattle.basis.specs.Outcome.{refusal, unless, firstOf}
+use Rattle.basis.specs.Outcome.{Verdict, passed, refusal, unless, firstOf}
 use Rattle.field_check.specs.Field.{between}
 use Rattle.run_check.specs.Run.{runCheck}
 use Rattle.basis.specs.Basis.{Basis, basisOf}
@@ -19,7 +17,7 @@ use Rattle.basis.specs.Basis.{Basis, basisOf}
 abbrev pub rateLimit : ℕ
 rateLimit = 200_000_000
 
-unfoldable pub shortFormCheck : List ℕ → ℤ → Check
+unfoldable pub shortFormCheck : List ℕ → ℤ → Verdict
 shortFormCheck run rate = firstOf (runCheck run) (unless (between (negℤ (pos rateLimit)) (pos rateLimit) rate) (refusal 5 1078 0))
 
 -- ---- the rates by age
@@ -77,6 +75,6 @@ pub record Shortened (b : Basis) (rate : ℤ) (short : Basis) : Type 0 where
 
 -- ---- the theorem: from an accepted data run and S it writes a data run that differs only in long-term rates, T and P
 pub record ShortFormStands (run : List ℕ) (rate : ℤ) : Type 0 where
-  pub differs : shortFormCheck run rate ≡ Passed → Shortened (basisOf run) rate (basisOf (shortFormOf run rate))
+  pub differs : shortFormCheck run rate ≡ passed → Shortened (basisOf run) rate (basisOf (shortFormOf run rate))
   -- which is accepted itself, so that every enquiry answers from it
-  pub accepted : shortFormCheck run rate ≡ Passed → runCheck (shortFormOf run rate) ≡ Passed
+  pub accepted : shortFormCheck run rate ≡ passed → runCheck (shortFormOf run rate) ≡ passed

@@ -2,8 +2,7 @@
 use Prim.Native.Nat.{ℕ, _*_}
 use mathlib.Core.List.{List}
 use lib.ListN.{take, drop}
-use Rattle.basis.specs.declared.Check.{Check}
-use Rattle.basis.specs.declared.Check.the-variants.{Passed, Refused}
+use Rattle.basis.specs.Outcome.{Verdict, passed, refusedBy}
 use Rattle.run_check.specs.Run.{runCheck}
 use Rattle.tables.specs.declared.Table.{Table}
 use Rattle.tables.specs.declared.Table.the-variants.{BaseRates, AgeInitialRates, AgeLongTermRates, AgePeriods, AgeProportions}
@@ -23,9 +22,9 @@ stretchOf BirthYearPeriods = (4016, 269)
 stretchOf BirthYearProportions = (4285, 269)
 
 -- the stretch that is handed back; of a refused run it has length 0
-abbrev pub handedBack : Check → Table → Stretch
-handedBack Passed table = stretchOf table
-handedBack (Refused r) table = (0, 0)
+abbrev pub handedBack : Verdict → Table → Stretch
+handedBack passed table = stretchOf table
+handedBack (refusedBy r) table = (0, 0)
 
 unfoldable pub tableStart : List ℕ → Table → ℕ
 tableStart run table = handedBack (runCheck run) table .0

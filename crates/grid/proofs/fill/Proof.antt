@@ -45,7 +45,6 @@ use denote.Triple.Table.{entered, cited}
 use denote.Triple.Walked.{says, Stays, stay-none-slice, gave-slice, onExit, walkOf, goes-none-slice, goes-gave-slice, ends-at, walked, walk-meets}
 use denote.Exit.{yes}
 use denote.Triple.Clauses.{ensured, lasts}
-use Rattle.basis.specs.declared.Check.{Check}
 use Rattle.history.specs.History.{basisWith, Workable}
 use Rattle.workings.specs.Workings.{Workings}
 use Rattle.grid_record.specs.declared.Point.{Point}
@@ -54,6 +53,7 @@ use Rattle.grid.specs.Grid.{gridCheck, gridStart, answers, gridOf}
 use Rattle.grid_record.proofs.Point as P
 use Rattle.basis.proofs.Check as F
 use Rattle.basis.proofs.Check.Laws as F′
+use Rattle.basis.specs.Outcome.{Verdict}
 use Rattle.grid.proofs.Filled.{records-fit, grid-is}
 use Rattle.grid.proofs.LocalRow.{big, array-of, slice-of, Row, enough, zeros-typed, zeros-lie, row-back, row-room, val}
 use Rattle.grid.proofs.GridStart as G
@@ -248,7 +248,7 @@ module _ {M : Type 1} (𝓤 : URA M) (H : Heap 𝓤) (A : Atoms 𝓤) (W : Given
           use1 W (‵ (froom array-ty c 0)) (row-room 𝓤 H A W 18340 l c long) $ at-once ! $ move ! (1 ∷ 0 ∷ []) $ done !
 
   -- ---- the exit
-  exits : (r : Check) (w : Val) (zs : List Point) → Is F.the-row r (w ∷ []) → r ≡ gridCheck (now s₀) (now s₁) (length xs) → zs ≡ gridOf (now s₀) (now s₁) xs → length zs ≡ length xs
+  exits : (r : Verdict) (w : Val) (zs : List Point) → Is F.the-row r (w ∷ []) → r ≡ gridCheck (now s₀) (now s₁) (length xs) → zs ≡ gridOf (now s₀) (now s₁) xs → length zs ≡ length xs
       → ent 𝓤 (⋆ 𝓤 H A (Tokens Last ∷ Owned ∷ ‵ (finally P.the-row γ zs) ∷ [])) (Post w)
   exits r w zs is e f same =
       qed W (Tokens Last ∷ Owned ∷ ‵ (finally P.the-row γ zs) ∷ []) ∵

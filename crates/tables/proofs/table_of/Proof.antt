@@ -6,8 +6,7 @@ use native.Mathlib.Nat.{zero-add}
 use native.Mathlib.Omega.{arith}
 use lib.ListN.{take, drop}
 use Rattle.basis.specs.declared.Refusal.{Refusal}
-use Rattle.basis.specs.declared.Check.{Check}
-use Rattle.basis.specs.declared.Check.the-variants.{Passed, Refused}
+use Rattle.basis.specs.Outcome.{Verdict, passed, refusedBy}
 use Rattle.run_check.specs.Run.{runCheck}
 use Rattle.run_check.proofs.Acceptance.{accepted}
 use Rattle.tables.specs.declared.Table.{Table}
@@ -20,15 +19,15 @@ use Rattle.tables.proofs.table_of.Tie as tie
 
 -- ---- what is handed back, by what the check says
 module _ (run : List ℕ) (table : Table) where
-  handed : {c : Check} → runCheck run ≡ c
+  handed : {c : Verdict} → runCheck run ≡ c
       → (tableOf run table ≡ bytesOf run (handedBack c table)) × (tableStart run table ≡ handedBack c table .0)
   unfolding tableOf tableStart
-  handed h = (ap (λ (c : Check). bytesOf run (handedBack c table)) h, ap (λ (c : Check). handedBack c table .0) h)
+  handed h = (ap (λ (c : Verdict). bytesOf run (handedBack c table)) h, ap (λ (c : Verdict). handedBack c table .0) h)
 
-  refused-table : {r : Refusal} → runCheck run ≡ Refused r → (tableOf run table ≡ []) × (tableStart run table ≡ 0)
+  refused-table : {r : Refusal} → runCheck run ≡ refusedBy r → (tableOf run table ≡ []) × (tableStart run table ≡ 0)
   refused-table h = handed h
 
-  passed-table : {s : Stretch} → runCheck run ≡ Passed → s ≡ stretchOf table
+  passed-table : {s : Stretch} → runCheck run ≡ passed → s ≡ stretchOf table
       → (take (s .0 + s .1 - s .0) (drop (s .0) run) ≡ tableOf run table) × (s .0 ≡ tableStart run table)
   passed-table {s} h e =
       let cut : s .0 + s .1 - s .0 ≡ s .1 = omega arith in
@@ -66,7 +65,7 @@ stretch-of-requires : tie.Need-stretch-of-requires
 stretch-of-requires c κs = search needs
 
 record Passing (c : tie.After-struct-known) : Type 0 where
-  passed : runCheck (c .before .before .before .before .before .before .args .run .now) ≡ Passed
+  passed : runCheck (c .before .before .before .before .before .before .args .run .now) ≡ passed
   in-run : c .before .stretch-of .result .0 + c .before .stretch-of .result .1 ≤ 4554
 
 passing : (c : tie.After-struct-known) → Passing c

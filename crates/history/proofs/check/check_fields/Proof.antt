@@ -4,9 +4,8 @@ use mathlib.Core.List.{List}
 use Prim.Native.Nat.{ℕ, _+_, _*_, _-_, _≤_, _<_}
 use native.Mathlib.Omega.{arith}
 use borrow.Author.Needs.{needs}
-use Rattle.basis.specs.declared.Check.{Check}
-use Rattle.basis.specs.Outcome.{firstOf}
-use Rattle.basis.proofs.Outcome.{first-same, both-passed, passed, both-pass}
+use Rattle.basis.specs.Outcome.{Verdict, firstOf, verdict}
+use Rattle.basis.proofs.Outcome.{first-same, both-passed, says-passed, both-pass}
 use Rattle.field_check.specs.declared.Field.{Field}
 use Rattle.field_check.specs.Field.{fieldsCheck}
 use Rattle.block.specs.Blocks.{partsOf}
@@ -18,12 +17,12 @@ use Rattle.history.proofs.check.check_fields.Statement.{statement}
 use Rattle.history.proofs.check.check_fields.Tie as tie
 
 -- what two fields a year say from the k-th year on
-abbrev From : List ℕ → ℕ → ℕ → Field → Field → Check
+abbrev From : List ℕ → ℕ → ℕ → Field → Field → Verdict
 From history years k first second = fieldsCheck (partsOf (2 * years) history) (yearlyFields first second (1012 * k) (years - k))
 
 abbrev Inv-loop : tie.InvT-loop
 Inv-loop history years fours₀ fives₀ k₀ fours fives k =
-    (k ≤ years) × (fours ≡ From history years k firstRemaining secondRemaining) × (fives ≡ From history years k youngerAges olderAges)
+    (k ≤ years) × (verdict fours ≡ From history years k firstRemaining secondRemaining) × (verdict fives ≡ From history years k youngerAges olderAges)
 
 abbrev μ-loop : tie.MeasureT-loop
 μ-loop history years fours₀ fives₀ k₀ fours fives k = k
@@ -80,7 +79,7 @@ loop-again c =
     let O = partCheck (a .history .now) (2 * k + 1) olderAges in
     let zero = both-pass Z M (first-zeros .part-within .ensures) (more-zeros .part-within2 .ensures) in
     let within = both-pass Y O (younger .part-within3 .ensures) (older .part-within4 .ensures) in
-    let p = both-passed (firstOf Z M) (firstOf Y O) (passed _ (both-pass (firstOf Z M) (firstOf Y O) zero within) (c .if1 .taken)) in
+    let p = both-passed (firstOf Z M) (firstOf Y O) (says-passed _ (both-pass (firstOf Z M) (firstOf Y O) zero within) (c .if1 .taken)) in
     let turn-4 = year-turn (a .history .now) firstRemaining secondRemaining (a .years) k (l .loop .k) in
     let turn-5 = year-turn (a .history .now) youngerAges olderAges (a .years) k (l .loop .k) in (
       omega (arith, before),

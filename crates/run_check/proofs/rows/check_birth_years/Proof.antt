@@ -5,7 +5,7 @@ use mathlib.Core.List.{_∷_}
 use lib.ListN.{take, drop}
 use Rattle.run_check.specs.Run.{runFields}
 use Rattle.field_check.specs.Field.{fieldsCheck}
-use Rattle.basis.proofs.Outcome.{passed}
+use Rattle.basis.proofs.Outcome.{says-passed}
 use Rattle.field_check.proofs.Fields.{row-first, no-rows, row-passes, last-passes}
 use borrow.Author.Needs.{needs}
 use Rattle.run_check.proofs.rows.check_birth_years.Statement.{statement}
@@ -29,7 +29,7 @@ returns c =
     let w = c .before in
     let run = w .before .before .before .before .before .args .run .now in
     sym
-    (passed (fieldsCheck run (take 4 (drop 14 runFields)))
+    (says-passed (fieldsCheck run (take 4 (drop 14 runFields)))
     (row-passes run _ _ (w .before .before .before .all-within .ensures)
     (row-passes run _ _ (w .before .before .all-within2 .ensures)
     (row-passes run _ _ (w .before .all-within3 .ensures)
