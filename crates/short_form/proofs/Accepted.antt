@@ -11,7 +11,7 @@ use Rattle.basis.specs.Basis.{Basis, basisOf, termsAt, ConvergenceLimits, Limit
 use Rattle.basis.specs.declared.Convergence.{Convergence}
 use Rattle.run_check.proofs.Acceptance.{passes}
 use Rattle.short_form.specs.ShortForm.{everyPeriod, everyProportion, longTermOf, shortFormOf, ShortFormStands}
-use Rattle.short_form.proofs.Checking.{passed}
+use Rattle.short_form.proofs.Checking.{within-limits}
 use Rattle.short_form.proofs.LongTerm.{long-term-size}
 use Rattle.short_form.proofs.Placing.{length-short-form}
 use Rattle.short_form.proofs.Reading.{front-kept, half-kept, word-kept, age-rate, age-period, age-proportion}
@@ -82,7 +82,7 @@ unfolding basisOf
 short-form-stands run rate =
     record {
       differs = λ c.
-          let p = passed run rate c in
+          let p = within-limits run rate c in
           let n = p .0 .size in
           let h : natAbs rate < 2_147_483_648 = omega (arith, p .1) in
           record {
@@ -94,5 +94,5 @@ short-form-stands run rate =
             byAge = λ age l m. let e : 20 + (age - 20) ≡ age = omega arith in rw e at (age-terms run rate n h (age - 20) (omega arith));
             byBirthYear = λ year l m. birth-year-terms run rate n h (year - 1842) (omega arith);
           };
-      accepted = λ c. let p = passed run rate c in passes _ (short-form-accepted run rate (p .0) (omega (arith, p .1)));
+      accepted = λ c. let p = within-limits run rate c in passes _ (short-form-accepted run rate (p .0) (omega (arith, p .1)));
     }

@@ -28,9 +28,9 @@ module _ (run : List ℕ) (rate : ℤ) where
   unfolding shortFormCheck
   run-passed t e f = rw (e, f) refl
 
-  pub passed : shortFormCheck run rate ≡ passed → Accepted run × (natAbs rate ≤ rateLimit)
+  pub within-limits : shortFormCheck run rate ≡ passed → Accepted run × (natAbs rate ≤ rateLimit)
   unfolding shortFormCheck
-  passed h =
+  within-limits h =
       let e = both-passed (runCheck run) _ h in
       (accepted run (e .0), size (rateLimit - 1) rate (opened (negℤ (pos rateLimit)) (pos rateLimit) rate (unless-passed _ _ (e .1))))
 
@@ -38,5 +38,5 @@ module _ (run : List ℕ) (rate : ℤ) where
       → (length run ≡ 4554) × (natAbs rate ≤ rateLimit) × (4554 ≤ length out)
   through out h =
       let p = room-passed 4554 out (shortFormCheck run rate) h in
-      let e = passed (p .1) in
+      let e = within-limits (p .1) in
       (e .0 .size, e .1, p .0)
