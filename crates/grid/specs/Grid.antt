@@ -3,7 +3,7 @@ use Prim.Native.Nat.{ℕ, zero, suc}
 use mathlib.Core.List.{List, [], _∷_}
 use lib.ListN.{length}
 use Rattle.basis.specs.Basis.{Basis}
-use Rattle.basis.specs.Outcome.{Verdict, passed, refusedBy, firstOf}
+use Rattle.basis.specs.Outcome.{Verdict, passed, refusedBy, firstOf, verdict}
 use Rattle.history.specs.History.{basisWith, basisCheck}
 use Rattle.lent.specs.Lent.{countCheck}
 use Rattle.grid_record.specs.declared.Point.{Point}
@@ -19,8 +19,12 @@ abbrev pub recordsOf : Verdict → ℕ
 recordsOf passed = 119
 recordsOf (refusedBy r) = 0
 
-abbrev pub gridStart : Verdict → GridStart
-gridStart check = record { check = check; records = recordsOf check }
+abbrev pub gridStart : Verdict → Verdict × ℕ
+gridStart check = (check, recordsOf check)
+
+-- what a start of the grid stands for
+abbrev pub startMeaning : GridStart → Verdict × ℕ
+startMeaning s = (verdict (s .check), s .records)
 
 -- each of the first n records answered; further records are kept
 unfoldable pub answers : Basis → ℕ → List Point → List Point

@@ -49,11 +49,12 @@ use Rattle.history.specs.History.{basisWith, Workable}
 use Rattle.workings.specs.Workings.{Workings}
 use Rattle.grid_record.specs.declared.Point.{Point}
 use Rattle.grid.specs.declared.GridStart.{GridStart}
-use Rattle.grid.specs.Grid.{gridCheck, gridStart, answers, gridOf}
+use Rattle.grid.specs.Grid.{gridCheck, gridStart, startMeaning, answers, gridOf}
 use Rattle.grid_record.proofs.Point as P
 use Rattle.basis.proofs.Check as F
 use Rattle.basis.proofs.Check.Laws as F′
-use Rattle.basis.specs.Outcome.{Verdict}
+use Rattle.basis.specs.declared.Check.{Check}
+use Rattle.basis.specs.Outcome.{Verdict, verdict}
 use Rattle.grid.proofs.Filled.{records-fit, grid-is}
 use Rattle.grid.proofs.LocalRow.{big, array-of, slice-of, Row, enough, zeros-typed, zeros-lie, row-back, row-room, val}
 use Rattle.grid.proofs.GridStart as G
@@ -159,7 +160,7 @@ module _ {M : Type 1} (𝓤 : URA M) (H : Heap 𝓤) (A : Atoms 𝓤) (W : Given
       move ! (2 ∷ []) $ use1 W (‵ Own₁ ⊛ ‵ Own₁) (shr-slice-copy 𝓤 H A W (named 1) κ₁ u8 .twice s₁ (val s₁ ∷ [])) $ split ! $ move ! (2 ∷ 0 ∷ 3 ∷ []) $ done !
 
   -- what the checks say of the grid
-  abbrev found : GridStart
+  abbrev found : Verdict × ℕ
   found = gridStart (gridCheck (now s₀) (now s₁) (length xs))
 
   -- ---- the calls, with the row of numbers l lent from (c, 0) for the lifetime ν under the name δ: what each is passed and asks, what it says, and how the row comes back
@@ -186,14 +187,14 @@ module _ {M : Type 1} (𝓤 : URA M) (H : Heap 𝓤) (A : Atoms 𝓤) (W : Given
 
     -- what is known of its result f and of the row's last list r
     abbrev Begun : GridStart → List ℕ → Type 0
-    Begun f r = (length r ≡ length l) × (f ≡ found) × (0 < f .records → Workable (now s₀) (now s₁) × Workings (basisWith (now s₀) (now s₁)) r)
+    Begun f r = (length r ≡ length l) × (startMeaning f ≡ found) × (0 < f .records → Workable (now s₀) (now s₁) × Workings (basisWith (now s₀) (now s₁)) r)
 
     begin-said : (f : GridStart) → ent 𝓤 (ensured 𝓤 H A begin.ended (begin.clauses 𝓤 H A at-mem run) (κ₀, (κ₁, (ν ∷ [], tt))) (s₀, (s₁, (length xs, (y, tt)))) tt f)
         (mean 𝓤 H A (some (λ (r : List ℕ). given (Begun f r) (‵ (finally u32 δ r)))))
     begin-said f =
         qed W (some (λ (rs : Unit {0} × (Unit {0} × (Unit {0} × (List ℕ × Unit {0})))). ‵ (lasts begin.ended (κ₀, (κ₁, (ν ∷ [], tt))) (s₀, (s₁, (length xs, (y, tt)))) rs)
-        ⊛ (raw (fact 𝓤 (f ≡ found)) ⊛ raw (fact 𝓤 (0 < f .records → Workable (now s₀) (now s₁) × Workings (basisWith (now s₀) (now s₁)) (rs .1 .1 .1 .0))))) ∷ []) ∵ pick ! (λ rs. split ! $ move ! (1 ∷ []) $ split ! $
-        heard ! (f ≡ found) (λ e. heard ! (0 < f .records → Workable (now s₀) (now s₁) × Workings (basisWith (now s₀) (now s₁)) (rs .1 .1 .1 .0)) (λ sw.
+        ⊛ (raw (fact 𝓤 (startMeaning f ≡ found)) ⊛ raw (fact 𝓤 (0 < f .records → Workable (now s₀) (now s₁) × Workings (basisWith (now s₀) (now s₁)) (rs .1 .1 .1 .0))))) ∷ []) ∵ pick ! (λ rs. split ! $ move ! (1 ∷ []) $ split ! $
+        heard ! (startMeaning f ≡ found) (λ e. heard ! (0 < f .records → Workable (now s₀) (now s₁) × Workings (basisWith (now s₀) (now s₁)) (rs .1 .1 .1 .0)) (λ sw.
         fsplit ! $ drop ! $ fsplit ! $ drop ! $ fsplit ! $ drop ! $ fsplit ! $ fsplit ! $ move ! (1 ∷ []) $ feqL ! (λ same.
         show ! (λ (r : List ℕ). guard 𝓤 (Begun f r) (sem 𝓤 H A (finally u32 δ r))) (rs .1 .1 .1 .0) $ check ! (same, e, sw) $ keep ! (0 ∷ []) $ done !))))
 
@@ -248,7 +249,7 @@ module _ {M : Type 1} (𝓤 : URA M) (H : Heap 𝓤) (A : Atoms 𝓤) (W : Given
           use1 W (‵ (froom array-ty c 0)) (row-room 𝓤 H A W 18340 l c long) $ at-once ! $ move ! (1 ∷ 0 ∷ []) $ done !
 
   -- ---- the exit
-  exits : (r : Verdict) (w : Val) (zs : List Point) → Is F.the-row r (w ∷ []) → r ≡ gridCheck (now s₀) (now s₁) (length xs) → zs ≡ gridOf (now s₀) (now s₁) xs → length zs ≡ length xs
+  exits : (r : Check) (w : Val) (zs : List Point) → Is F.the-row r (w ∷ []) → verdict r ≡ gridCheck (now s₀) (now s₁) (length xs) → zs ≡ gridOf (now s₀) (now s₁) xs → length zs ≡ length xs
       → ent 𝓤 (⋆ 𝓤 H A (Tokens Last ∷ Owned ∷ ‵ (finally P.the-row γ zs) ∷ [])) (Post w)
   exits r w zs is e f same =
       qed W (Tokens Last ∷ Owned ∷ ‵ (finally P.the-row γ zs) ∷ []) ∵
@@ -271,7 +272,7 @@ module _ {M : Type 1} (𝓤 : URA M) (H : Heap 𝓤) (A : Atoms 𝓤) (W : Given
         ∷ ‵ (fat fullShare list-ty l₃ 0 (val x)) ∷ ‵ (fdies list-ty l₃) ∷ ‵ (fat fullShare history-ty l₂ 0 (val s₁)) ∷ ‵ (fdies history-ty l₂)
         ∷ ‵ (fat fullShare run-ty l₁ 0 (val s₀)) ∷ ‵ (fdies run-ty l₁) ∷ ‵ (froom F′.mir l₀ 0) ∷ ‵ (fdies F′.mir l₀) ∷ []
 
-    module _ (f : GridStart) (is : Is G.the-row f (start-val f ∷ [])) (f-is : f ≡ found) where
+    module _ (f : GridStart) (is : Is G.the-row f (start-val f ∷ [])) (f-is : startMeaning f ≡ found) where
       -- ---- after both calls: the check is returned
       ends : (zs : List Point) → length zs ≡ length xs → zs ≡ gridOf (now s₀) (now s₁) xs
           → ent 𝓤 (⋆ 𝓤 H A (‵ (froom array-ty l₄ 0) ∷ Tokens Last ∷ Owned ∷ ‵ (finally P.the-row γ zs) ∷ Locals (fat fullShare G′.mir l₅ 0 (start-val f))))
@@ -286,14 +287,14 @@ module _ {M : Type 1} (𝓤 : URA M) (H : Heap 𝓤) (A : Atoms 𝓤) (W : Given
           -- [the tokens; what the slices own; the last list; _13; …; _5; …]
           move ! (19 ∷ 20 ∷ []) $ free1 ! $ move ! (17 ∷ 18 ∷ []) $ free1 ! $ move ! (15 ∷ 16 ∷ []) $ free1 ! $ move ! (13 ∷ 14 ∷ []) $ free1 ! $ move ! (11 ∷ 12 ∷ []) $ free1 ! $
           move ! (9 ∷ 10 ∷ []) $ free1 ! $ move ! (7 ∷ 8 ∷ []) $ free1 ! $ move ! (5 ∷ 6 ∷ []) $ free1 ! $ move ! (3 ∷ 4 ∷ []) $ free1 ! $ free0 ! $
-          by ! (exits (f .check) _ zs known (ap (λ (g : GridStart). g .check) f-is) e same)
+          by ! (exits (f .check) _ zs known (ap (λ (p : Verdict × ℕ). p .0) f-is) e same)
 
       -- ---- `fill_records`, once `begin_grid` has left the row l
       fills : Triple 𝓤 (C #grid·fill-records) (Records 𝓤 H A at-mem run) → Room P.the-row (length xs) → (l : List ℕ) → length l ≡ 18340 → (0 < f .records → Workable (now s₀) (now s₁) × Workings (basisWith (now s₀) (now s₁)) l)
           → ent 𝓤 (⋆ 𝓤 H A (‵ (Row l l₄) ∷ Listed ∷ Two ∷ Owned ∷ Locals (fat fullShare G′.mir l₅ 0 (start-val f)))) (Wp 𝓤 H C Λ En parts.t-6 (atReturn 𝓤 H En Post))
       fills known room l long ready =
           let fits = LL.owed G.the-type G′.the-laws f _ is .1 .0 .1 in
-          let count = ap (λ (g : GridStart). g .records) f-is in
+          let count = ap (λ (p : Verdict × ℕ). p .1) f-is in
           let few = subst (λ (m : ℕ). m ≤ length xs) (sym count) (records-fit (now s₀) (now s₁) (length xs)) in
           qed W (‵ (Row l l₄) ∷ Listed ∷ Two ∷ Owned ∷ Locals (fat fullShare G′.mir l₅ 0 (start-val f))) ∵ exec ! C Λ En parts.t-6 (atRet En Post) $
           assigns ! (addr ! (from ! (stop !))) (from ! (stop !)) (init ! 10 refl (tt, tt)) $
