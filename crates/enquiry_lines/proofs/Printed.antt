@@ -6,9 +6,9 @@ use native.Mathlib.Omega.{arith}
 use lib.ListN.{length, take}
 use lib.Seq.{take-take}
 use Rattle.basis.specs.declared.Refusal.{Refusal}
-use Rattle.basis.specs.declared.Check.the-variants.{Passed, Refused}
 use Rattle.basis.specs.Basis.{Basis}
 use Rattle.basis_file.specs.File.{runIn}
+use Rattle.basis.specs.Outcome.{passed, refusedBy}
 use Rattle.history.specs.History.{basisWith}
 use Rattle.reply_text.specs.Reply.{headerLine}
 use Rattle.enquiry_lines.specs.Lines.{ended, unfinished, lastLine, linesOf, replies}
@@ -26,11 +26,11 @@ last-reply basis n text kept k e =
     ap (λ r. replies basis 1 (ended [] text) ++ r) last ∙ sym (replies-parts basis 1 (ended [] text) (lastLine u))
 
 module _ (file history text : List ℕ) where
-  pub accepted-output : filesCheck file history ≡ Passed →
+  pub accepted-output : filesCheck file history ≡ passed →
       printed (filesCheck file history) [] ++ replies (basisWith (runIn file) history) 1 (linesOf text) ≡ outputOf file history text
   unfolding outputOf
   accepted-output e = rw e (ap (λ r. r ++ replies (basisWith (runIn file) history) 1 (linesOf text)) (append-nil headerLine))
 
-  pub refused-output : (r : Refusal) → filesCheck file history ≡ Refused r → printed (filesCheck file history) [] ≡ outputOf file history text
+  pub refused-output : (r : Refusal) → filesCheck file history ≡ refusedBy r → printed (filesCheck file history) [] ≡ outputOf file history text
   unfolding outputOf
   refused-output r e = rw e refl

@@ -1,23 +1,21 @@
 -- The whole output of the points program, from the bytes of basis.bin, of history.bin and of standard input; a missing file has none.
 use Prim.Native.Nat.{ℕ}
 use mathlib.Core.List.{List, _++_}
-use Rattle.basis.specs.declared.Check.{Check}
-use Rattle.basis.specs.declared.Check.the-variants.{Passed, Refused}
 use Rattle.basis.specs.Basis.{basisOf}
-use Rattle.basis.specs.Outcome.{firstOf}
+use Rattle.basis.specs.Outcome.{Verdict, passed, refusedBy, firstOf}
 use Rattle.basis_file.specs.File.{fileCheck, runIn}
 use Rattle.history.specs.History.{basisWith, historyCheck}
 use Rattle.reply_text.specs.Reply.{headerLine, refusalLine}
 use Rattle.enquiry_lines.specs.Lines.{linesOf, replies}
 
 -- the basis file, then the history; a refused history counts as a refused basis (02, change 2)
-abbrev pub filesCheck : List ℕ → List ℕ → Check
+abbrev pub filesCheck : List ℕ → List ℕ → Verdict
 filesCheck file history = firstOf (fileCheck file) (historyCheck (basisOf (runIn file)) history)
 
 -- the header comes first; a refused basis prints its refusal line alone
-abbrev pub printed : Check → List ℕ → List ℕ
-printed Passed lines = headerLine ++ lines
-printed (Refused r) lines = refusalLine r
+abbrev pub printed : Verdict → List ℕ → List ℕ
+printed passed lines = headerLine ++ lines
+printed (refusedBy r) lines = refusalLine r
 
 unfoldable pub outputOf : List ℕ → List ℕ → List ℕ → List ℕ
 outputOf file history input = printed (filesCheck file history) (replies (basisWith (runIn file) history) 1 (linesOf input))
