@@ -23,7 +23,6 @@ use Rattle.improvement.proofs.Cases.{actual-answered}
 use Rattle.improvement.proofs.OneRounding.{one-rounding, edges}
 use Rattle.short_form.proofs.Accepted.{short-form-stands}
 use Rattle.lifeline.proofs.Survivorship.{is-cohort-survivorship}
-use Rattle.lifeline.proofs.Says.{step-says}
 use Rattle.enquiry_text.proofs.Says.{line-says}
 use Rattle.figures.proofs.Computed.{figures-hold}
 use Rattle.history.specs.History.{basisWith, basisCheck}
@@ -36,11 +35,10 @@ use Rattle.grid_record.specs.Record.{recordOf, answeredOf}
 use Rattle.grid_record.specs.declared.Point.{Point}
 use Rattle.grid.specs.Grid.{gridCheck, recordsOf, gridOf}
 use Rattle.grid.proofs.Filled.{answers-none}
-use Rattle.lifeline.specs.declared.Status.the-variants as status
 use Rattle.lifeline.specs.Lifeline.{stepCheck, moved, yearLater, lived, unlessRefused, stepAt, standAt, standMoved}
 use Rattle.lifeline.proofs.Standing.{start-refused, step-refused}
 use Rattle.lifeline.specs.declared.Begun.{Begun}
-use Rattle.lifeline.specs.declared.Moved.{Moved}
+use Rattle.lifeline.specs.Said.{ended, Step}
 use Rattle.engine.specs.Enquiry.{refusalOf, readCheck, writeCheck, shortCheck}
 use Rattle.refusals.proofs.Calls.{numbered-refusals, zero-is-none}
 use Rattle.exact.proofs.Demands.{demand-3}
@@ -70,7 +68,7 @@ module _ (run history : List ℕ) where
         smallSet = λ questions. numbered-refusals run history .smallSet questions ∙ ap refusalOf h;
         grid = grid-refused r h;
         start = λ age year. ap (λ (b : Begun). b .check) (start-refused run history age year r (first _));
-        step = λ age year survivors. ap (λ (m : Moved). m .status) (step-refused run history age year survivors r (first _));
+        step = λ age year survivors. ap (λ (s : Step). s .says) (step-refused run history age year survivors r (first _));
       }
 
   grid-unchanged : (points : List Point) (r : Refusal) → gridCheck run history (length points) ≡ Refused r → gridOf run history points ≡ points
@@ -78,14 +76,14 @@ module _ (run history : List ℕ) where
   grid-unchanged points r h = rw (ap recordsOf h) (answers-none (basisWith run history) points)
 
   -- a refused step leaves a lifeline where it stands, whichever check or work refused it
-  line-unchanged : (age year survivors : ℕ) (r : Refusal) → stepAt run history age year survivors .status ≡ status.Refused r → standMoved (stepAt run history age year survivors) ≡ standAt age year survivors
+  line-unchanged : (age year survivors : ℕ) (r : Refusal) → stepAt run history age year survivors .says ≡ refused r → standMoved (stepAt run history age year survivors) ≡ standAt age year survivors
   unfolding stepAt lived
   line-unchanged age year survivors r h =
       by (stepCheck run history age year survivors) (eqb age 150) (survivorsAfterYear (basisWith run history) age year (pos survivors)) h
     where
       by : (c : Check) (t : Bool) (o : Outcome ℤ)
-          → unlessRefused age year survivors c (cond t (moved age year survivors status.Ended) (yearLater age year survivors o)) .status ≡ status.Refused r
-          → standMoved (unlessRefused age year survivors c (cond t (moved age year survivors status.Ended) (yearLater age year survivors o))) ≡ standAt age year survivors
+          → unlessRefused age year survivors c (cond t (moved age year survivors (value ended)) (yearLater age year survivors o)) .says ≡ refused r
+          → standMoved (unlessRefused age year survivors c (cond t (moved age year survivors (value ended)) (yearLater age year survivors o))) ≡ standAt age year survivors
       by (Refused q) t o g = refl
       by Passed true o g = refl
       by Passed false (refused q) g = refl
@@ -129,7 +127,6 @@ module _ (run history : List ℕ) where
         oneRounding = one-rounding;
         shortForm = short-form-stands run;
         lifeline = is-cohort-survivorship run history;
-        steps = step-says;
         figures = figures-hold;
       }
 

@@ -35,10 +35,8 @@ use Rattle.small_set.specs.SmallSet.{smallSetOf}
 use Rattle.grid_record.specs.declared.Point.{Point}
 use Rattle.grid_record.specs.Record.{questionOf, recordOf, answeredOf}
 use Rattle.grid.specs.Grid.{gridCheck, gridOf}
-use Rattle.lifeline.specs.declared.Status.the-variants as status
 use Rattle.lifeline.specs.Lifeline.{startAt, stepAt, standAt, standMoved}
 use Rattle.lifeline.specs.Survivorship.{IsCohortSurvivorship}
-use Rattle.lifeline.specs.Said.{StepSays}
 use Rattle.enquiry_text.specs.Said.{LineSays}
 use Rattle.figures.specs.Figures.{FiguresHold}
 use Rattle.engine.specs.Enquiry.{readCheck, writeCheck, shortCheck}
@@ -58,7 +56,7 @@ pub record RefusedThroughout (run history : List ℕ) (r : Refusal) : Type 0 whe
   pub smallSet : (questions : Questions) → smallSetOf run history questions .refusal ≡ r
   pub grid : (count : ℕ) → 119 ≤ count → gridCheck run history count ≡ Refused r
   pub start : (age year : ℕ) → startAt run history age year .check ≡ Refused r
-  pub step : (age year survivors : ℕ) → stepAt run history age year survivors .status ≡ status.Refused r
+  pub step : (age year survivors : ℕ) → stepAt run history age year survivors .says ≡ refused r
 
 pub record Demand1 (run history : List ℕ) : Type 0 where
   -- "Every call ends with a value or a numbered refusal"
@@ -71,7 +69,7 @@ pub record Demand1 (run history : List ℕ) : Type 0 where
   pub writeUnchanged : (out : List ℕ) (r : Refusal) → writeCheck run out ≡ Refused r → written (writeCheck run out) (fileOf run) out ≡ out
   pub shortFormUnchanged : (rate : ℤ) (out : List ℕ) (r : Refusal) → shortCheck run rate out ≡ Refused r → written (shortCheck run rate out) (shortFormOf run rate) out ≡ out
   pub gridUnchanged : (points : List Point) (r : Refusal) → gridCheck run history (length points) ≡ Refused r → gridOf run history points ≡ points
-  pub lifelineUnchanged : (age year survivors : ℕ) (r : Refusal) → stepAt run history age year survivors .status ≡ status.Refused r →
+  pub lifelineUnchanged : (age year survivors : ℕ) (r : Refusal) → stepAt run history age year survivors .says ≡ refused r →
       standMoved (stepAt run history age year survivors) ≡ standAt age year survivors
   -- "A grid point that cannot be worked out carries its own refusal": with all four results 0, and its question unchanged
   pub ownRefusal : (p : Point) (r : Refusal) → workOn (basisWith run history) (questionOf p) ≡ refused r →
@@ -110,9 +108,8 @@ pub record Demand2 (run history : List ℕ) : Type 0 where
   pub oneRounding : OneRounding
   -- the short form is accepted, and differs only in what it may
   pub shortForm : (rate : ℤ) → ShortFormStands run rate
-  -- a lifeline's steps are cohort survivorship, and say what they say
+  -- a lifeline's steps are cohort survivorship; what a step says, for every case of its answer, is in the promise of `step_at` itself
   pub lifeline : (age year : ℕ) → IsCohortSurvivorship run history age year
-  pub steps : StepSays
   -- the marked figures of the paper
   pub figures : FiguresHold
   -- the sweep holds what the direct engine answers (02, change 5)

@@ -1,11 +1,9 @@
 -- What C is handed of a lifeline: where it stands, the refusal, and whether it has ended (1).
 use Prim.Native.Nat.{ℕ}
-use Rattle.basis.specs.Outcome.{noRefusal}
+use Rattle.basis.specs.Outcome.{Outcome, value, refused, noRefusal}
 use Rattle.basis.specs.declared.Refusal.{Refusal}
-use Rattle.lifeline.specs.declared.Status.{Status}
-use Rattle.lifeline.specs.declared.Status.the-variants.{Advanced, Ended, Refused}
 use Rattle.lifeline.specs.declared.Begun.{Begun}
-use Rattle.lifeline.specs.declared.Moved.{Moved}
+use Rattle.lifeline.specs.Said.{Said, advanced, ended, Step}
 use Rattle.engine.specs.declared.CLifeline.{CLifeline}
 use Rattle.engine.specs.Enquiry.{refusalOf}
 
@@ -13,17 +11,16 @@ use Rattle.engine.specs.Enquiry.{refusalOf}
 abbrev pub lifelineBegun : Begun → CLifeline
 lifelineBegun b = record { refusal = refusalOf (b .check); survivors = b .survivors; age = b .age; year = b .year; ended = 0 }
 
--- a step's refusal and its end, by what it did
-abbrev pub stepRefusal : Status → Refusal
-stepRefusal Advanced = noRefusal
-stepRefusal Ended = noRefusal
-stepRefusal (Refused r) = r
+-- a step's refusal and its end, by what it says
+abbrev pub stepRefusal : Outcome Said → Refusal
+stepRefusal (value s) = noRefusal
+stepRefusal (refused r) = r
 
-abbrev pub stepEnded : Status → ℕ
-stepEnded Advanced = 0
-stepEnded Ended = 1
-stepEnded (Refused r) = 0
+abbrev pub stepEnded : Outcome Said → ℕ
+stepEnded (value advanced) = 0
+stepEnded (value ended) = 1
+stepEnded (refused r) = 0
 
-abbrev pub lifelineMoved : Moved → CLifeline
-lifelineMoved m =
-    record { refusal = stepRefusal (m .status); survivors = m .survivors; age = m .age; year = m .year; ended = stepEnded (m .status) }
+abbrev pub lifelineMoved : Step → CLifeline
+lifelineMoved s =
+    record { refusal = stepRefusal (s .says); survivors = s .survivors; age = s .age; year = s .year; ended = stepEnded (s .says) }

@@ -1,6 +1,7 @@
 // Lifelines as C keeps them: the host holds age, year and survivors between the calls, and lends the data run and its
 // history to each.
 ghost use mathlib.Core.Path.{_≡_};
+ghost use Rattle.lifeline.specs.Said.{stepMeaning};
 ghost use Rattle.lifeline.specs.Lifeline.{startAt, stepAt};
 ghost use Rattle.engine.specs.Lifelines.{lifelineBegun, lifelineMoved};
 use crate::CLifeline;
@@ -24,7 +25,7 @@ fn begun(b: Begun) -> CLifeline
 }
 
 fn moved(m: Moved) -> CLifeline
-    ensures { λ r. ⌜ r ≡ lifelineMoved m ⌝ }
+    ensures { λ r. ⌜ r ≡ lifelineMoved (stepMeaning m) ⌝ }
 {
     let status = m.status;
     match status {

@@ -11,6 +11,7 @@ use borrow.Author.Tests.{le-leb, eqb-false}
 use Rattle.arithmetic.proofs.Distance.{within-more}
 use Rattle.basis.specs.declared.Check.{Check}
 use Rattle.basis.specs.declared.Check.the-variants.{Passed, Refused}
+use Rattle.basis.specs.Outcome.{value}
 use Rattle.basis.proofs.Outcome.{both-passed}
 use Rattle.history.specs.History.{basisWith, basisCheck}
 use Rattle.survivorship.specs.declared.Kind.the-variants.{Cohort}
@@ -18,9 +19,8 @@ use Rattle.question.specs.Question.{defermentCheck, questionCheck}
 use Rattle.question.proofs.Passed.{question-parts}
 use Rattle.enquiry.specs.Enquiry.{valuationCheck}
 use Rattle.enquiry.proofs.Passed.{valuation-passed}
-use Rattle.lifeline.specs.declared.Status.the-variants as status
 use Rattle.lifeline.specs.declared.Stand.{Stand}
-use Rattle.lifeline.specs.declared.Moved.{Moved}
+use Rattle.lifeline.specs.Said.{advanced, ended, Step}
 use Rattle.lifeline.specs.Lifeline.{begunAt, startAt, stepCheck, moved, lived, unlessRefused, stepAt, stepFrom, standAfter}
 use Rattle.lifeline.proofs.Standing.{step-passed}
 use Rattle.lifeline.specs.Survivorship.{Advances}
@@ -39,14 +39,14 @@ at-most {age} l apart = by (decLt age 150)
     by (no g) = absurd (apart (omega arith))
 
 -- a step that advanced was of an age below 150
-below : (run history : List ℕ) (age year s : ℕ) → stepAt run history age year s .status ≡ status.Advanced → age < 150
+below : (run history : List ℕ) (age year s : ℕ) → stepAt run history age year s .says ≡ value advanced → age < 150
 unfolding stepAt lived
 below run history age year s h =
     let c = by (stepCheck run history age year s) (eqb age 150) _ h in
     let p = step-passed run history age year s (c .0) in
     at-most (p .2) (eqb-false age 150 (c .1))
   where
-    by : (c : Check) (e : Bool) (m : Moved) → unlessRefused age year s c (cond e (moved age year s status.Ended) m) .status ≡ status.Advanced → (c ≡ Passed) × (e ≡ false)
+    by : (c : Check) (e : Bool) (m : Step) → unlessRefused age year s c (cond e (moved age year s (value ended)) m) .says ≡ value advanced → (c ≡ Passed) × (e ≡ false)
     by Passed false m g = (refl, refl)
     by Passed true m g = let z : _≡_ {A = ℕ} 0 1 = cc in absurd (omega arith)
     by (Refused r) e m g = let z : _≡_ {A = ℕ} 0 1 = cc in absurd (omega arith)
@@ -75,7 +75,7 @@ module _ (run history : List ℕ) (age year : ℕ) where
       old zero a = let v = valuation-passed run history age 0 year h in v .2
       old (suc k) a =
           let s = steps-are-survivorship run history age year k h (λ j l. a j (omega arith)) in
-          let last = below run history (age + k) (year + k) (s .0) (ap (λ (x : Stand). stepFrom run history x .status) (sym (s .1)) ∙ a k (omega arith)) in
+          let last = below run history (age + k) (year + k) (s .0) (ap (λ (x : Stand). stepFrom run history x .says) (sym (s .1)) ∙ a k (omega arith)) in
           omega (arith, last)
 
   pub lifeline-near : (n : ℕ) → lifelineBegun (startAt run history age year) .refusal .number ≡ 0 → Advances run history age year n →

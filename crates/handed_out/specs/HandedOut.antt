@@ -8,6 +8,7 @@ use lib.ListN.{length, getD}
 use lib.Signed.{_≤ℤ_, _<ℤ_}
 use Rattle.arithmetic.specs.Fraction.{Within}
 use Rattle.basis.specs.Basis.{Basis}
+use Rattle.basis.specs.Outcome.{value}
 use Rattle.history.specs.History.{basisWith}
 use Rattle.survivorship.specs.declared.Kind.{Kind}
 use Rattle.survivorship.specs.declared.Kind.the-variants.{Period, Cohort}
@@ -19,7 +20,7 @@ use Rattle.small_set.specs.SmallSet.{smallSetOf}
 use Rattle.grid_record.specs.declared.Point.{Point}
 use Rattle.grid_record.specs.Record.{questionOf}
 use Rattle.grid.specs.Grid.{gridCheck, gridOf}
-use Rattle.lifeline.specs.declared.Status.the-variants as status
+use Rattle.lifeline.specs.Said.{advanced}
 use Rattle.lifeline.specs.Lifeline.{startAt, stepFrom, standAfter}
 use Rattle.engine.specs.Enquiry.{refusalOf, answerOf, signedAnswerOf}
 use Rattle.engine.specs.Lifelines.{lifelineBegun}
@@ -93,5 +94,5 @@ pub record HandedOut (run history : List ℕ) : Type 0 where
       a .refusal .number ≡ 0 → ResultsNear (basisWith run history) (getD (questions .points) i noQuestion) (a .results)
   -- a lifeline whose start is not refused, after n steps that have all advanced
   pub lifeline : (age year n : ℕ) → lifelineBegun (startAt run history age year) .refusal .number ≡ 0 →
-      ((k : ℕ) → k < n → stepFrom run history (standAfter run history age year k) .status ≡ status.Advanced) →
+      ((k : ℕ) → k < n → stepFrom run history (standAfter run history age year k) .says ≡ value advanced) →
       SurvivorsNear (basisWith run history) Cohort age n year (pos (standAfter run history age year n .survivors))

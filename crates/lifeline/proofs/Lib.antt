@@ -1,4 +1,3 @@
 pub mod Standing
 pub mod Survivorship
-pub mod Says
 pub mod Numbered

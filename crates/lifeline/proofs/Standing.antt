@@ -9,7 +9,7 @@ use borrow.Author.Tests.{leb-true}
 use Rattle.arithmetic.specs.Fraction.{U}
 use Rattle.basis.specs.declared.Check.the-variants.{Passed, Refused}
 use Rattle.basis.specs.declared.Refusal.{Refusal}
-use Rattle.basis.specs.Outcome.{firstOf}
+use Rattle.basis.specs.Outcome.{value, refused, firstOf}
 use Rattle.basis.proofs.Outcome.{unless-passed, both-passed}
 use Rattle.history.specs.History.{basisWith, basisCheck, Workable}
 use Rattle.history.proofs.Acceptance.{accepted-workable}
@@ -17,7 +17,7 @@ use Rattle.question.specs.Question.{inRange, ageCheck}
 use Rattle.enquiry.specs.Enquiry.{valuationCheck}
 use Rattle.question.proofs.Passed.{in-range, age-passed}
 use Rattle.survivorship.specs.Survivorship.{survivorsAfterYear}
-use Rattle.lifeline.specs.declared.Status.the-variants as status
+use Rattle.lifeline.specs.Said.{ended}
 use Rattle.lifeline.specs.Lifeline.{begun, startAt, lastStandingYear, standingYearCheck, standingCheck, survivorsCheck, stepCheck, moved, yearLater, lived, stepAt}
 
 standing-year-passed : (base age year : ℕ) → standingYearCheck base age year ≡ Passed → (base ≤ year) × (year ≤ lastStandingYear age)
@@ -52,11 +52,11 @@ module _ (run history : List ℕ) (age year : ℕ) where
 
 -- ---- the step
 module _ (run history : List ℕ) (age year survivors : ℕ) where
-  pub step-refused : (r : Refusal) → stepCheck run history age year survivors ≡ Refused r → stepAt run history age year survivors ≡ moved age year survivors (status.Refused r)
+  pub step-refused : (r : Refusal) → stepCheck run history age year survivors ≡ Refused r → stepAt run history age year survivors ≡ moved age year survivors (refused r)
   unfolding stepAt
   step-refused r h = rw h refl
 
-  pub step-ended : stepCheck run history age year survivors ≡ Passed → eqb age 150 ≡ true → stepAt run history age year survivors ≡ moved age year survivors status.Ended
+  pub step-ended : stepCheck run history age year survivors ≡ Passed → eqb age 150 ≡ true → stepAt run history age year survivors ≡ moved age year survivors (value ended)
   unfolding stepAt lived
   step-ended h e = rw (h, e) refl
 

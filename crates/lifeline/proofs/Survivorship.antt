@@ -21,9 +21,8 @@ use Rattle.survivorship.specs.Survivorship.{survivorsAfterYear, survivorsOf}
 use Rattle.question.proofs.Passed.{question-parts}
 use Rattle.enquiry.proofs.Passed.{valuation-passed}
 use Rattle.survivorship.proofs.Survivors.{survivors-first, survivors-next, survivors-refused, survivors-natural, survivors-small}
-use Rattle.lifeline.specs.declared.Status.the-variants as status
 use Rattle.lifeline.specs.declared.Stand.{Stand}
-use Rattle.lifeline.specs.declared.Moved.{Moved}
+use Rattle.lifeline.specs.Said.{advanced, ended, Step}
 use Rattle.lifeline.specs.Lifeline.{lastStandingYear, standingYearCheck, survivorsCheck, standingCheck, stepCheck, moved, yearLater, lived, unlessRefused, stepAt}
 use Rattle.lifeline.specs.Lifeline.{standAt, stepFrom, standBegun, standMoved, standAfter}
 use Rattle.lifeline.specs.Survivorship.{Advances, IsCohortSurvivorship}
@@ -45,15 +44,15 @@ module _ (run history : List ℕ) (age year : ℕ) where
   -- ---- as long as each step advances, the lifeline stands n years on with the survivors after n years
   -- a step that advanced moves a year on, with the year's survivors
   abbrev MovesOn : Type 0
-  MovesOn = (age year s : ℕ) → stepAt run history age year s .status ≡ status.Advanced
-      → (t : ℤ) × (survivorsAfterYear (basisWith run history) age year (pos s) ≡ value t) × (stepAt run history age year s ≡ moved (age + 1) (year + 1) (natAbs t) status.Advanced)
+  MovesOn = (age year s : ℕ) → stepAt run history age year s .says ≡ value advanced
+      → (t : ℤ) × (survivorsAfterYear (basisWith run history) age year (pos s) ≡ value t) × (stepAt run history age year s ≡ moved (age + 1) (year + 1) (natAbs t) (value advanced))
 
   stands-after : MovesOn → (n : ℕ) → valuationCheck run history age 0 year ≡ Passed → Advances run history age year n
       → (s : ℕ) × (standAfter run history age year n ≡ standAt (age + n) (year + n) s) × (survivorsOf (basisWith run history) Cohort age year n ≡ value (pos s))
   stands-after moves-on zero h a = (U, at-start h ∙ stand-same (omega arith) (omega arith) refl, survivors-first (basisWith run history) Cohort age year)
   stands-after moves-on (suc n) h a =
       let p = stands-after moves-on n h (λ k l. a k (omega arith)) in
-      let went = moves-on (age + n) (year + n) (p .0) (ap (λ (x : Stand). stepFrom run history x .status) (sym (p .1)) ∙ a n (omega arith)) in
+      let went = moves-on (age + n) (year + n) (p .0) (ap (λ (x : Stand). stepFrom run history x .says) (sym (p .1)) ∙ a n (omega arith)) in
       let next = survivors-next (basisWith run history) Cohort age year n (pos (p .0)) (value (went .0)) refl (p .2) (sym (went .1)) in
       let m = survivors-natural (basisWith run history) Cohort age year (suc n) (went .0) next in
       (m .0, after-suc n _ (p .1) ∙ ap standMoved (went .2) ∙ stand-same (omega arith) (omega arith) (ap natAbs (m .1)), next ∙ ap value (m .1))
@@ -80,12 +79,12 @@ module _ (run history : List ℕ) (age year : ℕ) where
       step-lived run history (age + k) (year + k) s (let-through k s l (survivors-small (basisWith run history) Cohort age year k s e)) (ne-eqb (age + k) 150 (λ g. omega (arith, v .2)))
       ∙ ap (yearLater (age + k) (year + k) s) (sym (survivors-next (basisWith run history) Cohort age year k (pos s) (survivorsAfterYear (basisWith run history) (age + k) (year + k) (pos s)) refl e refl))
 
-  and-one : (k : ℕ) → Advances run history age year k → stepFrom run history (standAfter run history age year k) .status ≡ status.Advanced → Advances run history age year (suc k)
+  and-one : (k : ℕ) → Advances run history age year k → stepFrom run history (standAfter run history age year k) .says ≡ value advanced → Advances run history age year (suc k)
   and-one k before last j l = by (decLt j k)
     where
-      by : Dec (j < k) → stepFrom run history (standAfter run history age year j) .status ≡ status.Advanced
+      by : Dec (j < k) → stepFrom run history (standAfter run history age year j) .says ≡ value advanced
       by (yes g) = before j g
-      by (no g) = let e : j ≡ k = omega arith in ap (λ (i : ℕ). stepFrom run history (standAfter run history age year i) .status) e ∙ last
+      by (no g) = let e : j ≡ k = omega arith in ap (λ (i : ℕ). stepFrom run history (standAfter run history age year i) .says) e ∙ last
 
   -- k of n years
   advances-to : (n k s : ℕ) → valuationCheck run history age n year ≡ Passed → LetThrough n → k ≤ n → survivorsOf (basisWith run history) Cohort age year k ≡ value (pos s)
@@ -107,7 +106,7 @@ module _ (run history : List ℕ) (age year : ℕ) where
           let came = f ∙ ap value (m .1) in
           let p = before (m .0) came in
           let went = step-is-next-year n k (m .0) h let-through (omega arith) came ∙ ap (yearLater (age + k) (year + k) (m .0)) e in
-          let last = ap (λ (x : Stand). stepFrom run history x .status) (p .1) ∙ ap (λ (x : Moved). x .status) went in
+          let last = ap (λ (x : Stand). stepFrom run history x .says) (p .1) ∙ ap (λ (x : Step). x .says) went in
           (and-one k (p .0) last, after-suc k _ (p .1) ∙ ap standMoved went ∙ stand-same (omega arith) (omega arith) refl)
 
   -- ---- both ways round
@@ -124,8 +123,8 @@ module _ (run history : List ℕ) (age year : ℕ) where
       moves-on : MovesOn
       moves-on age year s h = by (stepCheck run history age year s) (eqb age 150) (survivorsAfterYear (basisWith run history) age year (pos s)) h
         where
-          by : (c : Check) (e : Bool) (o : Outcome ℤ) → unlessRefused age year s c (cond e (moved age year s status.Ended) (yearLater age year s o)) .status ≡ status.Advanced
-              → (t : ℤ) × (o ≡ value t) × (unlessRefused age year s c (cond e (moved age year s status.Ended) (yearLater age year s o)) ≡ moved (age + 1) (year + 1) (natAbs t) status.Advanced)
+          by : (c : Check) (e : Bool) (o : Outcome ℤ) → unlessRefused age year s c (cond e (moved age year s (value ended)) (yearLater age year s o)) .says ≡ value advanced
+              → (t : ℤ) × (o ≡ value t) × (unlessRefused age year s c (cond e (moved age year s (value ended)) (yearLater age year s o)) ≡ moved (age + 1) (year + 1) (natAbs t) (value advanced))
           by Passed false (value t) g = (t, refl, refl)
           by Passed false (refused r) g = let z : _≡_ {A = ℕ} 0 1 = cc in absurd (omega arith)
           by Passed true o g = let z : _≡_ {A = ℕ} 0 1 = cc in absurd (omega arith)

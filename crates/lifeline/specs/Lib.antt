@@ -1,3 +1,3 @@
+pub mod Said
 pub mod Lifeline
 pub mod Survivorship
-pub mod Said

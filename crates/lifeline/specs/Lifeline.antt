@@ -14,11 +14,9 @@ use Rattle.basis.specs.Outcome.{Outcome, value, refused, refusal, unless, first
 use Rattle.question.specs.Question.{inRange, ageCheck}
 use Rattle.enquiry.specs.Enquiry.{valuationCheck}
 use Rattle.survivorship.specs.Survivorship.{survivorsAfterYear}
-use Rattle.lifeline.specs.declared.Status.{Status}
-use Rattle.lifeline.specs.declared.Status.the-variants as status
 use Rattle.lifeline.specs.declared.Stand.{Stand}
 use Rattle.lifeline.specs.declared.Begun.{Begun}
-use Rattle.lifeline.specs.declared.Moved.{Moved}
+use Rattle.lifeline.specs.Said.{Said, advanced, ended, Step}
 
 -- ---- the start
 abbrev pub begun : ℕ → ℕ → ℕ → Check → Begun
@@ -55,25 +53,25 @@ abbrev pub stepCheck : List ℕ → List ℕ → ℕ → ℕ → ℕ → Check
 stepCheck run history age year survivors = firstOf (basisCheck run history) (standingCheck (basisWith run history .base) age year survivors)
 
 -- ---- the step
-abbrev pub moved : ℕ → ℕ → ℕ → Status → Moved
-moved age year survivors status = record { age = age; year = year; survivors = survivors; status = status }
+abbrev pub moved : ℕ → ℕ → ℕ → Outcome Said → Step
+moved age year survivors says = record { age = age; year = year; survivors = survivors; says = says }
 
 -- a year on with its survivors, which are never below zero; refused, it is left unchanged
-abbrev pub yearLater : ℕ → ℕ → ℕ → Outcome ℤ → Moved
-yearLater age year survivors (value s) = moved (age + 1) (year + 1) (natAbs s) status.Advanced
-yearLater age year survivors (refused r) = moved age year survivors (status.Refused r)
+abbrev pub yearLater : ℕ → ℕ → ℕ → Outcome ℤ → Step
+yearLater age year survivors (value s) = moved (age + 1) (year + 1) (natAbs s) (value advanced)
+yearLater age year survivors (refused r) = moved age year survivors (refused r)
 
 -- at age 150 it says ended, and is left unchanged; else one year of cohort survivorship
-unfoldable pub lived : Basis → ℕ → ℕ → ℕ → Moved
+unfoldable pub lived : Basis → ℕ → ℕ → ℕ → Step
 lived b age year survivors =
-    cond (eqb age 150) (moved age year survivors status.Ended) (yearLater age year survivors (survivorsAfterYear b age year (pos survivors)))
+    cond (eqb age 150) (moved age year survivors (value ended)) (yearLater age year survivors (survivorsAfterYear b age year (pos survivors)))
 
 -- a refused step leaves it unchanged
-abbrev pub unlessRefused : ℕ → ℕ → ℕ → Check → Moved → Moved
-unlessRefused age year survivors Passed m = m
-unlessRefused age year survivors (Refused r) m = moved age year survivors (status.Refused r)
+abbrev pub unlessRefused : ℕ → ℕ → ℕ → Check → Step → Step
+unlessRefused age year survivors Passed s = s
+unlessRefused age year survivors (Refused r) s = moved age year survivors (refused r)
 
-unfoldable pub stepAt : List ℕ → List ℕ → ℕ → ℕ → ℕ → Moved
+unfoldable pub stepAt : List ℕ → List ℕ → ℕ → ℕ → ℕ → Step
 stepAt run history age year survivors =
     unlessRefused age year survivors (stepCheck run history age year survivors) (lived (basisWith run history) age year survivors)
 
@@ -81,15 +79,15 @@ stepAt run history age year survivors =
 abbrev pub standAt : ℕ → ℕ → ℕ → Stand
 standAt age year survivors = record { age = age; year = year; survivors = survivors }
 
-abbrev pub stepFrom : List ℕ → List ℕ → Stand → Moved
+abbrev pub stepFrom : List ℕ → List ℕ → Stand → Step
 stepFrom run history s = stepAt run history (s .age) (s .year) (s .survivors)
 
 -- where it stands at its start, and after a step
 abbrev pub standBegun : Begun → Stand
 standBegun b = standAt (b .age) (b .year) (b .survivors)
 
-abbrev pub standMoved : Moved → Stand
-standMoved m = standAt (m .age) (m .year) (m .survivors)
+abbrev pub standMoved : Step → Stand
+standMoved s = standAt (s .age) (s .year) (s .survivors)
 
 -- where it stands n steps on, with the same history lent each time
 unfoldable pub standAfter : List ℕ → List ℕ → ℕ → ℕ → ℕ → Stand

@@ -1,34 +1,27 @@
--- What a step of a lifeline says, in the paper's words and numbers for every case of its answer (01, "Each step applies one year of
--- cohort survivorship").
+-- What a step of a lifeline says and where the lifeline then stands, in the paper's words and numbers (01, "Each step applies one year of
+-- cohort survivorship"), and the meaning of the code's answer, for every one of its cases.
 use Prim.Native.Nat.{ℕ}
-use mathlib.Core.Path.{_≡_}
-use mathlib.Core.Bool.{cond}
-use mathlib.Core.List.{List}
-use lib.Dec.{eqb}
-use lib.IntN.{pos}
-use Rattle.basis.specs.Outcome.{Outcome, value, refused, checked, andThen}
-use Rattle.history.specs.History.{basisWith}
-use Rattle.survivorship.specs.Survivorship.{survivorsAfterYear}
+use Rattle.basis.specs.Outcome.{Outcome, value, refused}
 use Rattle.lifeline.specs.declared.Status.{Status}
 use Rattle.lifeline.specs.declared.Status.the-variants as status
-use Rattle.lifeline.specs.Lifeline.{stepCheck, stepAt}
+use Rattle.lifeline.specs.declared.Moved.{Moved}
 
+-- a step that is not refused has advanced by a year, or says ended
 pub data Said : Type 0 where
   advanced : Said
   ended : Said
 
--- each case of the answer
+pub record Step : Type 0 where
+  pub age : ℕ
+  pub year : ℕ
+  pub survivors : ℕ
+  pub says : Outcome Said
+
+-- ---- what an answer of the code stands for
 abbrev pub statusMeaning : Status → Outcome Said
 statusMeaning status.Advanced = value advanced
 statusMeaning status.Ended = value ended
 statusMeaning (status.Refused r) = refused r
 
--- it checks again; then, at age 150, it says ended; else it advances by a year, unless the rate of that year is refused
-unfoldable pub stepSays : List ℕ → List ℕ → ℕ → ℕ → ℕ → Outcome Said
-stepSays run history age year survivors =
-    checked (stepCheck run history age year survivors)
-    (cond (eqb age 150) (value ended) (andThen (survivorsAfterYear (basisWith run history) age year (pos survivors)) (λ s. value advanced)))
-
--- ---- what the promise of a step says of its status is this
-pub record StepSays : Type 0 where
-  pub status : (run history : List ℕ) (age year survivors : ℕ) → statusMeaning (stepAt run history age year survivors .status) ≡ stepSays run history age year survivors
+abbrev pub stepMeaning : Moved → Step
+stepMeaning m = record { age = m .age; year = m .year; survivors = m .survivors; says = statusMeaning (m .status) }

@@ -10,12 +10,12 @@ use Rattle.history.specs.History.{basisWith}
 use Rattle.survivorship.specs.declared.Kind.the-variants.{Cohort}
 use Rattle.survivorship.specs.Survivorship.{survivorsOf}
 use Rattle.enquiry.specs.Enquiry.{valuationCheck, survivorshipEnquiry}
-use Rattle.lifeline.specs.declared.Status.the-variants as status
+use Rattle.lifeline.specs.Said.{advanced}
 use Rattle.lifeline.specs.Lifeline.{standAt, stepFrom, standAfter}
 
 -- the first n steps from a start have all advanced
 abbrev pub Advances : List ℕ → List ℕ → ℕ → ℕ → ℕ → Type 0
-Advances run history age year n = (k : ℕ) → k < n → stepFrom run history (standAfter run history age year k) .status ≡ status.Advanced
+Advances run history age year n = (k : ℕ) → k < n → stepFrom run history (standAfter run history age year k) .says ≡ value advanced
 
 pub record IsCohortSurvivorship (run history : List ℕ) (age year : ℕ) : Type 0 where
   -- as long as each step advances, the lifeline stands n years on with the survivors after n years

@@ -6,6 +6,7 @@ ghost use Rattle.basis.specs.Basis.{basisOf, Accepted};
 ghost use Rattle.history.specs.History.{basisWith, Workable};
 ghost use Rattle.question.specs.Question.{inRange};
 ghost use Rattle.survivorship.specs.Survivorship.{survivorsAfterYear};
+ghost use Rattle.lifeline.specs.Said.{stepMeaning};
 ghost use Rattle.lifeline.specs.Lifeline.{startAt, lastStandingYear, standingYearCheck, standingCheck, survivorsCheck, stepCheck, yearLater, stepAt};
 use crate::Begun;
 use crate::Moved;
@@ -98,7 +99,7 @@ fn check_step(run: &[u8], history: &[u8], age: u32, year: u32, survivors: u64) -
 // One year of cohort survivorship; where its rate is refused, the lifeline stays.
 fn year_later(run: &[u8], history: &[u8], age: u32, year: u32, survivors: u64) -> Moved
     requires { ⌜ Workable (now run) (now history) × (20 ≤ age) × (age < 150) × (basisWith (now run) (now history) .base ≤ year) × (year ≤ 2260) × (survivors ≤ 1_000_000_000) ⌝ }
-    ensures { λ r. ⌜ r ≡ yearLater age year survivors (survivorsAfterYear (basisWith (now (run .entry)) (now (history .entry))) age year (pos survivors)) ⌝ }
+    ensures { λ r. ⌜ stepMeaning r ≡ yearLater age year survivors (survivorsAfterYear (basisWith (now (run .entry)) (now (history .entry))) age year (pos survivors)) ⌝ }
 {
     match survivorship::survivors_after_year(run, history, age, year, survivors) {
         Answer::Value(s) => Moved {
@@ -118,7 +119,7 @@ fn year_later(run: &[u8], history: &[u8], age: u32, year: u32, survivors: u64) -
 
 // The checks, then the end at 150, then the year.
 pub fn step_at(run: &[u8], history: &[u8], age: u32, year: u32, survivors: u64) -> Moved
-    ensures { λ r. ⌜ r ≡ stepAt (now (run .entry)) (now (history .entry)) age year survivors ⌝ }
+    ensures { λ r. ⌜ stepMeaning r ≡ stepAt (now (run .entry)) (now (history .entry)) age year survivors ⌝ }
 {
     match check_step(run, history, age, year, survivors) {
         Check::Passed => {

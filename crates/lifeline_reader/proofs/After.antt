@@ -6,7 +6,7 @@ use denote.Ref.{RefT, now}
 use Rattle.lifeline_reader.specs.declared.Lifeline.{Lifeline}
 use Rattle.lifeline.specs.declared.Stand.{Stand}
 use Rattle.lifeline.specs.Lifeline.{standAt, standAfter}
-use Rattle.lifeline_reader.specs.Reader.{lineAt, started, stepped}
+use Rattle.lifeline_reader.specs.Reader.{lineAt, started, lineStepped}
 
 abbrev pub lineOver : RefT (List ℕ) → Stand → Lifeline
 lineOver run s = lineAt run (s .age) (s .year) (s .survivors)
@@ -25,6 +25,6 @@ module _ (run : RefT (List ℕ)) (history : List ℕ) (age year : ℕ) where
   unfolding standAfter
   after-none = refl
 
-  pub after-one : (n : ℕ) → stepped (lineAfter run history age year n) history .line ≡ lineAfter run history age year (suc n)
+  pub after-one : (n : ℕ) → lineStepped (lineAfter run history age year n) history ≡ lineAfter run history age year (suc n)
   unfolding standAfter
   after-one n = refl

@@ -4,10 +4,9 @@ use Prim.Native.Nat.{ℕ}
 use mathlib.Core.List.{List}
 use denote.Ref.{RefT, now}
 use Rattle.lifeline.specs.declared.Begun.{Begun}
-use Rattle.lifeline.specs.declared.Moved.{Moved}
 use Rattle.lifeline_reader.specs.declared.Lifeline.{Lifeline}
 use Rattle.lifeline_reader.specs.declared.Started.{Started}
-use Rattle.lifeline_reader.specs.declared.Stepped.{Stepped}
+use Rattle.lifeline.specs.Said.{Step}
 use Rattle.lifeline.specs.Lifeline.{startAt, stepAt}
 
 abbrev pub lineAt : RefT (List ℕ) → ℕ → ℕ → ℕ → Lifeline
@@ -20,9 +19,13 @@ startedAt run b = record { line = lineAt run (b .age) (b .year) (b .survivors); 
 abbrev pub started : RefT (List ℕ) → List ℕ → ℕ → ℕ → Started
 started run history age year = startedAt run (startAt (now run) history age year)
 
--- a line after a step, over the same run
-abbrev pub steppedTo : Lifeline → Moved → Stepped
-steppedTo l m = record { line = lineAt (l .run) (m .age) (m .year) (m .survivors); status = m .status }
+-- a step of a line, from where it stands
+abbrev pub stepOf : Lifeline → List ℕ → Step
+stepOf l history = stepAt (now (l .run)) history (l .age) (l .year) (l .survivors)
 
-abbrev pub stepped : Lifeline → List ℕ → Stepped
-stepped l history = steppedTo l (stepAt (now (l .run)) history (l .age) (l .year) (l .survivors))
+-- a line after a step, over the same run
+abbrev pub lineMoved : Lifeline → Step → Lifeline
+lineMoved l s = lineAt (l .run) (s .age) (s .year) (s .survivors)
+
+abbrev pub lineStepped : Lifeline → List ℕ → Lifeline
+lineStepped l history = lineMoved l (stepOf l history)

@@ -1,8 +1,9 @@
 // The lifeline reader (the paper's words): a small struct that holds the lent data run itself. Its start and its step have the
 // work done by the numbers, and hold the same run again; the history is lent to each of them.
 ghost use mathlib.Core.Path.{_≡_};
+ghost use Rattle.lifeline.specs.Said.{statusMeaning};
 ghost use Rattle.lifeline.specs.Lifeline.{standAfter};
-ghost use Rattle.lifeline_reader.specs.Reader.{started, stepped};
+ghost use Rattle.lifeline_reader.specs.Reader.{started, stepOf, lineStepped};
 use basis::Check;
 use lifeline::Stand;
 use lifeline::Status;
@@ -44,7 +45,7 @@ pub fn start<'a>(run: &'a [u8], history: &[u8], age: u32, year: u32) -> Started<
 }
 
 pub fn step<'a>(l: Lifeline<'a>, history: &[u8]) -> Stepped<'a>
-    ensures { λ r. ⌜ r ≡ stepped (l .entry) (now (history .entry)) ⌝ }
+    ensures { λ r. ⌜ (r .line ≡ lineStepped (l .entry) (now (history .entry))) × (statusMeaning (r .status) ≡ stepOf (l .entry) (now (history .entry)) .says) ⌝ }
 {
     let m = cohort::step_at(l.run, history, l.age, l.year, l.survivors);
     Stepped {

@@ -1,5 +1,5 @@
 -- Every call refuses by the numbers of its parts, and each of these is one of the papers' list; none is 0. Assumes nothing.
-use mathlib.Core.Path.{_≡_, refl, ap, sym, _∙_}
+use mathlib.Core.Path.{_≡_, refl}
 use mathlib.Core.Bool.{Bool, true, false, cond}
 use mathlib.Core.List.{List}
 use Prim.Native.Nat.{ℕ}
@@ -35,8 +35,7 @@ use Rattle.small_set.specs.declared.Questions.{Questions}
 use Rattle.small_set.specs.SmallSet.{setOf, smallSetOf}
 use Rattle.grid_record.specs.Record.{answeredOf}
 use Rattle.grid.specs.Grid.{gridCheck}
-use Rattle.lifeline.specs.declared.Status.{Status}
-use Rattle.lifeline.specs.declared.Status.the-variants as status
+use Rattle.lifeline.specs.Said.{Said, ended}
 use Rattle.lifeline.specs.Lifeline.{begunAt, startAt, stepCheck, moved, yearLater, lived, unlessRefused, stepAt}
 use Rattle.lifeline.proofs.Numbered.{standing-numbered}
 use Rattle.engine.specs.Enquiry.{refusalOf, answerOf, signedAnswerOf}
@@ -63,18 +62,20 @@ module _ (run history : List ℕ) where
       by Passed p = p
       by (Refused r) p = p
 
-  step-numbered : (age year survivors : ℕ) (r : Refusal) → stepAt run history age year survivors .status ≡ status.Refused r → Listed numbers (r .number)
+  step-numbered : (age year survivors : ℕ) → RefusedBy numbers (stepAt run history age year survivors .says)
   unfolding stepAt lived
-  step-numbered age year survivors r h =
-      by (stepCheck run history age year survivors) (first-by (basis-numbered run history) (standing-numbered (basisWith run history .base) age year survivors))
-      (eqb age 150) (survivorsAfterYear (basisWith run history) age year (pos survivors)) (work-among record-numbers (year-numbered (basisWith run history) age year (pos survivors))) h
+  step-numbered age year survivors =
+      record {
+        listed = by (stepCheck run history age year survivors) (first-by (basis-numbered run history) (standing-numbered (basisWith run history .base) age year survivors))
+            (eqb age 150) (survivorsAfterYear (basisWith run history) age year (pos survivors)) (work-among record-numbers (year-numbered (basisWith run history) age year (pos survivors)));
+      }
     where
-      by : (c : Check) → RefusesBy numbers c → (t : Bool) (o : Outcome ℤ) → RefusedBy numbers o
-          → unlessRefused age year survivors c (cond t (moved age year survivors status.Ended) (yearLater age year survivors o)) .status ≡ status.Refused r → Listed numbers (r .number)
-      by (Refused q) p t o w g = let e : q ≡ r = cc in rw (← e) (p .listed q refl)
-      by Passed p true o w g = let z : _≡_ {A = ℕ} 0 1 = cc in absurd (omega arith)
-      by Passed p false (value s) w g = let z : _≡_ {A = ℕ} 0 1 = cc in absurd (omega arith)
-      by Passed p false (refused q) w g = let e : q ≡ r = cc in rw (← e) (w .listed q refl)
+      by : (c : Check) → RefusesBy numbers c → (t : Bool) (o : Outcome ℤ) → RefusedBy numbers o → (r : Refusal)
+          → unlessRefused age year survivors c (cond t (moved age year survivors (value ended)) (yearLater age year survivors o)) .says ≡ refused r → Listed numbers (r .number)
+      by (Refused q) p t o w r g = let e : q ≡ r = cc in rw (← e) (p .listed q refl)
+      by Passed p true o w r g = let z : _≡_ {A = ℕ} 0 1 = cc in absurd (omega arith)
+      by Passed p false (value s) w r g = let z : _≡_ {A = ℕ} 0 1 = cc in absurd (omega arith)
+      by Passed p false (refused q) w r g = let e : q ≡ r = cc in rw (← e) (w .listed q refl)
 
 -- ---- the small set as a whole
 set-refusal : (run history : List ℕ) (questions : Questions) → smallSetOf run history questions .refusal ≡ refusalOf (basisCheck run history)
@@ -148,8 +149,9 @@ zero-is-none =
     of-signed (value v) p e = (v, refl)
     of-signed (refused r) p e = absurd (zero-refused e (p .listed r refl))
 
-    of-step : (s : Status) (r : Refusal) → s ≡ status.Refused r → Listed numbers (r .number) → stepRefusal s .number ≡ 0 → ⊥
-    of-step s r h l e = zero-refused (sym (ap (λ (x : Status). stepRefusal x .number) h) ∙ e) l
+    of-step : (says : Outcome Said) → RefusedBy numbers says → stepRefusal says .number ≡ 0 → (s : Said) × (says ≡ value s)
+    of-step (value s) p e = (s, refl)
+    of-step (refused r) p e = absurd (zero-refused e (p .listed r refl))
 
     of-point : (work : Outcome (List ℕ)) → RefusedBy recordNumbers work → pointAnswerOf work .refusal .number ≡ 0 → (results : List ℕ) × (work ≡ value results)
     of-point (value v) p e = (v, refl)

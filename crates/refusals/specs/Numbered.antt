@@ -26,8 +26,7 @@ use Rattle.small_set.specs.SmallSet.{smallSetOf}
 use Rattle.grid_record.specs.declared.Point.{Point}
 use Rattle.grid_record.specs.Record.{questionOf, answeredOf}
 use Rattle.grid.specs.Grid.{gridCheck}
-use Rattle.lifeline.specs.declared.Status.{Status}
-use Rattle.lifeline.specs.declared.Status.the-variants as status
+use Rattle.lifeline.specs.Said.{Said}
 use Rattle.lifeline.specs.Lifeline.{startAt, stepAt}
 use Rattle.engine.specs.Enquiry.{refusalOf, answerOf, signedAnswerOf, readCheck, writeCheck, shortCheck}
 use Rattle.engine.specs.Lifelines.{stepRefusal}
@@ -69,7 +68,7 @@ pub record NumberedRefusals (run history : List ℕ) : Type 0 where
   pub gridRecord : (p : Point) → answeredOf (basisWith run history) p .refusal ≡ pointOf (basisWith run history) (questionOf p) .refusal .number
   -- a lifeline's start and step
   pub start : (age year : ℕ) → RefusesBy numbers (startAt run history age year .check)
-  pub step : (age year survivors : ℕ) (r : Refusal) → stepAt run history age year survivors .status ≡ status.Refused r → Listed numbers (r .number)
+  pub step : (age year survivors : ℕ) → RefusedBy numbers (stepAt run history age year survivors .says)
   -- the points program: its files as a whole, and a line that is no enquiry (an enquiry is answered as a point)
   pub files : (file : List ℕ) → RefusesBy numbers (filesCheck file history)
   pub line : (number : ℕ) → (r : Refusal) × (replyTo (basisWith run history) number Malformed ≡ refusalLine r) × Listed numbers (r .number)
@@ -86,7 +85,7 @@ pub record ZeroIsNone : Type 0 where
   pub check : (c : Check) → RefusesBy numbers c → refusalOf c .number ≡ 0 → c ≡ Passed
   pub answer : (work : Outcome ℤ) → RefusedBy numbers work → answerOf work .refusal .number ≡ 0 → (v : ℤ) × (work ≡ value v)
   pub signed : (work : Outcome ℤ) → RefusedBy numbers work → signedAnswerOf work .refusal .number ≡ 0 → (v : ℤ) × (work ≡ value v)
-  pub step : (s : Status) (r : Refusal) → s ≡ status.Refused r → Listed numbers (r .number) → stepRefusal s .number ≡ 0 → ⊥
+  pub step : (says : Outcome Said) → RefusedBy numbers says → stepRefusal says .number ≡ 0 → (s : Said) × (says ≡ value s)
   -- in a record of the grid and in a point of the small set
   pub point : (work : Outcome (List ℕ)) → RefusedBy recordNumbers work → pointAnswerOf work .refusal .number ≡ 0 → (results : List ℕ) × (work ≡ value results)
   -- in the text: an answered line is printed of work that is answered, and a refusal's line of work that is refused

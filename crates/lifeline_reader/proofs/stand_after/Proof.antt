@@ -46,8 +46,9 @@ use denote.Triple.Table.{entered, cited}
 use denote.Triple.Walked.{says, Stays, stay-none, stay-none-slice, walkOf, goes-none, goes-none-slice, Walks, ends-at, walked, walk-meets}
 use denote.Exit.{yes}
 use denote.Triple.Clauses.{ensured, lasts}
+use Rattle.lifeline.specs.Said.{statusMeaning}
 use Rattle.lifeline.specs.Lifeline.{standAfter}
-use Rattle.lifeline_reader.specs.Reader.{started, stepped}
+use Rattle.lifeline_reader.specs.Reader.{started, stepOf, lineStepped}
 use Rattle.lifeline_reader.specs.declared.Lifeline.{Lifeline}
 use Rattle.lifeline_reader.specs.declared.Started.{Started}
 use Rattle.lifeline_reader.specs.declared.Stepped.{Stepped}
@@ -186,8 +187,12 @@ module _ {M : Type 1} (𝓤 : URA M) (H : Heap 𝓤) (A : Atoms 𝓤) (W : Given
       nothing ! $ move ! (1 ∷ 0 ∷ []) $ fjoin ! $ move ! (2 ∷ 0 ∷ []) $ fjoin ! $ move ! (2 ∷ 0 ∷ []) $ use2 W (raw (Step 𝓤 H A mem run .pre (to-step d)))
       (qed W (Tok ∷ ‵ (owns (L.the-row α ∷ ShrSlice (named 1) κ₁ u8 ∷ []) (d, (h, tt)) (L′.lowered d ∷ [], (hv ∷ [], tt))) ∷ []) ∵ join ! $ frame ! $ done !) $ frame ! $ done !
 
-  step-said : (d : Lifeline) (r : Stepped) → ent 𝓤 (ensured 𝓤 H A step.ended (step.clauses 𝓤 H A mem run) (κ₀, (κ₁, tt)) (d, (h, tt)) tt r) (fact 𝓤 (r ≡ stepped d (now h)))
-  step-said d r = exE 𝓤 _ (λ ws. snd∗ 𝓤 (sem 𝓤 H A (lasts step.ended (κ₀, (κ₁, tt)) (d, (h, tt)) ws)) (fact 𝓤 (r ≡ stepped d (now h))))
+  -- what `step` promises of a line and its result
+  abbrev Stepping : Lifeline → Stepped → Type 0
+  Stepping d r = (r .line ≡ lineStepped d (now h)) × (statusMeaning (r .status) ≡ stepOf d (now h) .says)
+
+  step-said : (d : Lifeline) (r : Stepped) → ent 𝓤 (ensured 𝓤 H A step.ended (step.clauses 𝓤 H A mem run) (κ₀, (κ₁, tt)) (d, (h, tt)) tt r) (fact 𝓤 (Stepping d r))
+  step-said d r = exE 𝓤 _ (λ ws. snd∗ 𝓤 (sem 𝓤 H A (lasts step.ended (κ₀, (κ₁, tt)) (d, (h, tt)) ws)) (fact 𝓤 (Stepping d r)))
 
   -- of what each result owns, what its line owns
   abbrev started-val : Started → Val
@@ -279,7 +284,7 @@ module _ {M : Type 1} (𝓤 : URA M) (H : Heap 𝓤) (A : Atoms 𝓤) (W : Given
         (and-then ! (load ! (from ! (stop !)) (look ! 27 refl)) (no-more !))) (λ u.
         use1 W (later (some (λ (r : Stepped). (Tok ⊛ ‵ (S.the-row α .own r (u ∷ []))) ⊛ raw (ensured 𝓤 H A step.ended (step.clauses 𝓤 H A mem run) (κ₀, (κ₁, tt)) (line (i .0), (h, tt)) tt r)))) (id⊢ 𝓤 _) $
         await ! tt $ pick ! (λ r.
-        split ! $ move ! (1 ∷ []) $ use1 W (raw (fact 𝓤 (r ≡ stepped (line (i .0)) (now h)))) (step-said (line (i .0)) r) $ heard ! (r ≡ stepped (line (i .0)) (now h)) (λ e. split ! $ move ! (1 ∷ []) $
+        split ! $ move ! (1 ∷ []) $ use1 W (raw (fact 𝓤 (Stepping (line (i .0)) r))) (step-said (line (i .0)) r) $ heard ! (Stepping (line (i .0)) r) (λ e. split ! $ move ! (1 ∷ []) $
         -- [what the result owns; the tokens; what the history owns; what the run owns; _14; …]
         peeks ! (S.the-row α) (Is (S.the-row α)) (shows 𝓤 H A (S.the-row α)) r (u ∷ []) (λ isu.
         let same = LL.tells (S.the-type α) (S′.the-laws α) r (u ∷ []) isu in
@@ -311,8 +316,8 @@ module _ {M : Type 1} (𝓤 : URA M) (H : Heap 𝓤) (A : Atoms 𝓤) (W : Given
         next : Holds (ltb (i .0) n) → Upto
         next less = (i .0 + 1, add-one-le (ltb→lt (i .0) n less))
 
-        one-more : (r : Stepped) → r ≡ stepped (line (i .0)) (now h) → r .line ≡ line (i .0 + 1)
-        one-more r e = ap (λ (y : Stepped). y .line) e ∙ after-one s (now h) x t (i .0) ∙ ap line (sym (add-one (i .0)))
+        one-more : (r : Stepped) → Stepping (line (i .0)) r → r .line ≡ line (i .0 + 1)
+        one-more r e = e .0 ∙ after-one s (now h) x t (i .0) ∙ ap line (sym (add-one (i .0)))
 
     looped : ent 𝓤 (⋆ 𝓤 H A (At (0, zero-le))) (Wp 𝓤 H C Λ En parts.t-4 (atReturn 𝓤 H En Post))
     looped = qed W (At (0, zero-le)) ∵ exec ! C Λ En parts.t-4 (atRet En Post) $ first ! $ blocks ! $ loops ! 𝓣 Nearer Nearer-wf At turn (0, zero-le)

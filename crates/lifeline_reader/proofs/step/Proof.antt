@@ -43,8 +43,8 @@ use denote.Triple.Table.{entered, cited}
 use denote.Triple.Walked.{says, Stays, stay-none, stay-none-slice, walkOf, goes-none, goes-none-slice, Walks, ends-at, walked, walk-meets}
 use denote.Exit.{yes}
 use denote.Triple.Clauses.{ensured, lasts}
-use Rattle.lifeline.specs.Lifeline.{stepAt}
-use Rattle.lifeline_reader.specs.Reader.{steppedTo}
+use Rattle.lifeline.specs.Said.{Step, stepMeaning}
+use Rattle.lifeline_reader.specs.Reader.{lineAt, stepOf, lineMoved}
 use Rattle.lifeline.specs.declared.Moved.{Moved}
 use Rattle.lifeline_reader.specs.declared.Lifeline.{Lifeline}
 use Rattle.lifeline_reader.specs.declared.Stepped.{Stepped}
@@ -134,16 +134,16 @@ module _ {M : Type 1} (𝓤 : URA M) (H : Heap 𝓤) (A : Atoms 𝓤) (W : Given
       use2 W (raw (StepAt 𝓤 H A mem run .pre to)) (qed W (Tok ∷ ‵ (owns (ShrSlice (named 0) κ₀ u8 ∷ ShrSlice (named 1) κ₁ u8 ∷ u32 ∷ u32 ∷ u64 ∷ []) args passed) ∷ []) ∵ join ! $
       frame ! $ done !) $ frame ! $ frame ! $ done !)
 
-  abbrev found : Moved
-  found = stepAt (now (d .run)) (now h) (d .age) (d .year) (d .survivors)
+  abbrev found : Step
+  found = stepOf d (now h)
 
-  said : (r : Moved) → ent 𝓤 (ensured 𝓤 H A step-at.ended (step-at.clauses 𝓤 H A mem run) (κ₀, (κ₁, tt)) args tt r) (fact 𝓤 (r ≡ found))
-  said r = exE 𝓤 _ (λ ws. snd∗ 𝓤 (sem 𝓤 H A (lasts step-at.ended (κ₀, (κ₁, tt)) args ws)) (fact 𝓤 (r ≡ found)))
+  said : (r : Moved) → ent 𝓤 (ensured 𝓤 H A step-at.ended (step-at.clauses 𝓤 H A mem run) (κ₀, (κ₁, tt)) args tt r) (fact 𝓤 (stepMeaning r ≡ found))
+  said r = exE 𝓤 _ (λ ws. snd∗ 𝓤 (sem 𝓤 H A (lasts step-at.ended (κ₀, (κ₁, tt)) args ws)) (fact 𝓤 (stepMeaning r ≡ found)))
 
   -- ---- at a result r of the call, whose machine value is written out
   module _ (r : Moved) (is : Is B.the-row r (moved-val r ∷ [])) where
     abbrev made : Stepped
-    made = steppedTo d r
+    made = record { line = lineAt (d .run) (r .age) (r .year) (r .survivors); status = r .status }
 
     -- what the run owns, with the facts of what the call returned, is what the result owns
     makes : ent 𝓤 (sem 𝓤 H A Own) (sem 𝓤 H A (S.the-row α .own made (stepped-val made ∷ [])))
@@ -157,11 +157,11 @@ module _ {M : Type 1} (𝓤 : URA M) (H : Heap 𝓤) (A : Atoms 𝓤) (W : Given
         nothing ! $ owned ! F.the-row (Is F.the-row) (EL.makes F.the-type F′.the-plain 𝓤 H A) (r .status) _ (had .1 .1 .1 .0) $ fjoin ! $ move ! (1 ∷ 0 ∷ []) $ fjoin ! $
         by ! (own-shut 𝓤 H A W (S.the-type α) (S′.the-laws α) (made .line, (r .status, tt))))
 
-    exits : r ≡ found → ent 𝓤 (⋆ 𝓤 H A (Tok ∷ ‵ Own ∷ ‵ HOwn ∷ [])) (Post (stepped-val made))
+    exits : stepMeaning r ≡ found → ent 𝓤 (⋆ 𝓤 H A (Tok ∷ ‵ Own ∷ ‵ HOwn ∷ [])) (Post (stepped-val made))
     exits e =
         qed W (Tok ∷ ‵ Own ∷ ‵ HOwn ∷ []) ∵
         suffices ! _ (ends-at 𝓤 H A step.ended stayed (step.clauses 𝓤 H A mem run) W (((κ₀, (κ₁, tt)), (q₀, (q₁, tt)), tt, (d, (h, tt)), (mach ∷ [], (hv ∷ [], tt))), tt) (stepped-val made) made (tt, (tt, tt)) (tt, (tt, tt))) $
-        says ! (ap (steppedTo d) e) $
+        says ! (ap (lineMoved d) e, ap (λ (s : Step). s .says) e) $
         frame ! $ use1 W (‵ Own ⊛ ‵ Own) (LL.copy (L.the-type α) (L′.the-copy α) 𝓤 H A W .twice d (mach ∷ [])) $ split ! $ nothing ! $ move ! (3 ∷ 0 ∷ []) $ fjoin ! $ move ! (1 ∷ 0 ∷ []) $ fjoin ! $ frame ! $
         by ! makes
 
@@ -182,7 +182,7 @@ module _ {M : Type 1} (𝓤 : URA M) (H : Heap 𝓤) (A : Atoms 𝓤) (W : Given
         (and-then ! (load ! (from ! (stop !)) (look ! 7 refl)) (no-more !)))))) (λ u.
         use1 W (later (some (λ (r : Moved). (Tok ⊛ ‵ (B.the-row .own r (u ∷ []))) ⊛ raw (ensured 𝓤 H A step-at.ended (step-at.clauses 𝓤 H A mem run) (κ₀, (κ₁, tt)) args tt r))))
         (id⊢ 𝓤 _) $ await ! tt $ pick ! (λ r.
-        split ! $ move ! (1 ∷ []) $ use1 W (raw (fact 𝓤 (r ≡ found))) (said r) $ heard ! (r ≡ found) (λ e. split ! $ move ! (1 ∷ []) $
+        split ! $ move ! (1 ∷ []) $ use1 W (raw (fact 𝓤 (stepMeaning r ≡ found))) (said r) $ heard ! (stepMeaning r ≡ found) (λ e. split ! $ move ! (1 ∷ []) $
         facts ! B.the-row (Is B.the-row) (shows 𝓤 H A B.the-row) r (u ∷ []) (λ isu.
         -- [the tokens; what the struct owns; what the history owns; _9; …]
         land ! (from ! (stop !)) (init ! 15 refl (LL.lawful B.the-type B′.the-laws 𝓤 H A W .typed r _ isu .0)) $
