@@ -23,8 +23,8 @@ abbrev pub gridStart : Verdict → Verdict × ℕ
 gridStart check = (check, recordsOf check)
 
 -- what a start of the grid stands for
-abbrev pub startMeaning : GridStart → Verdict × ℕ
-startMeaning s = (verdict (s .check), s .records)
+abbrev pub gridStartMeaning : GridStart → Verdict × ℕ
+gridStartMeaning s = (verdict (s .check), s .records)
 
 -- each of the first n records answered; further records are kept
 unfoldable pub answers : Basis → ℕ → List Point → List Point

@@ -5,7 +5,7 @@ ghost use lib.ListN.{length};
 ghost use Rattle.basis.specs.Outcome.{verdict};
 ghost use Rattle.history.specs.History.{basisWith, Workable};
 ghost use Rattle.workings.specs.Workings.{Workings};
-ghost use Rattle.grid.specs.Grid.{gridCheck, gridStart, startMeaning, answers, gridOf};
+ghost use Rattle.grid.specs.Grid.{gridCheck, gridStart, gridStartMeaning, answers, gridOf};
 use basis::Check;
 use grid_record::Point;
 
@@ -27,7 +27,7 @@ fn check_grid(run: &[u8], history: &[u8], count: usize) -> Check
 
 // The run and its history are checked here, once for the whole list.
 pub fn start_grid(run: &[u8], history: &[u8], count: usize) -> GridStart
-    ensures { λ r. ⌜ startMeaning r ≡ gridStart (gridCheck (now (run .entry)) (now (history .entry)) count) ⌝ }
+    ensures { λ r. ⌜ gridStartMeaning r ≡ gridStart (gridCheck (now (run .entry)) (now (history .entry)) count) ⌝ }
 {
     match check_grid(run, history, count) {
         Check::Passed => GridStart {
@@ -44,7 +44,7 @@ pub fn start_grid(run: &[u8], history: &[u8], count: usize) -> GridStart
 // The same, and the sweep of the factors where the grid is not refused.
 fn begin_grid(run: &[u8], history: &[u8], count: usize, workings: &mut [u32]) -> GridStart
     requires { ⌜ length (now workings) ≡ 18340 ⌝ }
-    ensures { λ r. ⌜ startMeaning r ≡ gridStart (gridCheck (now (run .entry)) (now (history .entry)) count) ⌝ }
+    ensures { λ r. ⌜ gridStartMeaning r ≡ gridStart (gridCheck (now (run .entry)) (now (history .entry)) count) ⌝ }
     ensures { λ r. ⌜ (0 < r .records → Workable (now (run .entry)) (now (history .entry)) × Workings (basisWith (now (run .entry)) (now (history .entry))) (now (workings .exit))) ⌝ }
 {
     let start = start_grid(run, history, count);

@@ -7,9 +7,8 @@ use lib.Dec.{eqb, leb}
 use lib.IntN.{pos}
 use borrow.Author.Tests.{leb-true}
 use Rattle.arithmetic.specs.Fraction.{U}
-use Rattle.basis.specs.declared.Check.the-variants.{Passed, Refused}
 use Rattle.basis.specs.declared.Refusal.{Refusal}
-use Rattle.basis.specs.Outcome.{value, refused, firstOf}
+use Rattle.basis.specs.Outcome.{passed, refusedBy, value, refused, firstOf}
 use Rattle.basis.proofs.Outcome.{unless-passed, both-passed}
 use Rattle.history.specs.History.{basisWith, basisCheck, Workable}
 use Rattle.history.proofs.Acceptance.{accepted-workable}
@@ -20,15 +19,15 @@ use Rattle.survivorship.specs.Survivorship.{survivorsAfterYear}
 use Rattle.lifeline.specs.Said.{ended}
 use Rattle.lifeline.specs.Lifeline.{begun, startAt, lastStandingYear, standingYearCheck, standingCheck, survivorsCheck, stepCheck, moved, yearLater, lived, stepAt}
 
-standing-year-passed : (base age year : ℕ) → standingYearCheck base age year ≡ Passed → (base ≤ year) × (year ≤ lastStandingYear age)
+standing-year-passed : (base age year : ℕ) → standingYearCheck base age year ≡ passed → (base ≤ year) × (year ≤ lastStandingYear age)
 unfolding standingYearCheck
 standing-year-passed base age year h = in-range base (lastStandingYear age) year (unless-passed (inRange base (lastStandingYear age) year) _ h)
 
-survivors-passed : (survivors : ℕ) → survivorsCheck survivors ≡ Passed → survivors ≤ U
+survivors-passed : (survivors : ℕ) → survivorsCheck survivors ≡ passed → survivors ≤ U
 unfolding survivorsCheck
 survivors-passed survivors h = leb-true survivors U (unless-passed (leb survivors U) _ h)
 
-pub step-passed : (run history : List ℕ) (age year survivors : ℕ) → stepCheck run history age year survivors ≡ Passed
+pub step-passed : (run history : List ℕ) (age year survivors : ℕ) → stepCheck run history age year survivors ≡ passed
     → Workable run history × (20 ≤ age) × (age ≤ 150) × (basisWith run history .base ≤ year) × (year ≤ lastStandingYear age) × (survivors ≤ U)
 unfolding standingCheck
 step-passed run history age year survivors h =
@@ -42,25 +41,25 @@ step-passed run history age year survivors h =
 
 -- ---- the start
 module _ (run history : List ℕ) (age year : ℕ) where
-  pub start-passed : valuationCheck run history age 0 year ≡ Passed → startAt run history age year ≡ begun age year U Passed
+  pub start-passed : valuationCheck run history age 0 year ≡ passed → startAt run history age year ≡ begun age year U passed
   unfolding startAt
   start-passed h = rw h refl
 
-  pub start-refused : (r : Refusal) → valuationCheck run history age 0 year ≡ Refused r → startAt run history age year ≡ begun 0 0 0 (Refused r)
+  pub start-refused : (r : Refusal) → valuationCheck run history age 0 year ≡ refusedBy r → startAt run history age year ≡ begun 0 0 0 (refusedBy r)
   unfolding startAt
   start-refused r h = rw h refl
 
 -- ---- the step
 module _ (run history : List ℕ) (age year survivors : ℕ) where
-  pub step-refused : (r : Refusal) → stepCheck run history age year survivors ≡ Refused r → stepAt run history age year survivors ≡ moved age year survivors (refused r)
+  pub step-refused : (r : Refusal) → stepCheck run history age year survivors ≡ refusedBy r → stepAt run history age year survivors ≡ moved age year survivors (refused r)
   unfolding stepAt
   step-refused r h = rw h refl
 
-  pub step-ended : stepCheck run history age year survivors ≡ Passed → eqb age 150 ≡ true → stepAt run history age year survivors ≡ moved age year survivors (value ended)
+  pub step-ended : stepCheck run history age year survivors ≡ passed → eqb age 150 ≡ true → stepAt run history age year survivors ≡ moved age year survivors (value ended)
   unfolding stepAt lived
   step-ended h e = rw (h, e) refl
 
-  pub step-lived : stepCheck run history age year survivors ≡ Passed → eqb age 150 ≡ false
+  pub step-lived : stepCheck run history age year survivors ≡ passed → eqb age 150 ≡ false
       → stepAt run history age year survivors ≡ yearLater age year survivors (survivorsAfterYear (basisWith run history) age year (pos survivors))
   unfolding stepAt lived
   step-lived h e = rw (h, e) refl

@@ -9,10 +9,8 @@ use lib.Dec.{eqb}
 use lib.IntN.{ℤ, pos, natAbs}
 use borrow.Author.Tests.{le-leb, ne-eqb}
 use Rattle.arithmetic.specs.Fraction.{U}
-use Rattle.basis.specs.declared.Check.{Check}
-use Rattle.basis.specs.declared.Check.the-variants.{Passed, Refused}
 use Rattle.history.specs.History.{basisWith, basisCheck}
-use Rattle.basis.specs.Outcome.{Outcome, value, refused}
+use Rattle.basis.specs.Outcome.{Verdict, passed, refusedBy, Outcome, value, refused}
 use Rattle.basis.proofs.Outcome.{both-passed, checked-value}
 use Rattle.survivorship.specs.declared.Kind.the-variants.{Cohort}
 use Rattle.question.specs.Question.{ageCheck, defermentCheck, questionCheck}
@@ -37,7 +35,7 @@ module _ (run history : List ℕ) (age year : ℕ) where
   unfolding standAfter
   after-suc n s h = ap (λ (x : Stand). standMoved (stepFrom run history x)) h
 
-  at-start : valuationCheck run history age 0 year ≡ Passed → standAfter run history age year 0 ≡ standAt age year U
+  at-start : valuationCheck run history age 0 year ≡ passed → standAfter run history age year 0 ≡ standAt age year U
   unfolding standAfter
   at-start h = ap standBegun (start-passed run history age year h)
 
@@ -47,7 +45,7 @@ module _ (run history : List ℕ) (age year : ℕ) where
   MovesOn = (age year s : ℕ) → stepAt run history age year s .says ≡ value advanced
       → (t : ℤ) × (survivorsAfterYear (basisWith run history) age year (pos s) ≡ value t) × (stepAt run history age year s ≡ moved (age + 1) (year + 1) (natAbs t) (value advanced))
 
-  stands-after : MovesOn → (n : ℕ) → valuationCheck run history age 0 year ≡ Passed → Advances run history age year n
+  stands-after : MovesOn → (n : ℕ) → valuationCheck run history age 0 year ≡ passed → Advances run history age year n
       → (s : ℕ) × (standAfter run history age year n ≡ standAt (age + n) (year + n) s) × (survivorsOf (basisWith run history) Cohort age year n ≡ value (pos s))
   stands-after moves-on zero h a = (U, at-start h ∙ stand-same (omega arith) (omega arith) refl, survivors-first (basisWith run history) Cohort age year)
   stands-after moves-on (suc n) h a =
@@ -59,7 +57,7 @@ module _ (run history : List ℕ) (age year : ℕ) where
 
   -- ---- and as long as survivorship is answered each step advances
   -- what an enquiry for n years checks lets a lifeline start
-  start-passes : (n : ℕ) → valuationCheck run history age n year ≡ Passed → valuationCheck run history age 0 year ≡ Passed
+  start-passes : (n : ℕ) → valuationCheck run history age n year ≡ passed → valuationCheck run history age 0 year ≡ passed
   unfolding defermentCheck questionCheck
   start-passes n h =
       let p = both-passed (basisCheck run history) (questionCheck (basisWith run history .base) age n year) h in
@@ -69,10 +67,10 @@ module _ (run history : List ℕ) (age year : ℕ) where
 
   -- its steps before the n years are over are let through
   abbrev LetThrough : ℕ → Type 0
-  LetThrough n = (k s : ℕ) → k < n → s ≤ U → stepCheck run history (age + k) (year + k) s ≡ Passed
+  LetThrough n = (k s : ℕ) → k < n → s ≤ U → stepCheck run history (age + k) (year + k) s ≡ passed
 
   -- a step before the n years are over is the next year of survivorship, answered or refused
-  step-is-next-year : (n k s : ℕ) → valuationCheck run history age n year ≡ Passed → LetThrough n → k < n → survivorsOf (basisWith run history) Cohort age year k ≡ value (pos s)
+  step-is-next-year : (n k s : ℕ) → valuationCheck run history age n year ≡ passed → LetThrough n → k < n → survivorsOf (basisWith run history) Cohort age year k ≡ value (pos s)
       → stepAt run history (age + k) (year + k) s ≡ yearLater (age + k) (year + k) s (survivorsOf (basisWith run history) Cohort age year (suc k))
   step-is-next-year n k s h let-through l e =
       let v = valuation-passed run history age n year h in
@@ -87,7 +85,7 @@ module _ (run history : List ℕ) (age year : ℕ) where
       by (no g) = let e : j ≡ k = omega arith in ap (λ (i : ℕ). stepFrom run history (standAfter run history age year i) .says) e ∙ last
 
   -- k of n years
-  advances-to : (n k s : ℕ) → valuationCheck run history age n year ≡ Passed → LetThrough n → k ≤ n → survivorsOf (basisWith run history) Cohort age year k ≡ value (pos s)
+  advances-to : (n k s : ℕ) → valuationCheck run history age n year ≡ passed → LetThrough n → k ≤ n → survivorsOf (basisWith run history) Cohort age year k ≡ value (pos s)
       → Advances run history age year k × (standAfter run history age year k ≡ standAt (age + k) (year + k) s)
   advances-to n zero s h let-through l e =
       let first = survivors-first (basisWith run history) Cohort age year in
@@ -123,14 +121,14 @@ module _ (run history : List ℕ) (age year : ℕ) where
       moves-on : MovesOn
       moves-on age year s h = by (stepCheck run history age year s) (eqb age 150) (survivorsAfterYear (basisWith run history) age year (pos s)) h
         where
-          by : (c : Check) (e : Bool) (o : Outcome ℤ) → unlessRefused age year s c (cond e (moved age year s (value ended)) (yearLater age year s o)) .says ≡ value advanced
+          by : (c : Verdict) (e : Bool) (o : Outcome ℤ) → unlessRefused age year s c (cond e (moved age year s (value ended)) (yearLater age year s o)) .says ≡ value advanced
               → (t : ℤ) × (o ≡ value t) × (unlessRefused age year s c (cond e (moved age year s (value ended)) (yearLater age year s o)) ≡ moved (age + 1) (year + 1) (natAbs t) (value advanced))
-          by Passed false (value t) g = (t, refl, refl)
-          by Passed false (refused r) g = let z : _≡_ {A = ℕ} 0 1 = cc in absurd (omega arith)
-          by Passed true o g = let z : _≡_ {A = ℕ} 0 1 = cc in absurd (omega arith)
-          by (Refused r) e o g = let z : _≡_ {A = ℕ} 0 1 = cc in absurd (omega arith)
+          by passed false (value t) g = (t, refl, refl)
+          by passed false (refused r) g = let z : _≡_ {A = ℕ} 0 1 = cc in absurd (omega arith)
+          by passed true o g = let z : _≡_ {A = ℕ} 0 1 = cc in absurd (omega arith)
+          by (refusedBy r) e o g = let z : _≡_ {A = ℕ} 0 1 = cc in absurd (omega arith)
 
-      let-through : (n : ℕ) → valuationCheck run history age n year ≡ Passed → LetThrough n
+      let-through : (n : ℕ) → valuationCheck run history age n year ≡ passed → LetThrough n
       let-through n h k s l u =
           let v = valuation-passed run history age n year h in
           rw (
@@ -143,7 +141,7 @@ module _ (run history : List ℕ) (age year : ℕ) where
           )
           refl
 
-  pub steps-are-survivorship : (n : ℕ) → valuationCheck run history age 0 year ≡ Passed → Advances run history age year n
+  pub steps-are-survivorship : (n : ℕ) → valuationCheck run history age 0 year ≡ passed → Advances run history age year n
       → (s : ℕ) × (standAfter run history age year n ≡ standAt (age + n) (year + n) s) × (survivorsOf (basisWith run history) Cohort age year n ≡ value (pos s))
   steps-are-survivorship = is-cohort-survivorship .stepsAreSurvivorship
 

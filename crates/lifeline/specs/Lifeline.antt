@@ -6,29 +6,26 @@ use mathlib.Core.List.{List}
 use lib.Dec.{eqb, leb}
 use lib.IntN.{ℤ, pos, natAbs}
 use Rattle.arithmetic.specs.Fraction.{U}
-use Rattle.basis.specs.declared.Check.{Check}
-use Rattle.basis.specs.declared.Check.the-variants.{Passed, Refused}
 use Rattle.basis.specs.Basis.{Basis}
 use Rattle.history.specs.History.{basisWith, basisCheck}
-use Rattle.basis.specs.Outcome.{Outcome, value, refused, refusal, unless, firstOf}
+use Rattle.basis.specs.Outcome.{Verdict, passed, refusedBy, Outcome, value, refused, refusal, unless, firstOf}
 use Rattle.question.specs.Question.{inRange, ageCheck}
 use Rattle.enquiry.specs.Enquiry.{valuationCheck}
 use Rattle.survivorship.specs.Survivorship.{survivorsAfterYear}
 use Rattle.lifeline.specs.declared.Stand.{Stand}
-use Rattle.lifeline.specs.declared.Begun.{Begun}
-use Rattle.lifeline.specs.Said.{Said, advanced, ended, Step}
+use Rattle.lifeline.specs.Said.{Start, Said, advanced, ended, Step}
 
 -- ---- the start
-abbrev pub begun : ℕ → ℕ → ℕ → Check → Begun
+abbrev pub begun : ℕ → ℕ → ℕ → Verdict → Start
 begun age year survivors check = record { age = age; year = year; survivors = survivors; check = check }
 
 -- it starts with U at an age and year; a refused start holds age, year and survivors 0
-abbrev pub begunAt : ℕ → ℕ → Check → Begun
-begunAt age year Passed = begun age year U Passed
-begunAt age year (Refused r) = begun 0 0 0 (Refused r)
+abbrev pub begunAt : ℕ → ℕ → Verdict → Start
+begunAt age year passed = begun age year U passed
+begunAt age year (refusedBy r) = begun 0 0 0 (refusedBy r)
 
 -- checked as an enquiry with deferment 0
-unfoldable pub startAt : List ℕ → List ℕ → ℕ → ℕ → Begun
+unfoldable pub startAt : List ℕ → List ℕ → ℕ → ℕ → Start
 startAt run history age year = begunAt age year (valuationCheck run history age 0 year)
 
 -- ---- what a step checks again, in its own order
@@ -37,19 +34,19 @@ abbrev pub lastStandingYear : ℕ → ℕ
 lastStandingYear age = 2110 + age
 
 -- 7: before B, or year − age after 2110; a year after 2130 may stand
-unfoldable pub standingYearCheck : ℕ → ℕ → ℕ → Check
+unfoldable pub standingYearCheck : ℕ → ℕ → ℕ → Verdict
 standingYearCheck base age year = unless (inRange base (lastStandingYear age) year) (refusal 7 year 0)
 
 -- 5: survivors above U, places 4554 and 0
-unfoldable pub survivorsCheck : ℕ → Check
+unfoldable pub survivorsCheck : ℕ → Verdict
 survivorsCheck survivors = unless (leb survivors U) (refusal 5 4554 0)
 
 -- the age (6), the year, then the survivors
-unfoldable pub standingCheck : ℕ → ℕ → ℕ → ℕ → Check
+unfoldable pub standingCheck : ℕ → ℕ → ℕ → ℕ → Verdict
 standingCheck base age year survivors = firstOf (ageCheck age) (firstOf (standingYearCheck base age year) (survivorsCheck survivors))
 
 -- first of all the data run, and directly after it the history
-abbrev pub stepCheck : List ℕ → List ℕ → ℕ → ℕ → ℕ → Check
+abbrev pub stepCheck : List ℕ → List ℕ → ℕ → ℕ → ℕ → Verdict
 stepCheck run history age year survivors = firstOf (basisCheck run history) (standingCheck (basisWith run history .base) age year survivors)
 
 -- ---- the step
@@ -67,9 +64,9 @@ lived b age year survivors =
     cond (eqb age 150) (moved age year survivors (value ended)) (yearLater age year survivors (survivorsAfterYear b age year (pos survivors)))
 
 -- a refused step leaves it unchanged
-abbrev pub unlessRefused : ℕ → ℕ → ℕ → Check → Step → Step
-unlessRefused age year survivors Passed s = s
-unlessRefused age year survivors (Refused r) s = moved age year survivors (refused r)
+abbrev pub unlessRefused : ℕ → ℕ → ℕ → Verdict → Step → Step
+unlessRefused age year survivors passed s = s
+unlessRefused age year survivors (refusedBy r) s = moved age year survivors (refused r)
 
 unfoldable pub stepAt : List ℕ → List ℕ → ℕ → ℕ → ℕ → Step
 stepAt run history age year survivors =
@@ -83,8 +80,8 @@ abbrev pub stepFrom : List ℕ → List ℕ → Stand → Step
 stepFrom run history s = stepAt run history (s .age) (s .year) (s .survivors)
 
 -- where it stands at its start, and after a step
-abbrev pub standBegun : Begun → Stand
-standBegun b = standAt (b .age) (b .year) (b .survivors)
+abbrev pub standBegun : Start → Stand
+standBegun s = standAt (s .age) (s .year) (s .survivors)
 
 abbrev pub standMoved : Step → Stand
 standMoved s = standAt (s .age) (s .year) (s .survivors)

@@ -1,10 +1,18 @@
--- What a step of a lifeline says and where the lifeline then stands, in the paper's words and numbers (01, "Each step applies one year of
--- cohort survivorship"), and the meaning of the code's answer, for every one of its cases.
+-- Where a lifeline stands at its start and after a step, and what these say, in the paper's words and numbers (01, "Each step applies one
+-- year of cohort survivorship"); and what the engine's answers stand for, in every one of their cases.
 use Prim.Native.Nat.{ℕ}
-use Rattle.basis.specs.Outcome.{Outcome, value, refused}
+use Rattle.basis.specs.Outcome.{Verdict, Outcome, value, refused, verdict}
 use Rattle.lifeline.specs.declared.Status.{Status}
 use Rattle.lifeline.specs.declared.Status.the-variants as status
+use Rattle.lifeline.specs.declared.Begun.{Begun}
 use Rattle.lifeline.specs.declared.Moved.{Moved}
+
+-- a start, and what its checks came to
+pub record Start : Type 0 where
+  pub age : ℕ
+  pub year : ℕ
+  pub survivors : ℕ
+  pub check : Verdict
 
 -- a step that is not refused has advanced by a year, or says ended
 pub data Said : Type 0 where
@@ -17,7 +25,10 @@ pub record Step : Type 0 where
   pub survivors : ℕ
   pub says : Outcome Said
 
--- ---- what an answer of the code stands for
+-- ---- what an answer of the engine stands for
+abbrev pub startMeaning : Begun → Start
+startMeaning b = record { age = b .age; year = b .year; survivors = b .survivors; check = verdict (b .check) }
+
 abbrev pub statusMeaning : Status → Outcome Said
 statusMeaning status.Advanced = value advanced
 statusMeaning status.Ended = value ended

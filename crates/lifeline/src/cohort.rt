@@ -2,11 +2,12 @@
 ghost use mathlib.Core.Path.{_≡_};
 ghost use Prim.Native.Nat.{_+_, _≤_, _<_};
 ghost use lib.IntN.{pos};
+ghost use Rattle.basis.specs.Outcome.{verdict};
 ghost use Rattle.basis.specs.Basis.{basisOf, Accepted};
 ghost use Rattle.history.specs.History.{basisWith, Workable};
 ghost use Rattle.question.specs.Question.{inRange};
 ghost use Rattle.survivorship.specs.Survivorship.{survivorsAfterYear};
-ghost use Rattle.lifeline.specs.Said.{stepMeaning};
+ghost use Rattle.lifeline.specs.Said.{startMeaning, stepMeaning};
 ghost use Rattle.lifeline.specs.Lifeline.{startAt, lastStandingYear, standingYearCheck, standingCheck, survivorsCheck, stepCheck, yearLater, stepAt};
 use crate::Begun;
 use crate::Moved;
@@ -19,7 +20,7 @@ const UNIT: u64 = 1_000_000_000;
 
 // U at an age and year, checked as an enquiry with deferment 0.
 pub fn start_at(run: &[u8], history: &[u8], age: u32, year: u32) -> Begun
-    ensures { λ r. ⌜ r ≡ startAt (now (run .entry)) (now (history .entry)) age year ⌝ }
+    ensures { λ r. ⌜ startMeaning r ≡ startAt (now (run .entry)) (now (history .entry)) age year ⌝ }
 {
     match enquiry::values::check_valuation(run, history, age, 0, year) {
         Check::Passed => Begun {
@@ -46,7 +47,7 @@ fn is_standing_year(base: u32, age: u32, year: u32) -> bool
 
 // 7: any other year.
 fn check_standing_year(base: u32, age: u32, year: u32) -> Check
-    ensures { λ r. ⌜ r ≡ standingYearCheck base age year ⌝ }
+    ensures { λ r. ⌜ verdict r ≡ standingYearCheck base age year ⌝ }
 {
     if is_standing_year(base, age, year) {
         Check::Passed
@@ -61,7 +62,7 @@ fn check_standing_year(base: u32, age: u32, year: u32) -> Check
 
 // 5: survivors above U, with the length of the run for a place.
 fn check_survivors(survivors: u64) -> Check
-    ensures { λ r. ⌜ r ≡ survivorsCheck survivors ⌝ }
+    ensures { λ r. ⌜ verdict r ≡ survivorsCheck survivors ⌝ }
 {
     if survivors <= UNIT {
         Check::Passed
@@ -77,7 +78,7 @@ fn check_survivors(survivors: u64) -> Check
 // The age, the year, then the survivors.
 fn check_standing(run: &[u8], age: u32, year: u32, survivors: u64) -> Check
     requires { ⌜ Accepted (now run) ⌝ }
-    ensures { λ r. ⌜ r ≡ standingCheck (basisOf (now (run .entry)) .base) age year survivors ⌝ }
+    ensures { λ r. ⌜ verdict r ≡ standingCheck (basisOf (now (run .entry)) .base) age year survivors ⌝ }
 {
     let of_year = check_standing_year(basis::fields::base_year(run), age, year);
     basis::first_of(
@@ -88,7 +89,7 @@ fn check_standing(run: &[u8], age: u32, year: u32, survivors: u64) -> Check
 
 // All that a step checks before it moves: the data run and its history afresh, then these.
 fn check_step(run: &[u8], history: &[u8], age: u32, year: u32, survivors: u64) -> Check
-    ensures { λ r. ⌜ r ≡ stepCheck (now (run .entry)) (now (history .entry)) age year survivors ⌝ }
+    ensures { λ r. ⌜ verdict r ≡ stepCheck (now (run .entry)) (now (history .entry)) age year survivors ⌝ }
 {
     match history::check::check_basis(run, history) {
         Check::Passed => check_standing(run, age, year, survivors),

@@ -49,7 +49,7 @@ use Rattle.history.specs.History.{basisWith, Workable}
 use Rattle.workings.specs.Workings.{Workings}
 use Rattle.grid_record.specs.declared.Point.{Point}
 use Rattle.grid.specs.declared.GridStart.{GridStart}
-use Rattle.grid.specs.Grid.{gridCheck, gridStart, startMeaning, answers, gridOf}
+use Rattle.grid.specs.Grid.{gridCheck, gridStart, gridStartMeaning, answers, gridOf}
 use Rattle.grid_record.proofs.Point as P
 use Rattle.basis.proofs.Check as F
 use Rattle.basis.proofs.Check.Laws as F′
@@ -187,14 +187,14 @@ module _ {M : Type 1} (𝓤 : URA M) (H : Heap 𝓤) (A : Atoms 𝓤) (W : Given
 
     -- what is known of its result f and of the row's last list r
     abbrev Begun : GridStart → List ℕ → Type 0
-    Begun f r = (length r ≡ length l) × (startMeaning f ≡ found) × (0 < f .records → Workable (now s₀) (now s₁) × Workings (basisWith (now s₀) (now s₁)) r)
+    Begun f r = (length r ≡ length l) × (gridStartMeaning f ≡ found) × (0 < f .records → Workable (now s₀) (now s₁) × Workings (basisWith (now s₀) (now s₁)) r)
 
     begin-said : (f : GridStart) → ent 𝓤 (ensured 𝓤 H A begin.ended (begin.clauses 𝓤 H A at-mem run) (κ₀, (κ₁, (ν ∷ [], tt))) (s₀, (s₁, (length xs, (y, tt)))) tt f)
         (mean 𝓤 H A (some (λ (r : List ℕ). given (Begun f r) (‵ (finally u32 δ r)))))
     begin-said f =
         qed W (some (λ (rs : Unit {0} × (Unit {0} × (Unit {0} × (List ℕ × Unit {0})))). ‵ (lasts begin.ended (κ₀, (κ₁, (ν ∷ [], tt))) (s₀, (s₁, (length xs, (y, tt)))) rs)
-        ⊛ (raw (fact 𝓤 (startMeaning f ≡ found)) ⊛ raw (fact 𝓤 (0 < f .records → Workable (now s₀) (now s₁) × Workings (basisWith (now s₀) (now s₁)) (rs .1 .1 .1 .0))))) ∷ []) ∵ pick ! (λ rs. split ! $ move ! (1 ∷ []) $ split ! $
-        heard ! (startMeaning f ≡ found) (λ e. heard ! (0 < f .records → Workable (now s₀) (now s₁) × Workings (basisWith (now s₀) (now s₁)) (rs .1 .1 .1 .0)) (λ sw.
+        ⊛ (raw (fact 𝓤 (gridStartMeaning f ≡ found)) ⊛ raw (fact 𝓤 (0 < f .records → Workable (now s₀) (now s₁) × Workings (basisWith (now s₀) (now s₁)) (rs .1 .1 .1 .0))))) ∷ []) ∵ pick ! (λ rs. split ! $ move ! (1 ∷ []) $ split ! $
+        heard ! (gridStartMeaning f ≡ found) (λ e. heard ! (0 < f .records → Workable (now s₀) (now s₁) × Workings (basisWith (now s₀) (now s₁)) (rs .1 .1 .1 .0)) (λ sw.
         fsplit ! $ drop ! $ fsplit ! $ drop ! $ fsplit ! $ drop ! $ fsplit ! $ fsplit ! $ move ! (1 ∷ []) $ feqL ! (λ same.
         show ! (λ (r : List ℕ). guard 𝓤 (Begun f r) (sem 𝓤 H A (finally u32 δ r))) (rs .1 .1 .1 .0) $ check ! (same, e, sw) $ keep ! (0 ∷ []) $ done !))))
 
@@ -272,7 +272,7 @@ module _ {M : Type 1} (𝓤 : URA M) (H : Heap 𝓤) (A : Atoms 𝓤) (W : Given
         ∷ ‵ (fat fullShare list-ty l₃ 0 (val x)) ∷ ‵ (fdies list-ty l₃) ∷ ‵ (fat fullShare history-ty l₂ 0 (val s₁)) ∷ ‵ (fdies history-ty l₂)
         ∷ ‵ (fat fullShare run-ty l₁ 0 (val s₀)) ∷ ‵ (fdies run-ty l₁) ∷ ‵ (froom F′.mir l₀ 0) ∷ ‵ (fdies F′.mir l₀) ∷ []
 
-    module _ (f : GridStart) (is : Is G.the-row f (start-val f ∷ [])) (f-is : startMeaning f ≡ found) where
+    module _ (f : GridStart) (is : Is G.the-row f (start-val f ∷ [])) (f-is : gridStartMeaning f ≡ found) where
       -- ---- after both calls: the check is returned
       ends : (zs : List Point) → length zs ≡ length xs → zs ≡ gridOf (now s₀) (now s₁) xs
           → ent 𝓤 (⋆ 𝓤 H A (‵ (froom array-ty l₄ 0) ∷ Tokens Last ∷ Owned ∷ ‵ (finally P.the-row γ zs) ∷ Locals (fat fullShare G′.mir l₅ 0 (start-val f))))
