@@ -6,7 +6,7 @@ use denote.Ref.{RefT, now}
 use Rattle.lifeline_reader.specs.declared.Lifeline.{Lifeline}
 use Rattle.lifeline.specs.declared.Stand.{Stand}
 use Rattle.lifeline.specs.Lifeline.{standAt, standAfter}
-use Rattle.lifeline_reader.specs.Reader.{lineAt, started, lineStepped}
+use Rattle.lifeline_reader.specs.Reader.{lineAt, lineStarted, lineStepped}
 
 abbrev pub lineOver : RefT (List ℕ) → Stand → Lifeline
 lineOver run s = lineAt run (s .age) (s .year) (s .survivors)
@@ -21,7 +21,7 @@ module _ (run : RefT (List ℕ)) (history : List ℕ) (age year : ℕ) where
   pub stand-is : (n : ℕ) → standOf (lineAfter run history age year n) ≡ standAfter (now run) history age year n
   stand-is n = refl
 
-  pub after-none : lineAfter run history age year 0 ≡ started run history age year .line
+  pub after-none : lineAfter run history age year 0 ≡ lineStarted run history age year
   unfolding standAfter
   after-none = refl
 

@@ -3,21 +3,19 @@
 use Prim.Native.Nat.{ℕ}
 use mathlib.Core.List.{List}
 use denote.Ref.{RefT, now}
-use Rattle.lifeline.specs.declared.Begun.{Begun}
 use Rattle.lifeline_reader.specs.declared.Lifeline.{Lifeline}
-use Rattle.lifeline_reader.specs.declared.Started.{Started}
-use Rattle.lifeline.specs.Said.{Step}
+use Rattle.lifeline.specs.Said.{Start, Step}
 use Rattle.lifeline.specs.Lifeline.{startAt, stepAt}
 
 abbrev pub lineAt : RefT (List ℕ) → ℕ → ℕ → ℕ → Lifeline
 lineAt run age year survivors = record { run = run; age = age; year = year; survivors = survivors }
 
 -- a line at its start, over the run lent
-abbrev pub startedAt : RefT (List ℕ) → Begun → Started
-startedAt run b = record { line = lineAt run (b .age) (b .year) (b .survivors); check = b .check }
+abbrev pub lineBegun : RefT (List ℕ) → Start → Lifeline
+lineBegun run s = lineAt run (s .age) (s .year) (s .survivors)
 
-abbrev pub started : RefT (List ℕ) → List ℕ → ℕ → ℕ → Started
-started run history age year = startedAt run (startAt (now run) history age year)
+abbrev pub lineStarted : RefT (List ℕ) → List ℕ → ℕ → ℕ → Lifeline
+lineStarted run history age year = lineBegun run (startAt (now run) history age year)
 
 -- a step of a line, from where it stands
 abbrev pub stepOf : Lifeline → List ℕ → Step

@@ -46,9 +46,10 @@ use denote.Triple.Table.{entered, cited}
 use denote.Triple.Walked.{says, Stays, stay-none, stay-none-slice, walkOf, goes-none, goes-none-slice, Walks, ends-at, walked, walk-meets}
 use denote.Exit.{yes}
 use denote.Triple.Clauses.{ensured, lasts}
+use Rattle.basis.specs.Outcome.{verdict}
 use Rattle.lifeline.specs.Said.{statusMeaning}
-use Rattle.lifeline.specs.Lifeline.{standAfter}
-use Rattle.lifeline_reader.specs.Reader.{started, stepOf, lineStepped}
+use Rattle.lifeline.specs.Lifeline.{startAt, standAfter}
+use Rattle.lifeline_reader.specs.Reader.{lineStarted, stepOf, lineStepped}
 use Rattle.lifeline_reader.specs.declared.Lifeline.{Lifeline}
 use Rattle.lifeline_reader.specs.declared.Started.{Started}
 use Rattle.lifeline_reader.specs.declared.Stepped.{Stepped}
@@ -175,8 +176,12 @@ module _ {M : Type 1} (𝓤 : URA M) (H : Heap 𝓤) (A : Atoms 𝓤) (W : Given
       move ! (3 ∷ 0 ∷ []) $ use2 W (raw (Start 𝓤 H A mem run .pre to-start))
       (qed W (Tok ∷ ‵ (owns (ShrSlice (named 0) κ₀ u8 ∷ ShrSlice (named 1) κ₁ u8 ∷ u32 ∷ u32 ∷ []) (s, (h, (x, (t, tt)))) (v ∷ [], (hv ∷ [], (vint w32 x ∷ [], (vint w32 t ∷ [], tt))))) ∷ []) ∵ join ! $ frame ! $ done !) $ frame ! $ frame ! $ done !
 
-  start-said : (r : Started) → ent 𝓤 (ensured 𝓤 H A start.ended (start.clauses 𝓤 H A mem run) (κ₀, (κ₁, tt)) (s, (h, (x, (t, tt)))) tt r) (fact 𝓤 (r ≡ started s (now h) x t))
-  start-said r = exE 𝓤 _ (λ ws. snd∗ 𝓤 (sem 𝓤 H A (lasts start.ended (κ₀, (κ₁, tt)) (s, (h, (x, (t, tt)))) ws)) (fact 𝓤 (r ≡ started s (now h) x t)))
+  -- what `start` promises of its result
+  abbrev Starting : Started → Type 0
+  Starting r = (r .line ≡ lineStarted s (now h) x t) × (verdict (r .check) ≡ startAt (now s) (now h) x t .check)
+
+  start-said : (r : Started) → ent 𝓤 (ensured 𝓤 H A start.ended (start.clauses 𝓤 H A mem run) (κ₀, (κ₁, tt)) (s, (h, (x, (t, tt)))) tt r) (fact 𝓤 (Starting r))
+  start-said r = exE 𝓤 _ (λ ws. snd∗ 𝓤 (sem 𝓤 H A (lasts start.ended (κ₀, (κ₁, tt)) (s, (h, (x, (t, tt)))) ws)) (fact 𝓤 (Starting r)))
 
   abbrev to-step : Lifeline → Step 𝓤 H A mem run .Ghost
   to-step d = (((κ₀, (κ₁, tt)), (q₀, (q₁, tt)), tt, (d, (h, tt)), (L′.lowered d ∷ [], (hv ∷ [], tt))), tt)
@@ -331,7 +336,7 @@ module _ {M : Type 1} (𝓤 : URA M) (H : Heap 𝓤) (A : Atoms 𝓤) (W : Given
         (and-then ! (load ! (from ! (stop !)) (look ! 25 refl)) (and-then ! (load ! (from ! (stop !)) (look ! 23 refl)) (no-more !))))) (λ u.
         use1 W (later (some (λ (r : Started). (Tok ⊛ ‵ (Z.the-row α .own r (u ∷ []))) ⊛ raw (ensured 𝓤 H A start.ended (start.clauses 𝓤 H A mem run) (κ₀, (κ₁, tt)) (s, (h, (x, (t, tt)))) tt r)))) (id⊢ 𝓤 _) $
         await ! tt $ pick ! (λ r.
-        split ! $ move ! (1 ∷ []) $ use1 W (raw (fact 𝓤 (r ≡ started s (now h) x t))) (start-said r) $ heard ! (r ≡ started s (now h) x t) (λ e. split ! $ move ! (1 ∷ []) $
+        split ! $ move ! (1 ∷ []) $ use1 W (raw (fact 𝓤 (Starting r))) (start-said r) $ heard ! (Starting r) (λ e. split ! $ move ! (1 ∷ []) $
         peeks ! (Z.the-row α) (Is (Z.the-row α)) (shows 𝓤 H A (Z.the-row α)) r (u ∷ []) (λ isu.
         let same = LL.tells (Z.the-type α) (Z′.the-laws α) r (u ∷ []) isu in
         land ! (from ! (stop !)) (init ! 20 refl (LL.lawful (Z.the-type αᵉ) (Z′.the-laws αᵉ) 𝓤 H A W .typed r _ isu .0)) $
@@ -344,8 +349,8 @@ module _ {M : Type 1} (𝓤 : URA M) (H : Heap 𝓤) (A : Atoms 𝓤) (W : Given
         rewrite ! 0 (λ (d : Lifeline). ‵ (LOwn d)) (at-first r e) refl $ rewrite ! 18 (λ (d : Lifeline). ‵ (fat fullShare line-ty l₇ 0 (L′.lowered d))) (at-first r e) refl $
         by ! looped))))
       where
-        at-first : (r : Started) → r ≡ started s (now h) x t → r .line ≡ line 0
-        at-first r e = ap (λ (y : Started). y .line) e ∙ sym (after-none s (now h) x t)
+        at-first : (r : Started) → Starting r → r .line ≡ line 0
+        at-first r e = e .0 ∙ sym (after-none s (now h) x t)
 
   -- ---- the entry
   walk : (𝓣 : Tables 𝓤 H) → FmC 𝓤 H (W .laws) (𝓣 .C) → Room u8 (length (s .now)) → Room u8 (length (h .now)) → Triple 𝓤 (𝓣 .C #lifeline-reader·start) (Start 𝓤 H A mem run)

@@ -40,8 +40,9 @@ use denote.Triple.Table.{entered, cited}
 use denote.Triple.Walked.{says, Stays, stay-none, stay-none-slice, walkOf, goes-none, goes-none-slice, Walks, ends-at, walked, walk-meets}
 use denote.Exit.{yes}
 use denote.Triple.Clauses.{ensured, lasts}
+use Rattle.lifeline.specs.Said.{Start, startMeaning}
 use Rattle.lifeline.specs.Lifeline.{startAt}
-use Rattle.lifeline_reader.specs.Reader.{startedAt}
+use Rattle.lifeline_reader.specs.Reader.{lineAt, lineBegun}
 use Rattle.lifeline.specs.declared.Begun.{Begun}
 use Rattle.lifeline_reader.specs.declared.Started.{Started}
 use Rattle.lifeline.proofs.Begun as B
@@ -124,13 +125,16 @@ module _ {M : Type 1} (𝓤 : URA M) (H : Heap 𝓤) (A : Atoms 𝓤) (W : Given
       move ! (0 ∷ 2 ∷ []) $ fjoin ! $ move ! (2 ∷ 0 ∷ []) $ fjoin ! $ move ! (3 ∷ 0 ∷ []) $ use2 W (raw (StartAt 𝓤 H A mem run .pre to))
       (qed W (Tok ∷ ‵ (owns (ShrSlice (named 0) κ₀ u8 ∷ ShrSlice (named 1) κ₁ u8 ∷ u32 ∷ u32 ∷ []) a at) ∷ []) ∵ join ! $ frame ! $ done !) $ move ! (0 ∷ 2 ∷ []) $ frame ! $ frame ! $ done !
 
-  said : (r : Begun) → ent 𝓤 (ensured 𝓤 H A start-at.ended (start-at.clauses 𝓤 H A mem run) (κ₀, (κ₁, tt)) a tt r) (fact 𝓤 (r ≡ startAt (now s) (now h) x t))
-  said r = exE 𝓤 _ (λ ws. snd∗ 𝓤 (sem 𝓤 H A (lasts start-at.ended (κ₀, (κ₁, tt)) a ws)) (fact 𝓤 (r ≡ startAt (now s) (now h) x t)))
+  abbrev found : Start
+  found = startAt (now s) (now h) x t
+
+  said : (r : Begun) → ent 𝓤 (ensured 𝓤 H A start-at.ended (start-at.clauses 𝓤 H A mem run) (κ₀, (κ₁, tt)) a tt r) (fact 𝓤 (startMeaning r ≡ found))
+  said r = exE 𝓤 _ (λ ws. snd∗ 𝓤 (sem 𝓤 H A (lasts start-at.ended (κ₀, (κ₁, tt)) a ws)) (fact 𝓤 (startMeaning r ≡ found)))
 
   -- ---- at a result r of the call, whose machine value is written out
   module _ (r : Begun) (is : Is B.the-row r (begun-val r ∷ [])) where
     abbrev made : Started
-    made = startedAt s r
+    made = record { line = lineAt s (r .age) (r .year) (r .survivors); check = r .check }
 
     -- what the run owns, with the facts of what the call returned, is what the struct owns
     makes : ent 𝓤 (sem 𝓤 H A Own) (sem 𝓤 H A (S.the-row α .own made (started-val made ∷ [])))
@@ -142,11 +146,11 @@ module _ {M : Type 1} (𝓤 : URA M) (H : Heap 𝓤) (A : Atoms 𝓤) (W : Given
         nothing ! $ owned ! F.the-row (Is F.the-row) (EL.makes F.the-type F′.the-plain 𝓤 H A) (r .check) _ (had .1 .1 .1 .0) $ fjoin ! $ move ! (1 ∷ 0 ∷ []) $ fjoin ! $
         by ! (own-shut 𝓤 H A W (S.the-type α) (S′.the-laws α) (made .line, (r .check, tt)))
 
-    exits : r ≡ startAt (now s) (now h) x t → ent 𝓤 (⋆ 𝓤 H A (Tok ∷ ‵ Own ∷ ‵ HOwn ∷ [])) (Post (started-val made))
+    exits : startMeaning r ≡ found → ent 𝓤 (⋆ 𝓤 H A (Tok ∷ ‵ Own ∷ ‵ HOwn ∷ [])) (Post (started-val made))
     exits e =
         qed W (Tok ∷ ‵ Own ∷ ‵ HOwn ∷ []) ∵
         suffices ! _ (ends-at 𝓤 H A start.ended stayed (start.clauses 𝓤 H A mem run) W (((κ₀, (κ₁, tt)), (q₀, (q₁, tt)), tt, a, at), tt) (started-val made) made (tt, (tt, (tt, (tt, tt)))) (tt, (tt, (tt, (tt, tt))))) $
-        says ! (ap (startedAt s) e) $
+        says ! (ap (lineBegun s) e, ap (λ (b : Start). b .check) e) $
         frame ! $ use1 W (‵ Own ⊛ ‵ Own) (shr-slice-copy 𝓤 H A W (named 0) κ₀ u8 .twice s (v ∷ [])) $ split ! $
         nothing ! $ owned ! u32 (Is u32) (uint-makes 𝓤 H A W w32) t _ (refl, t-fits) $ fjoin ! $ owned ! u32 (Is u32) (uint-makes 𝓤 H A W w32) x _ (refl, x-fits) $ fjoin ! $ move ! (3 ∷ 0 ∷ []) $
         fjoin ! $ move ! (1 ∷ 0 ∷ []) $ fjoin ! $ frame ! $ by ! makes
@@ -165,7 +169,7 @@ module _ {M : Type 1} (𝓤 : URA M) (H : Heap 𝓤) (A : Atoms 𝓤) (W : Given
         (and-then ! (load ! (from ! (stop !)) (look ! 9 refl)) (and-then ! (load ! (from ! (stop !)) (look ! 7 refl)) (no-more !))))) (λ u.
         use1 W (later (some (λ (r : Begun). (Tok ⊛ ‵ (B.the-row .own r (u ∷ []))) ⊛ raw (ensured 𝓤 H A start-at.ended (start-at.clauses 𝓤 H A mem run) (κ₀, (κ₁, tt)) a tt r))))
         (id⊢ 𝓤 _) $ await ! tt $ pick ! (λ r.
-        split ! $ move ! (1 ∷ []) $ use1 W (raw (fact 𝓤 (r ≡ startAt (now s) (now h) x t))) (said r) $ heard ! (r ≡ startAt (now s) (now h) x t) (λ e. split ! $ move ! (1 ∷ []) $
+        split ! $ move ! (1 ∷ []) $ use1 W (raw (fact 𝓤 (startMeaning r ≡ found))) (said r) $ heard ! (startMeaning r ≡ found) (λ e. split ! $ move ! (1 ∷ []) $
         facts ! B.the-row (Is B.the-row) (shows 𝓤 H A B.the-row) r (u ∷ []) (λ isu.
         -- [the tokens; what the run owns; what the history owns; _6; …]
         land ! (from ! (stop !)) (init ! 5 refl (LL.lawful B.the-type B′.the-laws 𝓤 H A W .typed r _ isu .0)) $
