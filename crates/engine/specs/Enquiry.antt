@@ -3,10 +3,8 @@ use Prim.Native.Nat.{ℕ}
 use mathlib.Core.List.{List}
 use lib.IntN.{ℤ, pos, natAbs}
 use Rattle.basis.specs.declared.Refusal.{Refusal}
-use Rattle.basis.specs.declared.Check.{Check}
-use Rattle.basis.specs.declared.Check.the-variants.{Passed, Refused}
 use Rattle.lent.specs.Lent.{roomCheck}
-use Rattle.basis.specs.Outcome.{Outcome, value, refused, refusal, firstOf, noRefusal}
+use Rattle.basis.specs.Outcome.{Verdict, passed, refusedBy, Outcome, value, refused, refusal, firstOf, noRefusal}
 use Rattle.run_check.specs.Run.{runCheck}
 use Rattle.basis_file.specs.File.{fileCheck}
 use Rattle.short_form.specs.ShortForm.{shortFormCheck}
@@ -15,9 +13,9 @@ use Rattle.engine.specs.declared.CSignedAnswer.{CSignedAnswer}
 
 -- ---- answers
 -- what a check says
-abbrev pub refusalOf : Check → Refusal
-refusalOf Passed = noRefusal
-refusalOf (Refused r) = r
+abbrev pub refusalOf : Verdict → Refusal
+refusalOf passed = noRefusal
+refusalOf (refusedBy r) = r
 
 -- the answer of an enquiry whose values are never below zero, so that a value's size is the value itself
 abbrev pub answerOf : Outcome ℤ → CAnswer
@@ -30,11 +28,11 @@ signedAnswerOf (value n) = record { refusal = noRefusal; value = n }
 signedAnswerOf (refused r) = record { refusal = r; value = pos 0 }
 
 -- ---- reading, writing and the short form: the lent output's room (11), then the input's own checks
-abbrev pub readCheck : List ℕ → List ℕ → Check
+abbrev pub readCheck : List ℕ → List ℕ → Verdict
 readCheck file run = firstOf (roomCheck 4554 run) (fileCheck file)
 
-abbrev pub writeCheck : List ℕ → List ℕ → Check
+abbrev pub writeCheck : List ℕ → List ℕ → Verdict
 writeCheck run file = firstOf (roomCheck 4608 file) (runCheck run)
 
-abbrev pub shortCheck : List ℕ → ℤ → List ℕ → Check
+abbrev pub shortCheck : List ℕ → ℤ → List ℕ → Verdict
 shortCheck run rate out = firstOf (roomCheck 4554 out) (shortFormCheck run rate)

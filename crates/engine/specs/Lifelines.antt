@@ -2,14 +2,13 @@
 use Prim.Native.Nat.{ℕ}
 use Rattle.basis.specs.Outcome.{Outcome, value, refused, noRefusal}
 use Rattle.basis.specs.declared.Refusal.{Refusal}
-use Rattle.lifeline.specs.declared.Begun.{Begun}
-use Rattle.lifeline.specs.Said.{Said, advanced, ended, Step}
+use Rattle.lifeline.specs.Said.{Start, Said, advanced, ended, Step}
 use Rattle.engine.specs.declared.CLifeline.{CLifeline}
 use Rattle.engine.specs.Enquiry.{refusalOf}
 
 -- a start has not ended
-abbrev pub lifelineBegun : Begun → CLifeline
-lifelineBegun b = record { refusal = refusalOf (b .check); survivors = b .survivors; age = b .age; year = b .year; ended = 0 }
+abbrev pub lifelineBegun : Start → CLifeline
+lifelineBegun s = record { refusal = refusalOf (s .check); survivors = s .survivors; age = s .age; year = s .year; ended = 0 }
 
 -- a step's refusal and its end, by what it says
 abbrev pub stepRefusal : Outcome Said → Refusal

@@ -1,7 +1,7 @@
 // Lifelines as C keeps them: the host holds age, year and survivors between the calls, and lends the data run and its
 // history to each.
 ghost use mathlib.Core.Path.{_≡_};
-ghost use Rattle.lifeline.specs.Said.{stepMeaning};
+ghost use Rattle.lifeline.specs.Said.{startMeaning, stepMeaning};
 ghost use Rattle.lifeline.specs.Lifeline.{startAt, stepAt};
 ghost use Rattle.engine.specs.Lifelines.{lifelineBegun, lifelineMoved};
 use crate::CLifeline;
@@ -12,7 +12,7 @@ use lifeline::Status;
 use lifeline::cohort;
 
 fn begun(b: Begun) -> CLifeline
-    ensures { λ r. ⌜ r ≡ lifelineBegun b ⌝ }
+    ensures { λ r. ⌜ r ≡ lifelineBegun (startMeaning b) ⌝ }
 {
     let check = b.check;
     CLifeline {
