@@ -10,9 +10,7 @@ use lib.ListN.{length}
 use borrow.Author.Tests.{le-leb}
 use Rattle.lent.specs.Lent.{countCheck, written}
 use Rattle.basis.specs.declared.Refusal.{Refusal}
-use Rattle.basis.specs.declared.Check.{Check}
-use Rattle.basis.specs.declared.Check.the-variants.{Passed, Refused}
-use Rattle.basis.specs.Outcome.{Outcome, value, refused, firstOf}
+use Rattle.basis.specs.Outcome.{Verdict, passed, refusedBy, Outcome, value, refused, firstOf}
 use Rattle.basis.proofs.Outcome.{checked-passed, first-refused}
 use Rattle.run_check.proofs.Acceptance.{accepted, passes}
 use Rattle.basis_file.specs.File.{runIn, fileOf}
@@ -37,8 +35,7 @@ use Rattle.grid.specs.Grid.{gridCheck, recordsOf, gridOf}
 use Rattle.grid.proofs.Filled.{answers-none}
 use Rattle.lifeline.specs.Lifeline.{stepCheck, moved, yearLater, lived, unlessRefused, stepAt, standAt, standMoved}
 use Rattle.lifeline.proofs.Standing.{start-refused, step-refused}
-use Rattle.lifeline.specs.declared.Begun.{Begun}
-use Rattle.lifeline.specs.Said.{ended, Step}
+use Rattle.lifeline.specs.Said.{Start, ended, Step}
 use Rattle.engine.specs.Enquiry.{refusalOf, readCheck, writeCheck, shortCheck}
 use Rattle.refusals.proofs.Calls.{numbered-refusals, zero-is-none}
 use Rattle.exact.proofs.Demands.{demand-3}
@@ -46,18 +43,18 @@ use Rattle.handed_out.proofs.Distances.{handed-out}
 use Rattle.demands.specs.Demands.{RefusedThroughout, Demand1, Demand2, Demands}
 
 -- a refused output is unchanged
-unchanged : (check : Check) (new out : List ℕ) (r : Refusal) → check ≡ Refused r → written check new out ≡ out
+unchanged : (check : Verdict) (new out : List ℕ) (r : Refusal) → check ≡ refusedBy r → written check new out ≡ out
 unchanged check new out r h = rw h refl
 
 module _ (run history : List ℕ) where
-  grid-refused : (r : Refusal) → basisCheck run history ≡ Refused r → (count : ℕ) → 119 ≤ count → gridCheck run history count ≡ Refused r
+  grid-refused : (r : Refusal) → basisCheck run history ≡ refusedBy r → (count : ℕ) → 119 ≤ count → gridCheck run history count ≡ refusedBy r
   unfolding gridCheck countCheck
   grid-refused r h count l = rw (le-leb 119 count l, h) refl
 
-  refused-by : (r : Refusal) → basisCheck run history ≡ Refused r → RefusedThroughout run history r
+  refused-by : (r : Refusal) → basisCheck run history ≡ refusedBy r → RefusedThroughout run history r
   unfolding improvementEnquiry factorEnquiry rateEnquiry survivorshipEnquiry expectationEnquiry annuityEnquiry
   refused-by r h =
-      let first : (next : Check) → firstOf (basisCheck run history) next ≡ Refused r = λ next. first-refused (basisCheck run history) next r h in
+      let first : (next : Verdict) → firstOf (basisCheck run history) next ≡ refusedBy r = λ next. first-refused (basisCheck run history) next r h in
       record {
         improvement = λ age year. rw h refl;
         factor = λ age year. rw h refl;
@@ -67,11 +64,11 @@ module _ (run history : List ℕ) where
         annuity = λ kind age deferment year. rw h refl;
         smallSet = λ questions. numbered-refusals run history .smallSet questions ∙ ap refusalOf h;
         grid = grid-refused r h;
-        start = λ age year. ap (λ (b : Begun). b .check) (start-refused run history age year r (first _));
+        start = λ age year. ap (λ (b : Start). b .check) (start-refused run history age year r (first _));
         step = λ age year survivors. ap (λ (s : Step). s .says) (step-refused run history age year survivors r (first _));
       }
 
-  grid-unchanged : (points : List Point) (r : Refusal) → gridCheck run history (length points) ≡ Refused r → gridOf run history points ≡ points
+  grid-unchanged : (points : List Point) (r : Refusal) → gridCheck run history (length points) ≡ refusedBy r → gridOf run history points ≡ points
   unfolding gridOf
   grid-unchanged points r h = rw (ap recordsOf h) (answers-none (basisWith run history) points)
 
@@ -81,13 +78,13 @@ module _ (run history : List ℕ) where
   line-unchanged age year survivors r h =
       by (stepCheck run history age year survivors) (eqb age 150) (survivorsAfterYear (basisWith run history) age year (pos survivors)) h
     where
-      by : (c : Check) (t : Bool) (o : Outcome ℤ)
+      by : (c : Verdict) (t : Bool) (o : Outcome ℤ)
           → unlessRefused age year survivors c (cond t (moved age year survivors (value ended)) (yearLater age year survivors o)) .says ≡ refused r
           → standMoved (unlessRefused age year survivors c (cond t (moved age year survivors (value ended)) (yearLater age year survivors o))) ≡ standAt age year survivors
-      by (Refused q) t o g = refl
-      by Passed true o g = refl
-      by Passed false (refused q) g = refl
-      by Passed false (value s) g = let z : _≡_ {A = ℕ} 0 1 = cc in absurd (omega arith)
+      by (refusedBy q) t o g = refl
+      by passed true o g = refl
+      by passed false (refused q) g = refl
+      by passed false (value s) g = let z : _≡_ {A = ℕ} 0 1 = cc in absurd (omega arith)
 
   demand-1 : Demand1 run history
   unfolding pointOf answeredOf

@@ -9,9 +9,8 @@ use lib.ListN.{length}
 use Rattle.arithmetic.specs.Rounding.{TiesGoUp}
 use Rattle.lent.specs.Lent.{written}
 use Rattle.basis.specs.declared.Refusal.{Refusal}
-use Rattle.basis.specs.declared.Check.the-variants.{Passed, Refused}
 use Rattle.basis.specs.Basis.{Accepted}
-use Rattle.basis.specs.Outcome.{refused, firstOf}
+use Rattle.basis.specs.Outcome.{passed, refusedBy, refused, firstOf}
 use Rattle.run_check.specs.Run.{runCheck}
 use Rattle.basis_file.specs.File.{runIn, fileOf}
 use Rattle.basis_file.specs.RoundTrips.{RoundTrips}
@@ -54,8 +53,8 @@ pub record RefusedThroughout (run history : List ℕ) (r : Refusal) : Type 0 whe
   pub expectation : (kind : Kind) (age deferment year : ℕ) → expectationEnquiry run history kind age deferment year ≡ refused r
   pub annuity : (kind : Kind) (age deferment year : ℕ) → annuityEnquiry run history kind age deferment year ≡ refused r
   pub smallSet : (questions : Questions) → smallSetOf run history questions .refusal ≡ r
-  pub grid : (count : ℕ) → 119 ≤ count → gridCheck run history count ≡ Refused r
-  pub start : (age year : ℕ) → startAt run history age year .check ≡ Refused r
+  pub grid : (count : ℕ) → 119 ≤ count → gridCheck run history count ≡ refusedBy r
+  pub start : (age year : ℕ) → startAt run history age year .check ≡ refusedBy r
   pub step : (age year survivors : ℕ) → stepAt run history age year survivors .says ≡ refused r
 
 pub record Demand1 (run history : List ℕ) : Type 0 where
@@ -63,12 +62,12 @@ pub record Demand1 (run history : List ℕ) : Type 0 where
   pub numbered : NumberedRefusals run history
   pub zeroIsNone : ZeroIsNone
   -- "checks all it is given"
-  pub checked : (r : Refusal) → basisCheck run history ≡ Refused r → RefusedThroughout run history r
+  pub checked : (r : Refusal) → basisCheck run history ≡ refusedBy r → RefusedThroughout run history r
   -- "and on a refusal writes no byte of lent output": reading, writing, the short form, the grid; and a lifeline stays where it stands
-  pub readUnchanged : (file out : List ℕ) (r : Refusal) → readCheck file out ≡ Refused r → written (readCheck file out) (runIn file) out ≡ out
-  pub writeUnchanged : (out : List ℕ) (r : Refusal) → writeCheck run out ≡ Refused r → written (writeCheck run out) (fileOf run) out ≡ out
-  pub shortFormUnchanged : (rate : ℤ) (out : List ℕ) (r : Refusal) → shortCheck run rate out ≡ Refused r → written (shortCheck run rate out) (shortFormOf run rate) out ≡ out
-  pub gridUnchanged : (points : List Point) (r : Refusal) → gridCheck run history (length points) ≡ Refused r → gridOf run history points ≡ points
+  pub readUnchanged : (file out : List ℕ) (r : Refusal) → readCheck file out ≡ refusedBy r → written (readCheck file out) (runIn file) out ≡ out
+  pub writeUnchanged : (out : List ℕ) (r : Refusal) → writeCheck run out ≡ refusedBy r → written (writeCheck run out) (fileOf run) out ≡ out
+  pub shortFormUnchanged : (rate : ℤ) (out : List ℕ) (r : Refusal) → shortCheck run rate out ≡ refusedBy r → written (shortCheck run rate out) (shortFormOf run rate) out ≡ out
+  pub gridUnchanged : (points : List Point) (r : Refusal) → gridCheck run history (length points) ≡ refusedBy r → gridOf run history points ≡ points
   pub lifelineUnchanged : (age year survivors : ℕ) (r : Refusal) → stepAt run history age year survivors .says ≡ refused r →
       standMoved (stepAt run history age year survivors) ≡ standAt age year survivors
   -- "A grid point that cannot be worked out carries its own refusal": with all four results 0, and its question unchanged
@@ -78,8 +77,8 @@ pub record Demand1 (run history : List ℕ) : Type 0 where
 -- ---- Demand 2
 pub record Demand2 (run history : List ℕ) : Type 0 where
   -- "Outside the refusal conditions every enquiry is answered": 1, 4 and 5 refuse every run that is not accepted, and no other
-  pub runAccepted : runCheck run ≡ Passed → Accepted run
-  pub acceptedRun : Accepted run → runCheck run ≡ Passed
+  pub runAccepted : runCheck run ≡ passed → Accepted run
+  pub acceptedRun : Accepted run → runCheck run ≡ passed
   -- 13 and 2 to 5 every history that is not (02, change 2), and no actual improvement is refused by 9
   pub historyAccepted : HistoryAcceptance
   pub actualAnswered : ActualAnswered run history
@@ -89,19 +88,19 @@ pub record Demand2 (run history : List ℕ) : Type 0 where
   pub lines : LineSays
   -- "with exactly the number of the model under the paper's rounding rules": after its checks an enquiry is the model's work, which is
   -- refused by 9 and 10 alone
-  pub improvement : (age year : ℕ) → firstOf (basisCheck run history) (cellCheck (firstYear (basisWith run history)) age year) ≡ Passed →
+  pub improvement : (age year : ℕ) → firstOf (basisCheck run history) (cellCheck (firstYear (basisWith run history)) age year) ≡ passed →
       improvementEnquiry run history age year ≡ improvementNeeded age year (improvementOf (basisWith run history) age year)
-  pub factor : (age year : ℕ) → firstOf (basisCheck run history) (cellCheck (basisWith run history .base) age year) ≡ Passed →
+  pub factor : (age year : ℕ) → firstOf (basisCheck run history) (cellCheck (basisWith run history .base) age year) ≡ passed →
       factorEnquiry run history age year ≡ factorOf (basisWith run history) age year
-  pub rate : (age year : ℕ) → firstOf (basisCheck run history) (cellCheck (basisWith run history .base) age year) ≡ Passed →
+  pub rate : (age year : ℕ) → firstOf (basisCheck run history) (cellCheck (basisWith run history .base) age year) ≡ passed →
       rateEnquiry run history age year ≡ rateOf (basisWith run history) age year
-  pub survivorship : (kind : Kind) (age deferment year : ℕ) → valuationCheck run history age deferment year ≡ Passed →
+  pub survivorship : (kind : Kind) (age deferment year : ℕ) → valuationCheck run history age deferment year ≡ passed →
       survivorshipEnquiry run history kind age deferment year ≡ survivorsOf (basisWith run history) kind age year deferment
-  pub expectation : (kind : Kind) (age deferment year : ℕ) → valuationCheck run history age deferment year ≡ Passed →
+  pub expectation : (kind : Kind) (age deferment year : ℕ) → valuationCheck run history age deferment year ≡ passed →
       expectationEnquiry run history kind age deferment year ≡ expectationOf (basisWith run history) kind age year deferment
-  pub annuity : (kind : Kind) (age deferment year : ℕ) → valuationCheck run history age deferment year ≡ Passed →
+  pub annuity : (kind : Kind) (age deferment year : ℕ) → valuationCheck run history age deferment year ≡ passed →
       annuityEnquiry run history kind age deferment year ≡ annuityOf (basisWith run history) kind age year deferment
-  pub point : (q : Question) → questionCheck (basisWith run history .base) (q .age) (q .deferment) (q .year) ≡ Passed →
+  pub point : (q : Question) → questionCheck (basisWith run history .base) (q .age) (q .deferment) (q .year) ≡ passed →
       pointOf (basisWith run history) q ≡ pointAnswerOf (resultsOf (basisWith run history) (q .age) (q .deferment) (q .year))
   -- ties go up, and the two components are rounded once (02, change 3)
   pub ties : TiesGoUp

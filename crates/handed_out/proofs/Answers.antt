@@ -5,8 +5,7 @@ use mathlib.Core.List.{List}
 use Prim.Native.Nat.{ℕ}
 use native.Mathlib.Omega.{arith}
 use lib.IntN.{ℤ, pos}
-use Rattle.basis.specs.declared.Check.the-variants.{Passed}
-use Rattle.basis.specs.Outcome.{Outcome, value, firstOf}
+use Rattle.basis.specs.Outcome.{passed, Outcome, value, firstOf}
 use Rattle.basis.specs.Refusals.{numbers, RefusedBy}
 use Rattle.basis.proofs.Outcome.{checked-value}
 use Rattle.history.specs.History.{basisWith, basisCheck}
@@ -74,15 +73,15 @@ module _ (run history : List ℕ) where
         }
 
     -- ---- work that passes the checks of its enquiry is its answer
-    module _ (passed : valuationCheck run history age deferment year ≡ Passed) where
+    module _ (p : valuationCheck run history age deferment year ≡ passed) where
       pub survivorship-asked : (s : ℤ) → survivorsOf (basisWith run history) kind age year deferment ≡ value s → survivorshipEnquiry run history kind age deferment year ≡ value s
       unfolding survivorshipEnquiry
-      survivorship-asked s h = rw (passed, h) refl
+      survivorship-asked s h = rw (p, h) refl
 
       pub expectation-asked : (e : ℤ) → expectationOf (basisWith run history) kind age year deferment ≡ value e → expectationEnquiry run history kind age deferment year ≡ value e
       unfolding expectationEnquiry
-      expectation-asked e h = rw (passed, h) refl
+      expectation-asked e h = rw (p, h) refl
 
       pub annuity-asked : (a : ℤ) → annuityOf (basisWith run history) kind age year deferment ≡ value a → annuityEnquiry run history kind age deferment year ≡ value a
       unfolding annuityEnquiry
-      annuity-asked a h = rw (passed, h) refl
+      annuity-asked a h = rw (p, h) refl

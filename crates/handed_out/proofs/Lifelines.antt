@@ -9,9 +9,7 @@ use lib.Dec.{eqb}
 use lib.IntN.{pos}
 use borrow.Author.Tests.{le-leb, eqb-false}
 use Rattle.arithmetic.proofs.Distance.{within-more}
-use Rattle.basis.specs.declared.Check.{Check}
-use Rattle.basis.specs.declared.Check.the-variants.{Passed, Refused}
-use Rattle.basis.specs.Outcome.{value}
+use Rattle.basis.specs.Outcome.{Verdict, passed, refusedBy, value}
 use Rattle.basis.proofs.Outcome.{both-passed}
 use Rattle.history.specs.History.{basisWith, basisCheck}
 use Rattle.survivorship.specs.declared.Kind.the-variants.{Cohort}
@@ -46,25 +44,25 @@ below run history age year s h =
     let p = step-passed run history age year s (c .0) in
     at-most (p .2) (eqb-false age 150 (c .1))
   where
-    by : (c : Check) (e : Bool) (m : Step) → unlessRefused age year s c (cond e (moved age year s (value ended)) m) .says ≡ value advanced → (c ≡ Passed) × (e ≡ false)
-    by Passed false m g = (refl, refl)
-    by Passed true m g = let z : _≡_ {A = ℕ} 0 1 = cc in absurd (omega arith)
-    by (Refused r) e m g = let z : _≡_ {A = ℕ} 0 1 = cc in absurd (omega arith)
+    by : (c : Verdict) (e : Bool) (m : Step) → unlessRefused age year s c (cond e (moved age year s (value ended)) m) .says ≡ value advanced → (c ≡ passed) × (e ≡ false)
+    by passed false m g = (refl, refl)
+    by passed true m g = let z : _≡_ {A = ℕ} 0 1 = cc in absurd (omega arith)
+    by (refusedBy r) e m g = let z : _≡_ {A = ℕ} 0 1 = cc in absurd (omega arith)
 
 module _ (run history : List ℕ) (age year : ℕ) where
   -- a start that is not refused has passed its checks
-  started : lifelineBegun (startAt run history age year) .refusal .number ≡ 0 → valuationCheck run history age 0 year ≡ Passed
+  started : lifelineBegun (startAt run history age year) .refusal .number ≡ 0 → valuationCheck run history age 0 year ≡ passed
   unfolding startAt
   started begun =
       let c = zero-is-none .check (startAt run history age year .check) (numbered-refusals run history .start age year) begun in
       by (valuationCheck run history age 0 year) c
     where
-      by : (c : Check) → begunAt age year c .check ≡ Passed → c ≡ Passed
-      by Passed g = refl
-      by (Refused r) g = g
+      by : (c : Verdict) → begunAt age year c .check ≡ passed → c ≡ passed
+      by passed g = refl
+      by (refusedBy r) g = g
 
   -- n steps come to age 150 at most, so that n years may be asked for
-  asked : (n : ℕ) → valuationCheck run history age 0 year ≡ Passed → Advances run history age year n → valuationCheck run history age n year ≡ Passed
+  asked : (n : ℕ) → valuationCheck run history age 0 year ≡ passed → Advances run history age year n → valuationCheck run history age n year ≡ passed
   unfolding defermentCheck questionCheck
   asked n h a =
       let p = both-passed (basisCheck run history) (questionCheck (basisWith run history .base) age 0 year) h in

@@ -7,9 +7,8 @@ use native.Mathlib.Nat.{not-suc-le-zero, le-of-suc-le-suc}
 use native.Mathlib.Omega.{arith}
 use lib.IntN.{ℤ, pos, natAbs}
 use lib.ListN.{length, getD}
-use Rattle.basis.specs.declared.Check.the-variants.{Passed}
 use Rattle.basis.specs.Basis.{Basis}
-use Rattle.basis.specs.Outcome.{Outcome, value, refused}
+use Rattle.basis.specs.Outcome.{passed, Outcome, value, refused}
 use Rattle.basis.proofs.Outcome.{both-passed, checked-value, came}
 use Rattle.lent.specs.Lent.{countCheck}
 use Rattle.history.specs.History.{basisWith, basisCheck}
@@ -50,20 +49,20 @@ four-came (value i) (value j) (refused r) fourth results h = let z : _≡_ {A = 
 four-came (value i) (refused r) third fourth results h = let z : _≡_ {A = ℕ} 0 1 = cc in absurd (omega arith)
 four-came (refused r) second third fourth results h = let z : _≡_ {A = ℕ} 0 1 = cc in absurd (omega arith)
 
-module _ (run history : List ℕ) (accepted : basisCheck run history ≡ Passed) where
+module _ (run history : List ℕ) (accepted : basisCheck run history ≡ passed) where
   -- a point, by the numbers of its question
-  module _ (age deferment year : ℕ) (asked : questionCheck (basisWith run history .base) age deferment year ≡ Passed) where
-    passed : valuationCheck run history age deferment year ≡ Passed
-    passed = rw (accepted, asked) refl
+  module _ (age deferment year : ℕ) (asked : questionCheck (basisWith run history .base) age deferment year ≡ passed) where
+    valued : valuationCheck run history age deferment year ≡ passed
+    valued = rw (accepted, asked) refl
 
     expectation-of : (kind : Kind) (e : ℤ) (n : ℕ) → expectationOf (basisWith run history) kind age year deferment ≡ value e → n ≡ natAbs e → ExpectationNear (basisWith run history) kind age deferment year (pos n)
     expectation-of kind e n h g =
-        let answer = expectation-asked run history kind age deferment year passed e h in
+        let answer = expectation-asked run history kind age deferment year valued e h in
         rw (g, size-is e (expectation-answer run history kind age deferment year e answer)) (λ improving. quarters-more (demand-3 run history .expectation kind age deferment year e answer improving) (omega arith))
 
     annuity-of : (kind : Kind) (a : ℤ) (n : ℕ) → annuityOf (basisWith run history) kind age year deferment ≡ value a → n ≡ natAbs a → AnnuityNear (basisWith run history) kind age deferment year (pos n)
     annuity-of kind a n h g =
-        let answer = annuity-asked run history kind age deferment year passed a h in
+        let answer = annuity-asked run history kind age deferment year valued a h in
         rw (g, size-is a (annuity-answer run history kind age deferment year a answer)) (annuity-near run history kind age deferment year a answer)
 
   results-near : (q : Question) (results : List ℕ) → workOn (basisWith run history) q ≡ value results → ResultsNear (basisWith run history) q results
@@ -125,6 +124,6 @@ module _ (run history : List ℕ) where
   unfolding smallSetOf
   set-near questions filled i l noQuestion noAnswer none =
       let b = basisWith run history in
-      let passed = zero-is-none .check (basisCheck run history) (numbered-refusals run history .withHistory) (sym (ap (λ r. r .number) (numbered-refusals run history .smallSet questions)) ∙ filled) in
-      let is : getD (smallSetOf run history questions .points) i noAnswer ≡ pointOf b (getD (questions .points) i noQuestion) = rw passed (getD-map (pointOf b) (questions .points) i noQuestion noAnswer l) in
-      rw is (point-near run history passed (getD (questions .points) i noQuestion) (sym (ap (λ (a : PointAnswer). a .refusal .number) is) ∙ none))
+      let accepted = zero-is-none .check (basisCheck run history) (numbered-refusals run history .withHistory) (sym (ap (λ r. r .number) (numbered-refusals run history .smallSet questions)) ∙ filled) in
+      let is : getD (smallSetOf run history questions .points) i noAnswer ≡ pointOf b (getD (questions .points) i noQuestion) = rw accepted (getD-map (pointOf b) (questions .points) i noQuestion noAnswer l) in
+      rw is (point-near run history accepted (getD (questions .points) i noQuestion) (sym (ap (λ (a : PointAnswer). a .refusal .number) is) ∙ none))

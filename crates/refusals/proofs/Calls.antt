@@ -8,10 +8,8 @@ use lib.Dec.{eqb}
 use lib.IntN.{ℤ, pos}
 use borrow.Author.Tests.{ne-eqb}
 use Rattle.basis.specs.declared.Refusal.{Refusal}
-use Rattle.basis.specs.declared.Check.{Check}
-use Rattle.basis.specs.declared.Check.the-variants.{Passed, Refused}
 use Rattle.basis.specs.Basis.{basisOf}
-use Rattle.basis.specs.Outcome.{Outcome, value, refused, firstOf}
+use Rattle.basis.specs.Outcome.{Verdict, passed, refusedBy, Outcome, value, refused, firstOf}
 use Rattle.basis.specs.Refusals.{numbers, recordNumbers, isListed, Listed, RefusesBy, RefusedBy}
 use Rattle.basis.proofs.Refusals.{first-by, checked-by, check-among, work-among, record-numbers, never-zero}
 use Rattle.lent.proofs.Numbered.{count-numbered}
@@ -58,9 +56,9 @@ module _ (run history : List ℕ) where
   unfolding startAt
   start-numbered age year = by (valuationCheck run history age 0 year) (valuation-checked age 0 year)
     where
-      by : (c : Check) → RefusesBy numbers c → RefusesBy numbers (begunAt age year c .check)
-      by Passed p = p
-      by (Refused r) p = p
+      by : (c : Verdict) → RefusesBy numbers c → RefusesBy numbers (begunAt age year c .check)
+      by passed p = p
+      by (refusedBy r) p = p
 
   step-numbered : (age year survivors : ℕ) → RefusedBy numbers (stepAt run history age year survivors .says)
   unfolding stepAt lived
@@ -70,21 +68,21 @@ module _ (run history : List ℕ) where
             (eqb age 150) (survivorsAfterYear (basisWith run history) age year (pos survivors)) (work-among record-numbers (year-numbered (basisWith run history) age year (pos survivors)));
       }
     where
-      by : (c : Check) → RefusesBy numbers c → (t : Bool) (o : Outcome ℤ) → RefusedBy numbers o → (r : Refusal)
+      by : (c : Verdict) → RefusesBy numbers c → (t : Bool) (o : Outcome ℤ) → RefusedBy numbers o → (r : Refusal)
           → unlessRefused age year survivors c (cond t (moved age year survivors (value ended)) (yearLater age year survivors o)) .says ≡ refused r → Listed numbers (r .number)
-      by (Refused q) p t o w r g = let e : q ≡ r = cc in rw (← e) (p .listed q refl)
-      by Passed p true o w r g = let z : _≡_ {A = ℕ} 0 1 = cc in absurd (omega arith)
-      by Passed p false (value s) w r g = let z : _≡_ {A = ℕ} 0 1 = cc in absurd (omega arith)
-      by Passed p false (refused q) w r g = let e : q ≡ r = cc in rw (← e) (w .listed q refl)
+      by (refusedBy q) p t o w r g = let e : q ≡ r = cc in rw (← e) (p .listed q refl)
+      by passed p true o w r g = let z : _≡_ {A = ℕ} 0 1 = cc in absurd (omega arith)
+      by passed p false (value s) w r g = let z : _≡_ {A = ℕ} 0 1 = cc in absurd (omega arith)
+      by passed p false (refused q) w r g = let e : q ≡ r = cc in rw (← e) (w .listed q refl)
 
 -- ---- the small set as a whole
 set-refusal : (run history : List ℕ) (questions : Questions) → smallSetOf run history questions .refusal ≡ refusalOf (basisCheck run history)
 unfolding smallSetOf
 set-refusal run history questions = by (basisCheck run history) _
   where
-    by : (c : Check) (points : List PointAnswer) → setOf c points .refusal ≡ refusalOf c
-    by Passed points = refl
-    by (Refused r) points = refl
+    by : (c : Verdict) (points : List PointAnswer) → setOf c points .refusal ≡ refusalOf c
+    by passed points = refl
+    by (refusedBy r) points = refl
 
 pub numbered-refusals : (run history : List ℕ) → NumberedRefusals run history
 unfolding improvementEnquiry factorEnquiry rateEnquiry survivorshipEnquiry expectationEnquiry annuityEnquiry gridCheck pointOf answeredOf
@@ -137,9 +135,9 @@ zero-is-none =
       text = of-text;
     }
   where
-    of-check : (c : Check) → RefusesBy numbers c → refusalOf c .number ≡ 0 → c ≡ Passed
-    of-check Passed p e = refl
-    of-check (Refused r) p e = absurd (zero-refused e (p .listed r refl))
+    of-check : (c : Verdict) → RefusesBy numbers c → refusalOf c .number ≡ 0 → c ≡ passed
+    of-check passed p e = refl
+    of-check (refusedBy r) p e = absurd (zero-refused e (p .listed r refl))
 
     of-answer : (work : Outcome ℤ) → RefusedBy numbers work → answerOf work .refusal .number ≡ 0 → (v : ℤ) × (work ≡ value v)
     of-answer (value v) p e = (v, refl)
