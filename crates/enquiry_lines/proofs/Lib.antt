@@ -3,4 +3,3 @@ pub mod State
 pub mod Opened
 mod SoFar
 mod Printed
-pub mod Numbered

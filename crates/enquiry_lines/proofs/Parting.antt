@@ -89,18 +89,18 @@ alike-more : (line other s : List ℕ) → Alike line other → Alike (line ++ s
 alike-more line other s h = sym (cut 16 line s) ∙ ap (λ l. take 16 (l ++ s)) h ∙ cut 16 other s
 
 -- they read the same: more than 14 bytes are malformed
-kept-enough : (line : List ℕ) → lineOf line ≡ lineOf (take 16 line)
-kept-enough line = by (ltb 16 (length line)) refl
+kept-enough : (n : ℕ) (line : List ℕ) → lineOf n line ≡ lineOf n (take 16 line)
+kept-enough n line = by (ltb 16 (length line)) refl
   where
-    by : (u : Bool) → ltb 16 (length line) ≡ u → lineOf line ≡ lineOf (take 16 line)
+    by : (u : Bool) → ltb 16 (length line) ≡ u → lineOf n line ≡ lineOf n (take 16 line)
     by true e =
         let l = ltb-true 16 (length line) e in
         let m = length-take-le 16 line (omega arith) in
-        long-malformed line (omega arith) ∙ sym (long-malformed (take 16 line) (omega arith))
-    by false e = ap lineOf (sym (take-all 16 line (ltb-false 16 (length line) e)))
+        long-malformed n line (omega arith) ∙ sym (long-malformed n (take 16 line) (omega arith))
+    by false e = ap (lineOf n) (sym (take-all 16 line (ltb-false 16 (length line) e)))
 
-alike-read : (line other : List ℕ) → Alike line other → lineOf line ≡ lineOf other
-alike-read line other h = kept-enough line ∙ ap lineOf h ∙ sym (kept-enough other)
+alike-read : (n : ℕ) (line other : List ℕ) → Alike line other → lineOf n line ≡ lineOf n other
+alike-read n line other h = kept-enough n line ∙ ap (lineOf n) h ∙ sym (kept-enough n other)
 
 pub alike-unfinished : (line other s : List ℕ) → Alike line other → Alike (unfinished line s) (unfinished other s)
 unfolding unfinished
@@ -114,9 +114,9 @@ alike-unfinished line other (b ∷ s) h = by (eqb b 10) (alike-unfinished (line 
 
 -- ---- replies
 module _ (basis : Basis) where
-  pub reply-alone : (n : ℕ) (line : List ℕ) → replies basis n (line ∷ []) ≡ replyTo basis n (lineOf line)
+  pub reply-alone : (n : ℕ) (line : List ℕ) → replies basis n (line ∷ []) ≡ replyTo basis (lineOf n line)
   unfolding replies
-  reply-alone n line = append-nil (replyTo basis n (lineOf line))
+  reply-alone n line = append-nil (replyTo basis (lineOf n line))
 
   pub no-replies : (n : ℕ) → replies basis n [] ≡ []
   unfolding replies
@@ -127,7 +127,7 @@ module _ (basis : Basis) where
   replies-parts n [] ms = let e : n ≡ n + 0 = omega arith in ap (λ k. replies basis k ms) e
   replies-parts n (l ∷ ls) ms =
       let e : suc n + length ls ≡ n + suc (length ls) = omega arith in
-      let reply = replyTo basis n (lineOf l) in
+      let reply = replyTo basis (lineOf n l) in
       let rest = replies-parts (suc n) ls ms ∙ ap (λ k. replies basis (suc n) ls ++ replies basis k ms) e in
       ap (λ r. reply ++ r) rest ∙ sym (append-assoc reply (replies basis (suc n) ls) (replies basis (n + suc (length ls)) ms))
 
@@ -138,7 +138,7 @@ module _ (basis : Basis) where
     where
       by : (u : Bool) → replies basis n (ended (line ++ b ∷ []) s) ≡ replies basis n (ended (other ++ b ∷ []) s) →
           replies basis n (cond u (line ∷ ended [] s) (ended (line ++ b ∷ []) s)) ≡ replies basis n (cond u (other ∷ ended [] s) (ended (other ++ b ∷ []) s))
-      by true k = ap (λ x. replyTo basis n x ++ replies basis (suc n) (ended [] s)) (alike-read line other h)
+      by true k = ap (λ x. replyTo basis x ++ replies basis (suc n) (ended [] s)) (alike-read n line other h)
       by false k = k
 
   pub alike-last : (n : ℕ) (line other : List ℕ) → Alike line other → replies basis n (lastLine line) ≡ replies basis n (lastLine other)
@@ -147,7 +147,7 @@ module _ (basis : Basis) where
   alike-last n (x ∷ line) [] h = let e = ap length h in absurd (omega arith)
   alike-last n (x ∷ line) (y ∷ other) h =
       let r : replies basis n ((x ∷ line) ∷ []) ≡ replies basis n ((y ∷ other) ∷ []) =
-      reply-alone n (x ∷ line) ∙ ap (replyTo basis n) (alike-read (x ∷ line) (y ∷ other) h) ∙ sym (reply-alone n (y ∷ other)) in
+      reply-alone n (x ∷ line) ∙ ap (replyTo basis) (alike-read n (x ∷ line) (y ∷ other) h) ∙ sym (reply-alone n (y ∷ other)) in
       rw (ne-eqb (length (x ∷ line)) 0 (λ z. omega arith), ne-eqb (length (y ∷ other)) 0 (λ z. omega arith)) r
 
 -- ---- what a part leaves: the first 16 bytes of its last line, and how many lines are complete

@@ -48,7 +48,7 @@ module _ (s : Pending) (b : ℕ) where
 
 module _ (basis : Basis) (n : ℕ) (line : List ℕ) (b : ℕ) (out : List ℕ) (at : ℕ) where
   -- the line is answered
-  pub put-ended : b ≡ 10 → {after : List ℕ} {r : ℕ} → Put out at (replyTo basis n (lineOf line)) after r →
+  pub put-ended : b ≡ 10 → {after : List ℕ} {r : ℕ} → Put out at (replyTo basis (lineOf n line)) after r →
       Put out at (replies basis n (ended line (b ∷ []))) after r
   put-ended e {after} {r} p = being (sym (ap (replies basis n) (ended-one line b e) ∙ reply-alone basis n line)) refl p
 

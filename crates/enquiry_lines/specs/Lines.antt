@@ -5,10 +5,9 @@ use mathlib.Core.List.{List, [], _∷_, _++_}
 use lib.Dec.{eqb}
 use lib.ListN.{length}
 use Rattle.basis.specs.Basis.{Basis}
-use Rattle.basis.specs.Outcome.{refusal}
+use Rattle.basis.specs.Outcome.{Outcome, value, refused}
+use Rattle.model_points.specs.declared.Question.{Question}
 use Rattle.model_points.specs.Point.{pointOf}
-use Rattle.enquiry_text.specs.declared.Line.{Line}
-use Rattle.enquiry_text.specs.declared.Line.the-variants.{Enquiry, Malformed}
 use Rattle.enquiry_text.specs.Line.{lineOf}
 use Rattle.reply_text.specs.Reply.{replyOf, refusalLine}
 
@@ -31,12 +30,12 @@ unfoldable pub linesOf : List ℕ → List (List ℕ)
 linesOf text = ended [] text ++ lastLine (unfinished [] text)
 
 -- ---- replies
--- to a line by its number
-abbrev pub replyTo : Basis → ℕ → Line → List ℕ
-replyTo b number (Enquiry q) = replyOf q (pointOf b q)
-replyTo b number Malformed = refusalLine (refusal 12 number 0)
+-- to what a line says
+abbrev pub replyTo : Basis → Outcome Question → List ℕ
+replyTo b (value q) = replyOf q (pointOf b q)
+replyTo b (refused r) = refusalLine r
 
 -- to lines, the first of which has a number
 unfoldable pub replies : Basis → ℕ → List (List ℕ) → List ℕ
 replies b number [] = []
-replies b number (l ∷ ls) = replyTo b number (lineOf l) ++ replies b (suc number) ls
+replies b number (l ∷ ls) = replyTo b (lineOf number l) ++ replies b (suc number) ls

@@ -30,7 +30,7 @@ fn put_line(
     requires { ⌜ Workable (now run) (now history) ⌝ }
     requires { ⌜ Workings (basisWith (now run) (now history)) (now workings) ⌝ }
     requires { ⌜ at + 192 ≤ length (now out) ⌝ }
-    ensures { λ r. ⌜ Put (now (out .entry)) at (replyTo (basisWith (now (run .entry)) (now (history .entry))) number (lineOf (now (text .entry)))) (now (out .exit)) r ⌝ }
+    ensures { λ r. ⌜ Put (now (out .entry)) at (replyTo (basisWith (now (run .entry)) (now (history .entry))) (lineOf number (now (text .entry)))) (now (out .exit)) r ⌝ }
     ensures { λ r. ⌜ r ≤ at + 192 ⌝ }
 {
     match parse::parse_line(text) {

@@ -9,15 +9,14 @@ use lib.Dec.{ltb}
 use lib.ListN.{length, getD}
 use borrow.Author.Tests.{ne-eqb, lt-ltb, le-ltb, ltb-true, ltb-false}
 use Rattle.arithmetic.specs.Fraction.{U}
+use Rattle.basis.specs.Outcome.{value}
 use Rattle.model_points.specs.declared.Question.{Question}
 use Rattle.reply_text.specs.Ascii.{ascii}
 use Rattle.reply_text.specs.Decimal.{digits, placesFrom, digitsOf, decimalOf}
 use Rattle.reply_text.specs.Reply.{questionText}
 use Rattle.reply_text.proofs.Numerals.{ten, digits-length, places-exact, places-hold, no-leading-zero}
-use Rattle.enquiry_text.specs.Line.{wordsFrom, digitsFrom, isPadded, numberOf, lineOf}
+use Rattle.enquiry_text.specs.Line.{numeral, wordsFrom, digitsFrom, isPadded, numberOf, lineOf}
 use Rattle.enquiry_text.specs.Said.{FourDigits}
-use Rattle.enquiry_text.specs.declared.Word.the-variants.{Number}
-use Rattle.enquiry_text.specs.declared.Line.the-variants.{Enquiry}
 use Rattle.enquiry_text.proofs.Words.{three, line-is}
 
 -- ---- what digits read as, after those of a
@@ -35,7 +34,7 @@ digits-read a (suc k) n s h =
     let tens = ap (λ m. digitsFrom (m + n) s) (sym (mul-assoc 10 (ten k) a)) in
     rw append-assoc (first ∙ last-digit (ten k * a) n s ∙ tens)
 
-digits-value : (a k n : ℕ) → n < ten k → digitsFrom a (digits k n) ≡ Number (ten k * a + n)
+digits-value : (a k n : ℕ) → n < ten k → digitsFrom a (digits k n) ≡ numeral (ten k * a + n)
 unfolding digitsFrom
 digits-value a k n h = ap (digitsFrom a) (sym (append-nil (digits k n))) ∙ digits-read a k n [] h
 
@@ -83,19 +82,19 @@ unpadded (suc j) n lo hi =
     let first = no-leading-zero (suc j) n (lo (omega arith)) hi in
     simp (le-ltb (length (digits (suc (suc j)) n)) 2 (omega arith), ne-eqb (getD (digits (suc (suc j)) n) 0 0) 48 first)
 
-sized : (n k : ℕ) → k < 4 → (0 < k → ten k ≤ n) → n < ten (suc k) → numberOf (digitsOf n) ≡ Number n
+sized : (n k : ℕ) → k < 4 → (0 < k → ten k ≤ n) → n < ten (suc k) → numberOf (digitsOf n) ≡ numeral n
 unfolding digitsOf numberOf
 sized n k l lo hi =
     let z = digits-length (suc k) n in
     let v : ten (suc k) * 0 + n ≡ n = omega arith in
     let size = length (digits (suc k) n) in
     rw (places-exact 19 k n (omega arith) lo hi, ne-eqb size 0 (λ e. omega arith), le-ltb 4 size (omega arith), unpadded k n lo hi)
-    (digits-value 0 (suc k) n hi ∙ ap Number v)
+    (digits-value 0 (suc k) n hi ∙ ap numeral v)
 
-number-back : (n : ℕ) → n < 10000 → numberOf (digitsOf n) ≡ Number n
+number-back : (n : ℕ) → n < 10000 → numberOf (digitsOf n) ≡ numeral n
 number-back n h = by (ltb n 10) (ltb n 100) (ltb n 1000) refl refl refl
   where
-    by : (t u v : Bool) → ltb n 10 ≡ t → ltb n 100 ≡ u → ltb n 1000 ≡ v → numberOf (digitsOf n) ≡ Number n
+    by : (t u v : Bool) → ltb n 10 ≡ t → ltb n 100 ≡ u → ltb n 1000 ≡ v → numberOf (digitsOf n) ≡ numeral n
     by true u v e f g = sized n 0 (omega arith) (λ z. omega arith) (omega (arith, ltb-true n 10 e))
     by false true v e f g = sized n 1 (omega arith) (λ z. omega (arith, ltb-false n 10 e)) (omega (arith, ltb-true n 100 f))
     by false false true e f g = sized n 2 (omega arith) (λ z. omega (arith, ltb-false n 100 f)) (omega (arith, ltb-true n 1000 g))
@@ -106,9 +105,9 @@ three-words : (a d y : List ℕ) → AllDigits a → AllDigits d → AllDigits y
 three-words a d y h i j = first-word [] a (d ++ 32 ∷ y) h ∙ ap (λ ws. a ∷ ws) (first-word [] d y i ∙ ap (λ ws. d ∷ ws) (last-word [] y j))
 
 -- A question that is printed reads back.
-pub question-back : (q : Question) → FourDigits q → lineOf (questionText q) ≡ Enquiry q
+pub question-back : (number : ℕ) (q : Question) → FourDigits q → lineOf number (questionText q) ≡ value q
 unfolding questionText digitsOf
-question-back q s =
+question-back number q s =
     let a = digitsOf (q .age) in
     let d = digitsOf (q .deferment) in
     let y = digitsOf (q .year) in
@@ -117,20 +116,20 @@ question-back q s =
     let x = number-back (q .age) (s .age) in
     let y = number-back (q .deferment) (s .deferment) in
     let z = number-back (q .year) (s .year) in
-    sym (line-is (questionText q)) ∙ ap three words ∙ rw (x, y, z) refl
+    sym (line-is number (questionText q)) ∙ ap (three number) words ∙ rw (x, y, z) refl
 
 -- Every number of 64 bits reads back.
-pub digits-back : (n : ℕ) → n < 18446744073709551616 → digitsFrom 0 (digitsOf n) ≡ Number n
+pub digits-back : (n : ℕ) → n < 18446744073709551616 → digitsFrom 0 (digitsOf n) ≡ numeral n
 unfolding digitsFrom
 digits-back n h = ap (digitsFrom 0) (sym (append-nil (digitsOf n))) ∙ digits-of-read n [] h
 
 -- ---- a result: whole units, a point, and nine decimals
 pub record NineDecimals (v : ℕ) (whole decimals : List ℕ) : Type 0 where
   pub text : decimalOf v ≡ whole ++ ascii "." ++ decimals
-  pub units : digitsFrom 0 whole ≡ Number (v / U)
+  pub units : digitsFrom 0 whole ≡ numeral (v / U)
   pub nine : length decimals ≡ 9
-  pub parts : digitsFrom 0 decimals ≡ Number (v % U)
-  pub pointless : digitsFrom 0 (whole ++ decimals) ≡ Number v
+  pub parts : digitsFrom 0 decimals ≡ numeral (v % U)
+  pub pointless : digitsFrom 0 (whole ++ decimals) ≡ numeral v
 
 -- A result's digits without the point are the result, and nine of them stand behind the point.
 pub decimal-back : (v : ℕ) → v < 18446744073709551616 → NineDecimals v (digitsOf (v / U)) (digits 9 (v % U))
@@ -139,7 +138,7 @@ decimal-back v h = record {
   text = refl;
   units = digits-back (v / U) (omega arith);
   nine = digits-length 9 (v % U);
-  parts = digits-value 0 9 (v % U) (omega arith) ∙ ap Number (omega arith);
+  parts = digits-value 0 9 (v % U) (omega arith) ∙ ap numeral (omega arith);
   pointless =
-      digits-of-read (v / U) (digits 9 (v % U)) (omega arith) ∙ digits-value (v / U) 9 (v % U) (omega arith) ∙ ap Number (omega arith);
+      digits-of-read (v / U) (digits 9 (v % U)) (omega arith) ∙ digits-value (v / U) 9 (v % U) (omega arith) ∙ ap numeral (omega arith);
 }

@@ -2,3 +2,4 @@ mod Words
 pub mod Back
 pub mod Printed
 pub mod Says
+pub mod Numbered

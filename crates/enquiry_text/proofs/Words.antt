@@ -9,10 +9,9 @@ use lib.Dec.{ltb, eqb}
 use lib.ListN.{length, getD, take, drop, length-drop, drop-of-length-le}
 use lib.Seq.{drop-cons, take-suc, take-all}
 use borrow.Author.Tests.{eq-eqb, ne-eqb, lt-ltb, le-ltb}
-use Rattle.enquiry_text.specs.Line.{wordsFrom, digitsFrom, numberOf, enquiryOf, lineOf}
-use Rattle.enquiry_text.specs.declared.Word.the-variants.{Number, Other}
-use Rattle.enquiry_text.specs.declared.Line.{Line}
-use Rattle.enquiry_text.specs.declared.Line.the-variants.{Malformed}
+use Rattle.basis.specs.Outcome.{Outcome}
+use Rattle.model_points.specs.declared.Question.{Question}
+use Rattle.enquiry_text.specs.Line.{numeral, other, wordsFrom, digitsFrom, numberOf, malformed, enquiryOf, lineOf}
 
 -- ---- the first word, of which i bytes are passed: a space, another byte, or the end
 module _ (s : List ℕ) (i : ℕ) where
@@ -30,11 +29,11 @@ module _ (s : List ℕ) (i : ℕ) where
 
 -- ---- digits
 module _ (v : ℕ) (w : List ℕ) (i : ℕ) where
-  pub digit-low : i < length w → getD w i 0 < 48 → digitsFrom v (drop i w) ≡ Other
+  pub digit-low : i < length w → getD w i 0 < 48 → digitsFrom v (drop i w) ≡ other
   unfolding digitsFrom
   digit-low h e = rw (drop-cons w i 0) (simp (lt-ltb _ _ e))
 
-  pub digit-high : i < length w → 48 ≤ getD w i 0 → 57 < getD w i 0 → digitsFrom v (drop i w) ≡ Other
+  pub digit-high : i < length w → 48 ≤ getD w i 0 → 57 < getD w i 0 → digitsFrom v (drop i w) ≡ other
   unfolding digitsFrom
   digit-high h e f = rw (drop-cons w i 0) (simp (le-ltb _ _ e, lt-ltb _ _ f))
 
@@ -42,7 +41,7 @@ module _ (v : ℕ) (w : List ℕ) (i : ℕ) where
   unfolding digitsFrom
   digit-next h e f = rw (drop-cons w i 0) (simp (le-ltb _ _ e, le-ltb _ _ f))
 
-  pub digits-end : length w ≤ i → digitsFrom v (drop i w) ≡ Number v
+  pub digits-end : length w ≤ i → digitsFrom v (drop i w) ≡ numeral v
   unfolding digitsFrom
   digits-end h = rw (drop-of-length-le w {i = i} h) refl
 
@@ -79,12 +78,12 @@ module _ (s : List ℕ) (r : ℕ) (e : First s r) where
       e ∙ ap (λ b. take r s ∷ cond b (wordsFrom [] (drop (r + 1) s)) []) (le-ltb r (length s) (omega arith)) ∙ ap (λ w. w ∷ []) whole
 
 -- ---- a line by its words: one, two, three, more
-abbrev pub three : List (List ℕ) → Line
-three w = cond (eqb (length w) 3) (enquiryOf (numberOf (getD w 0 [])) (numberOf (getD w 1 [])) (numberOf (getD w 2 []))) Malformed
+abbrev pub three : ℕ → List (List ℕ) → Outcome Question
+three number w = cond (eqb (length w) 3) (enquiryOf number (numberOf (getD w 0 [])) (numberOf (getD w 1 [])) (numberOf (getD w 2 []))) (malformed number)
 
-pub line-is : (s : List ℕ) → three (wordsFrom [] s) ≡ lineOf s
+pub line-is : (number : ℕ) (s : List ℕ) → three number (wordsFrom [] s) ≡ lineOf number s
 unfolding lineOf
-line-is s = refl
+line-is number s = refl
 
 pub words-some : (w s : List ℕ) → 1 ≤ length (wordsFrom w s)
 unfolding wordsFrom
@@ -96,28 +95,28 @@ words-some w (b ∷ s) = by (eqb b 32) (words-some [] s) (words-some (w ++ b ∷
     by true h k = omega arith
     by false h k = k
 
-many : (a d y s : List ℕ) → three (a ∷ d ∷ y ∷ wordsFrom [] s) ≡ Malformed
-many a d y s = let h = words-some [] s in simp (ne-eqb (length (a ∷ d ∷ y ∷ wordsFrom [] s)) 3 (λ z. omega arith))
+many : (number : ℕ) (a d y s : List ℕ) → three number (a ∷ d ∷ y ∷ wordsFrom [] s) ≡ malformed number
+many number a d y s = let h = words-some [] s in simp (ne-eqb (length (a ∷ d ∷ y ∷ wordsFrom [] s)) 3 (λ z. omega arith))
 
-module _ (s : List ℕ) (a : ℕ) (e : First s a) where
-  pub one-word : a ≡ length s → Malformed ≡ lineOf s
-  one-word f = sym (ap three (alone s a e f)) ∙ line-is s
+module _ (number : ℕ) (s : List ℕ) (a : ℕ) (e : First s a) where
+  pub one-word : a ≡ length s → malformed number ≡ lineOf number s
+  one-word f = sym (ap (three number) (alone s a e f)) ∙ line-is number s
 
   module _ (l : a < length s) (d : ℕ) (g : First (rest s a) d) where
-    pub two-words : d ≡ length (rest s a) → Malformed ≡ lineOf s
-    two-words f = sym (ap three (more s a e l ∙ ap (λ ws. take a s ∷ ws) (alone (rest s a) d g f))) ∙ line-is s
+    pub two-words : d ≡ length (rest s a) → malformed number ≡ lineOf number s
+    two-words f = sym (ap (three number) (more s a e l ∙ ap (λ ws. take a s ∷ ws) (alone (rest s a) d g f))) ∙ line-is number s
 
     module _ (m : d < length (rest s a)) (y : ℕ) (h : First (rest (rest s a) d) y) where
       after-two : wordsFrom [] s ≡ take a s ∷ take d (rest s a) ∷ wordsFrom [] (rest (rest s a) d)
       after-two = more s a e l ∙ ap (λ ws. take a s ∷ ws) (more (rest s a) d g m)
 
-      behind : {ws : List (List ℕ)} → wordsFrom [] (rest (rest s a) d) ≡ ws → three (take a s ∷ take d (rest s a) ∷ ws) ≡ lineOf s
-      behind {ws} f = sym (ap three (after-two ∙ ap (λ ws. take a s ∷ take d (rest s a) ∷ ws) f)) ∙ line-is s
+      behind : {ws : List (List ℕ)} → wordsFrom [] (rest (rest s a) d) ≡ ws → three number (take a s ∷ take d (rest s a) ∷ ws) ≡ lineOf number s
+      behind {ws} f = sym (ap (three number) (after-two ∙ ap (λ ws. take a s ∷ take d (rest s a) ∷ ws) f)) ∙ line-is number s
 
-      pub four-words : y < length (rest (rest s a) d) → Malformed ≡ lineOf s
+      pub four-words : y < length (rest (rest s a) d) → malformed number ≡ lineOf number s
       four-words f =
-          sym (many (take a s) (take d (rest s a)) (take y (rest (rest s a) d)) (rest (rest (rest s a) d) y)) ∙ behind (more (rest (rest s a) d) y h f)
+          sym (many number (take a s) (take d (rest s a)) (take y (rest (rest s a) d)) (rest (rest (rest s a) d) y)) ∙ behind (more (rest (rest s a) d) y h f)
 
       pub three-words : y ≡ length (rest (rest s a) d) →
-          enquiryOf (numberOf (take a s)) (numberOf (take d (rest s a))) (numberOf (rest (rest s a) d)) ≡ lineOf s
+          enquiryOf number (numberOf (take a s)) (numberOf (take d (rest s a))) (numberOf (rest (rest s a) d)) ≡ lineOf number s
       three-words f = behind (alone (rest (rest s a) d) y h f)

@@ -1,19 +1,12 @@
--- What a line says, in the paper's words and numbers for every case of its reading (01, refusal 12).
+-- What a line says, in the paper's words (01, refusal 12).
 use Prim.Native.Nat.{ℕ, _<_}
 use mathlib.Core.Path.{_≡_}
 use mathlib.Core.List.{List}
 use Rattle.basis.specs.declared.Refusal.{Refusal}
-use Rattle.basis.specs.Outcome.{Outcome, value, refused, refusal}
+use Rattle.basis.specs.Outcome.{value, refused, refusal}
 use Rattle.model_points.specs.declared.Question.{Question}
 use Rattle.reply_text.specs.Reply.{questionText}
-use Rattle.enquiry_text.specs.declared.Line.{Line}
-use Rattle.enquiry_text.specs.declared.Line.the-variants.{Enquiry, Malformed}
 use Rattle.enquiry_text.specs.Line.{lineOf}
-
--- each case: the question, or 12 with the line, counted from 1, and 0
-abbrev pub lineMeaning : ℕ → Line → Outcome Question
-lineMeaning number (Enquiry q) = value q
-lineMeaning number Malformed = refused (refusal 12 number 0)
 
 -- numbers of 1 to 4 digits
 pub record FourDigits (q : Question) : Type 0 where
@@ -21,9 +14,9 @@ pub record FourDigits (q : Question) : Type 0 where
   pub deferment : q .deferment < 10000
   pub year : q .year < 10000
 
--- ---- a line asks a question exactly if it is its three numbers, single spaces between; any other is refused by 12
+-- ---- a line asks a question exactly if it is its three numbers, single spaces between; any other is refused by 12 with the line and 0
 pub record LineSays : Type 0 where
-  pub asked : (number : ℕ) (q : Question) → FourDigits q → lineMeaning number (lineOf (questionText q)) ≡ value q
-  pub text : (number : ℕ) (text : List ℕ) (q : Question) → lineMeaning number (lineOf text) ≡ value q → text ≡ questionText q
-  pub digits : (number : ℕ) (text : List ℕ) (q : Question) → lineMeaning number (lineOf text) ≡ value q → FourDigits q
-  pub otherwise : (number : ℕ) (text : List ℕ) (r : Refusal) → lineMeaning number (lineOf text) ≡ refused r → r ≡ refusal 12 number 0
+  pub asked : (number : ℕ) (q : Question) → FourDigits q → lineOf number (questionText q) ≡ value q
+  pub text : (number : ℕ) (text : List ℕ) (q : Question) → lineOf number text ≡ value q → text ≡ questionText q
+  pub digits : (number : ℕ) (text : List ℕ) (q : Question) → lineOf number text ≡ value q → FourDigits q
+  pub otherwise : (number : ℕ) (text : List ℕ) (r : Refusal) → lineOf number text ≡ refused r → r ≡ refusal 12 number 0

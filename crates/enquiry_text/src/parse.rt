@@ -2,17 +2,18 @@
 ghost use mathlib.Core.Path.{_≡_};
 ghost use mathlib.Core.Bool.{cond};
 ghost use mathlib.Core.List.{[], _∷_};
-ghost use Prim.Native.Nat.{_+_, _≤_};
+ghost use Prim.Native.Nat.{ℕ, _+_, _≤_};
 ghost use lib.Dec.{ltb};
 ghost use lib.ListN.{length, take, drop};
 ghost use Rattle.enquiry_text.specs.Line.{wordsFrom, digitsFrom, isPadded, numberOf, enquiryOf, lineOf};
+ghost use Rattle.enquiry_text.specs.Meaning.{wordMeaning, lineMeaning};
 use crate::Line;
 use crate::Word;
 use model_points::Question;
 
 // The enquiry that a line of bytes is, its byte 10 not among them.
 pub fn parse_line(text: &[u8]) -> Line
-    ensures { λ r. ⌜ r ≡ lineOf (now (text .entry)) ⌝ }
+    ensures { λ r. ⌜ ((number : ℕ) → lineMeaning number r ≡ lineOf number (now (text .entry))) ⌝ }
 {
     let a = first_space(text);
     if a == text.len() {
@@ -35,7 +36,7 @@ pub fn parse_line(text: &[u8]) -> Line
 }
 
 fn enquiry(a: Word, d: Word, y: Word) -> Line
-    ensures { λ r. ⌜ r ≡ enquiryOf a d y ⌝ }
+    ensures { λ r. ⌜ ((number : ℕ) → lineMeaning number r ≡ enquiryOf number (wordMeaning a) (wordMeaning d) (wordMeaning y)) ⌝ }
 {
     match a {
         Word::Number(age) => match d {
@@ -69,7 +70,7 @@ fn first_space(s: &[u8]) -> usize
 }
 
 fn number(word: &[u8]) -> Word
-    ensures { λ r. ⌜ r ≡ numberOf (now (word .entry)) ⌝ }
+    ensures { λ r. ⌜ wordMeaning r ≡ numberOf (now (word .entry)) ⌝ }
 {
     let n = word.len();
     if n == 0 {
@@ -97,7 +98,7 @@ fn is_padded(word: &[u8]) -> bool
 // The number that up to four digits spell.
 fn value_of(word: &[u8]) -> Word
     requires { ⌜ length (now word) ≤ 4 ⌝ }
-    ensures { λ r. ⌜ r ≡ digitsFrom 0 (now (word .entry)) ⌝ }
+    ensures { λ r. ⌜ wordMeaning r ≡ digitsFrom 0 (now (word .entry)) ⌝ }
 {
     let mut value: u32 = 0;
     let mut i = 0;

@@ -39,7 +39,7 @@ use Rattle.lifeline.proofs.Numbered.{standing-numbered}
 use Rattle.engine.specs.Enquiry.{refusalOf, answerOf, signedAnswerOf}
 use Rattle.engine.specs.Lifelines.{stepRefusal}
 use Rattle.reply_text.specs.Reply.{replyOf}
-use Rattle.enquiry_lines.proofs.Numbered.{malformed-numbered}
+use Rattle.enquiry_text.proofs.Numbered.{line-numbered}
 use Rattle.refusals.specs.Numbered.{workText, NumberedRefusals, ZeroIsNone}
 use Rattle.refusals.proofs.Work.{year-numbered, survivors-numbered, expectation-numbered, annuity-numbered, work-numbered}
 
@@ -112,7 +112,7 @@ numbered-refusals run history =
       start = start-numbered run history;
       step = step-numbered run history;
       files = λ file. first-by (file-numbered file) (history-numbered (basisOf (runIn file)) history);
-      line = malformed-numbered b;
+      line = line-numbered;
     }
 
 -- ---- number 0

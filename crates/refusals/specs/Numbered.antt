@@ -30,8 +30,7 @@ use Rattle.engine.specs.Enquiry.{refusalOf, answerOf, signedAnswerOf, readCheck
 use Rattle.engine.specs.Lifelines.{stepRefusal}
 use Rattle.reply_text.specs.Ascii.{ascii}
 use Rattle.reply_text.specs.Reply.{questionText, resultsText, refusalLine, replyOf}
-use Rattle.enquiry_text.specs.declared.Line.the-variants.{Malformed}
-use Rattle.enquiry_lines.specs.Lines.{replyTo}
+use Rattle.enquiry_text.specs.Line.{lineOf}
 use Rattle.enquiry_lines.specs.Output.{filesCheck}
 
 -- the work on a question: its own checks, then the four results
@@ -67,9 +66,9 @@ pub record NumberedRefusals (run history : List ℕ) : Type 0 where
   -- a lifeline's start and step
   pub start : (age year : ℕ) → RefusesBy numbers (startAt run history age year .check)
   pub step : (age year survivors : ℕ) → RefusedBy numbers (stepAt run history age year survivors .says)
-  -- the points program: its files as a whole, and a line that is no enquiry (an enquiry is answered as a point)
+  -- the points program: its files as a whole, and a line (one that is an enquiry is answered as a point)
   pub files : (file : List ℕ) → RefusesBy numbers (filesCheck file history)
-  pub line : (number : ℕ) → (r : Refusal) × (replyTo (basisWith run history) number Malformed ≡ refusalLine r) × Listed numbers (r .number)
+  pub line : (number : ℕ) (text : List ℕ) → RefusedBy numbers (lineOf number text)
 
 -- ---- none has number 0, so that 0 stands for none in whatever is handed out
 -- what is printed of the work on a question

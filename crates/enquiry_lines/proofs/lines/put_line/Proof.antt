@@ -1,6 +1,7 @@
 -- A line that is an enquiry is answered by its point, and any other by refusal 12.
 use mathlib.Core.Path.{ap, sym, _∙_}
 use Rattle.history.specs.History.{basisWith}
+use Rattle.enquiry_text.specs.Meaning.{lineMeaning}
 use Rattle.enquiry_lines.specs.Lines.{replyTo}
 use borrow.Author.Needs.{needs}
 use Rattle.enquiry_lines.proofs.lines.put_line.Statement.{statement}
@@ -31,7 +32,8 @@ returns : tie.Need-returns
 returns c = let q = c .before .before .before .before .before .before in
     let read = q .before .before in
     let s = read .before .before .before .before .before .before .args in
-    let e = ap (replyTo (basisWith (s .run .now) (s .history .now)) (s .number)) (sym (read .parse-line .ensures) ∙ q .q .given .1) in
+    let asked = sym (read .parse-line .ensures (s .number)) ∙ ap (lineMeaning (s .number)) (q .q .given .1) in
+    let e = ap (replyTo (basisWith (s .run .now) (s .history .now))) asked in
     rw (e, ← c .before .before .before .before .point-at .ensures) (c .before .before .put-reply .ensures)
 
 same-length-2 : tie.Need-same-length-2
@@ -41,7 +43,8 @@ returns-2 : tie.Need-returns-2
 returns-2 c = let x = c .before .before .before .before in
     let read = x .before .before in
     let s = read .before .before .before .before .before .before .args in
-    let e = ap (replyTo (basisWith (s .run .now) (s .history .now)) (s .number)) (sym (read .parse-line .ensures) ∙ x .enum-told .given .1) in
+    let malformed = sym (read .parse-line .ensures (s .number)) ∙ ap (lineMeaning (s .number)) (x .enum-told .given .1) in
+    let e = ap (replyTo (basisWith (s .run .now) (s .history .now))) malformed in
     rw e (c .before .before .put-refusal .ensures)
 
 pub put-line-spec : {M : Type 1} → statement M

@@ -23,16 +23,16 @@ enum-told-3 c = search needs
 
 returns : tie.Need-returns
 returns c = let d = c .before .before .before .before in
-    simp (d .before .before .before .a .given .1, d .d .given .1, c .before .y .given .1)
+    λ number. simp (d .before .before .before .a .given .1, d .d .given .1, c .before .y .given .1)
 
 returns-2 : tie.Need-returns-2
-returns-2 c = search needs
+returns-2 c = λ number. search needs
 
 returns-3 : tie.Need-returns-3
-returns-3 c = search needs
+returns-3 c = λ number. search needs
 
 returns-4 : tie.Need-returns-4
-returns-4 c = search needs
+returns-4 c = λ number. search needs
 
 pub enquiry-spec : {M : Type 1} → statement M
 enquiry-spec =

@@ -13,7 +13,7 @@ first-space-requires : tie.Need-first-space-requires
 first-space-requires c κs = search needs
 
 returns : tie.Need-returns
-returns c = one-word _ _ (c .before .first-space .ensures .1) (c .if1 .taken)
+returns c = λ number. one-word number _ _ (c .before .first-space .ensures .1) (c .if1 .taken)
 
 add-rest : tie.Need-add-rest
 add-rest c = search needs
@@ -33,7 +33,7 @@ first-space-requires-2 c κs = search needs
 returns-2 : tie.Need-returns-2
 returns-2 c = let a = c .before .before .before .before in
     let l : a .first-space .result < length (a .before .before .args .text .now) = omega arith in
-    two-words _ _ (a .first-space .ensures .1) l _ (c .before .first-space2 .ensures .1) (c .if2 .taken)
+    λ number. two-words number _ _ (a .first-space .ensures .1) l _ (c .before .first-space2 .ensures .1) (c .if2 .taken)
 
 add-last : tie.Need-add-last
 add-last c = search needs
@@ -56,7 +56,7 @@ returns-3 c = let a = c .before .before .before .before .before .before .before 
     let b = c .before .before .before .before in
     let l : a .first-space .result < length s = omega arith in
     let m : b .first-space2 .result < length (rest s (a .first-space .result)) = omega arith in
-    four-words s _ (a .first-space .ensures .1) l _ (b .first-space2 .ensures .1) m _ (c .before .first-space3 .ensures .1) (c .if3 .taken)
+    λ number. four-words number s _ (a .first-space .ensures .1) l _ (b .first-space2 .ensures .1) m _ (c .before .first-space3 .ensures .1) (c .if3 .taken)
 
 slice-aggregate-number : tie.Need-slice-aggregate-number
 slice-aggregate-number c = let a = c .before .before .before .before .before .before .before .before in
@@ -80,16 +80,16 @@ enquiry-requires : tie.Need-enquiry-requires
 enquiry-requires c κs = search needs
 
 returns-4 : tie.Need-returns-4
-returns-4 c = let d = c .before .before .before .before .before .before .before in
+returns-4 c = λ number. let d = c .before .before .before .before .before .before .before in
     let b = d .before .before .before in
     let a = b .before .before .before in
     let s = a .before .before .args .text .now in
     let l : a .first-space .result < length s = omega arith in
     let m : b .first-space2 .result < length (rest s (a .first-space .result)) = omega arith in
     let f : d .first-space3 .result ≡ length (rest (rest s (a .first-space .result)) (b .first-space2 .result)) = omega arith in
-    let words = three-words s _ (a .first-space .ensures .1) l _ (b .first-space2 .ensures .1) m _ (d .first-space3 .ensures .1) f in
+    let words = three-words number s _ (a .first-space .ensures .1) l _ (b .first-space2 .ensures .1) m _ (d .first-space3 .ensures .1) f in
     let n = c .before .before .before .before in
-    c .enquiry .ensures ∙ rw (n .number .ensures, c .before .before .number2 .ensures, c .before .number3 .ensures) words
+    c .enquiry .ensures number ∙ rw (n .number .ensures, c .before .before .number2 .ensures, c .before .number3 .ensures) words
 
 pub parse-line-spec : {M : Type 1} → statement M
 parse-line-spec =
