@@ -107,7 +107,7 @@ pub record Demand2 (run history : List ℕ) : Type 0 where
   pub oneRounding : OneRounding
   -- the short form is accepted, and differs only in what it may
   pub shortForm : (rate : ℤ) → ShortFormStands run rate
-  -- a lifeline's steps are cohort survivorship; what a step says, for every case of its answer, is in the promise of `step_at` itself
+  -- a lifeline's steps are cohort survivorship, and say what their checks, their age and their year say
   pub lifeline : (age year : ℕ) → IsCohortSurvivorship run history age year
   -- the marked figures of the paper
   pub figures : FiguresHold

@@ -10,7 +10,7 @@ use lib.IntN.{ℤ, pos, natAbs}
 use borrow.Author.Tests.{le-leb, ne-eqb}
 use Rattle.arithmetic.specs.Fraction.{U}
 use Rattle.history.specs.History.{basisWith, basisCheck}
-use Rattle.basis.specs.Outcome.{Verdict, passed, refusedBy, Outcome, value, refused}
+use Rattle.basis.specs.Outcome.{Verdict, passed, refusedBy, Outcome, value, refused, checked, andThen}
 use Rattle.basis.proofs.Outcome.{both-passed, checked-value}
 use Rattle.survivorship.specs.declared.Kind.the-variants.{Cohort}
 use Rattle.question.specs.Question.{ageCheck, defermentCheck, questionCheck}
@@ -107,7 +107,7 @@ module _ (run history : List ℕ) (age year : ℕ) where
           let last = ap (λ (x : Stand). stepFrom run history x .says) (p .1) ∙ ap (λ (x : Step). x .says) went in
           (and-one k (p .0) last, after-suc k _ (p .1) ∙ ap standMoved went ∙ stand-same (omega arith) (omega arith) refl)
 
-  -- ---- both ways round
+  -- ---- both ways round, and what each step says
   pub is-cohort-survivorship : IsCohortSurvivorship run history age year
   unfolding survivorshipEnquiry stepAt lived ageCheck standingYearCheck survivorsCheck standingCheck
   is-cohort-survivorship =
@@ -116,8 +116,16 @@ module _ (run history : List ℕ) (age year : ℕ) where
         survivorshipIsSteps = λ n s h.
             let p = checked-value (valuationCheck run history age n year) (survivorsOf (basisWith run history) Cohort age year n) (pos s) h in
             advances-to n n s (p .0) (let-through n (p .0)) (omega arith) (p .1);
+        says = λ s. says-by s (stepCheck run history age year s) (eqb age 150) (survivorsAfterYear (basisWith run history) age year (pos s));
       }
     where
+      says-by : (s : ℕ) (c : Verdict) (e : Bool) (o : Outcome ℤ) → unlessRefused age year s c (cond e (moved age year s (value ended)) (yearLater age year s o)) .says
+          ≡ checked c (cond e (value ended) (andThen o (λ t. value advanced)))
+      says-by s passed false (value t) = refl
+      says-by s passed false (refused r) = refl
+      says-by s passed true o = refl
+      says-by s (refusedBy r) e o = refl
+
       moves-on : MovesOn
       moves-on age year s h = by (stepCheck run history age year s) (eqb age 150) (survivorsAfterYear (basisWith run history) age year (pos s)) h
         where

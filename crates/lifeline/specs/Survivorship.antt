@@ -1,16 +1,18 @@
 -- What a lifeline is (01: "Each step applies one year of cohort survivorship"): its steps and the enquiries for cohort survivorship give the
--- same numbers, and it stops nowhere before them.
+-- same numbers, it stops nowhere before them, and a refusal of its checks or of its year is what the step says.
 use mathlib.Core.Path.{_≡_}
+use mathlib.Core.Bool.{cond}
 use mathlib.Core.List.{List}
 use Prim.Native.Nat.{ℕ, _+_, _<_}
+use lib.Dec.{eqb}
 use lib.IntN.{pos}
-use Rattle.basis.specs.Outcome.{passed, value}
+use Rattle.basis.specs.Outcome.{passed, value, checked, andThen}
 use Rattle.history.specs.History.{basisWith}
 use Rattle.survivorship.specs.declared.Kind.the-variants.{Cohort}
-use Rattle.survivorship.specs.Survivorship.{survivorsOf}
+use Rattle.survivorship.specs.Survivorship.{survivorsAfterYear, survivorsOf}
 use Rattle.enquiry.specs.Enquiry.{valuationCheck, survivorshipEnquiry}
-use Rattle.lifeline.specs.Said.{advanced}
-use Rattle.lifeline.specs.Lifeline.{standAt, stepFrom, standAfter}
+use Rattle.lifeline.specs.Said.{advanced, ended}
+use Rattle.lifeline.specs.Lifeline.{stepCheck, stepAt, standAt, stepFrom, standAfter}
 
 -- the first n steps from a start have all advanced
 abbrev pub Advances : List ℕ → List ℕ → ℕ → ℕ → ℕ → Type 0
@@ -23,3 +25,7 @@ pub record IsCohortSurvivorship (run history : List ℕ) (age year : ℕ) : Type
   -- an answered survivorship after n years is where the lifeline stands after n steps, all of which advanced
   pub survivorshipIsSteps : (n s : ℕ) → survivorshipEnquiry run history Cohort age n year ≡ value (pos s)
       → Advances run history age year n × (standAfter run history age year n ≡ standAt (age + n) (year + n) s)
+  -- with any survivors: it checks again; then, at age 150, it says ended; else it advances, unless the rate of that year is refused
+  pub says : (survivors : ℕ) → stepAt run history age year survivors .says
+      ≡ checked (stepCheck run history age year survivors)
+      (cond (eqb age 150) (value ended) (andThen (survivorsAfterYear (basisWith run history) age year (pos survivors)) (λ s. value advanced)))
