@@ -11,7 +11,7 @@ use lib.Dec.{eqb}
 use borrow.Author.Tests.{eqb-true}
 use lib.IntN.{ℤ, pos, _+ℤ_}
 use Rattle.basis.specs.declared.Refusal.{Refusal}
-use Rattle.basis.specs.Outcome.{Verdict, passed, refusedBy, Outcome, value, refused, unless, firstOf, checked, andThen, steps, sumOf}
+use Rattle.basis.specs.Outcome.{Finding, passed, refusedBy, Outcome, value, refused, unless, firstOf, checked, andThen, steps, sumOf}
 use Rattle.basis.specs.Refusals.{numbers, recordNumbers, isListed, Listed, RefusesBy, RefusedBy}
 
 module _ {ns : List ℕ} where
@@ -26,14 +26,14 @@ module _ {ns : List ℕ} where
   unless-by true q l = passed-by
   unless-by false q l = refused-by q l
 
-  pub cond-by : (t : Bool) {check other : Verdict} → RefusesBy ns check → RefusesBy ns other → RefusesBy ns (cond t check other)
+  pub cond-by : (t : Bool) {check other : Finding} → RefusesBy ns check → RefusesBy ns other → RefusesBy ns (cond t check other)
   cond-by true p q = p
   cond-by false p q = q
 
-  pub first-by : {first next : Verdict} → RefusesBy ns first → RefusesBy ns next → RefusesBy ns (firstOf first next)
+  pub first-by : {first next : Finding} → RefusesBy ns first → RefusesBy ns next → RefusesBy ns (firstOf first next)
   first-by {first} {next} p q = by first p
     where
-      by : (c : Verdict) → RefusesBy ns c → RefusesBy ns (firstOf c next)
+      by : (c : Finding) → RefusesBy ns c → RefusesBy ns (firstOf c next)
       by passed p = q
       by (refusedBy r) p = p
 
@@ -48,10 +48,10 @@ module _ {ns : List ℕ} where
   work-cond-by true p q = p
   work-cond-by false p q = q
 
-  pub checked-by : {A : Type 0} {check : Verdict} {work : Outcome A} → RefusesBy ns check → RefusedBy ns work → RefusedBy ns (checked check work)
+  pub checked-by : {A : Type 0} {check : Finding} {work : Outcome A} → RefusesBy ns check → RefusedBy ns work → RefusedBy ns (checked check work)
   checked-by {A} {check} {work} p q = by check p
     where
-      by : (c : Verdict) → RefusesBy ns c → RefusedBy ns (checked c work)
+      by : (c : Finding) → RefusesBy ns c → RefusedBy ns (checked c work)
       by passed p = q
       by (refusedBy r) p = work-by r (p .listed r refl)
 
@@ -76,7 +76,7 @@ abbrev pub Among : List ℕ → List ℕ → Type 0
 Among ns ms = (n : ℕ) → Listed ns n → Listed ms n
 
 module _ {ns ms : List ℕ} (among : Among ns ms) where
-  pub check-among : {check : Verdict} → RefusesBy ns check → RefusesBy ms check
+  pub check-among : {check : Finding} → RefusesBy ns check → RefusesBy ms check
   check-among p = record { listed = λ r h. among (r .number) (p .listed r h) }
 
   pub work-among : {A : Type 0} {work : Outcome A} → RefusedBy ns work → RefusedBy ms work

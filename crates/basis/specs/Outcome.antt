@@ -19,22 +19,22 @@ abbrev pub noRefusal : Refusal
 noRefusal = refusal 0 0 0
 
 -- ---- checks
--- what a check comes to: nothing is refused, or there is a refusal
-pub data Verdict : Type 0 where
-  passed : Verdict
-  refusedBy : Refusal → Verdict
+-- what a check finds: nothing to refuse, or a refusal
+pub data Finding : Type 0 where
+  passed : Finding
+  refusedBy : Refusal → Finding
 
 -- what has to hold, and the refusal where it does not
-abbrev pub unless : Bool → Refusal → Verdict
+abbrev pub unless : Bool → Refusal → Finding
 unless ok r = cond ok passed (refusedBy r)
 
 -- whether a check refuses nothing
-abbrev pub passes : Verdict → Bool
+abbrev pub passes : Finding → Bool
 passes passed = true
 passes (refusedBy r) = false
 
 -- the first refusal of two checks
-abbrev pub firstOf : Verdict → Verdict → Verdict
+abbrev pub firstOf : Finding → Finding → Finding
 firstOf passed next = next
 firstOf (refusedBy r) next = refusedBy r
 
@@ -44,7 +44,7 @@ pub data Outcome (A : Type 0) : Type 0 where
   refused : Refusal → Outcome A
 
 -- work that follows a check
-abbrev pub checked : {A : Type 0} → Verdict → Outcome A → Outcome A
+abbrev pub checked : {A : Type 0} → Finding → Outcome A → Outcome A
 checked passed work = work
 checked (refusedBy r) work = refused r
 
@@ -66,9 +66,9 @@ unfoldable pub sumOf : (ℕ → Outcome ℤ) → ℕ → Outcome ℤ
 sumOf term n = steps (addTo term) (pos 0) n
 
 -- ---- what an answer of the engine stands for, in each of its cases
-abbrev pub verdict : Check → Verdict
-verdict check.Passed = passed
-verdict (check.Refused r) = refusedBy r
+abbrev pub finding : Check → Finding
+finding check.Passed = passed
+finding (check.Refused r) = refusedBy r
 
 abbrev pub meaning : Answer → Outcome ℤ
 meaning (answer.Value n) = value (pos n)

@@ -5,7 +5,7 @@ use mathlib.Core.List.{List, [], _∷_}
 use Prim.Native.Nat.{ℕ}
 use lib.Dec.{eqb}
 use Rattle.basis.specs.declared.Refusal.{Refusal}
-use Rattle.basis.specs.Outcome.{Verdict, refusedBy, Outcome, refused}
+use Rattle.basis.specs.Outcome.{Finding, refusedBy, Outcome, refused}
 
 -- ---- the numbers
 -- 1 to 12 are 01's, 13 is that of 02, change 2; a later change adds its number here and nowhere else
@@ -24,7 +24,7 @@ abbrev pub Listed : List ℕ → ℕ → Type 0
 Listed ns n = isListed ns n ≡ true
 
 -- ---- what refuses by numbers of a list, and by no others
-pub record RefusesBy (ns : List ℕ) (check : Verdict) : Type 0 where
+pub record RefusesBy (ns : List ℕ) (check : Finding) : Type 0 where
   pub listed : (r : Refusal) → check ≡ refusedBy r → Listed ns (r .number)
 
 pub record RefusedBy {A : Type 0} (ns : List ℕ) (work : Outcome A) : Type 0 where

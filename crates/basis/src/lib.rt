@@ -2,7 +2,7 @@
 pub mod fields;
 
 ghost use mathlib.Core.Path.{_≡_};
-ghost use Rattle.basis.specs.Outcome.{firstOf, verdict};
+ghost use Rattle.basis.specs.Outcome.{firstOf, finding};
 
 // A refusal: its number and its two places (01, "Who can cause a refusal").
 #[repr(C)]
@@ -41,7 +41,7 @@ pub struct Convergence {
 
 // The first refusal of two checks.
 pub fn first_of(first: Check, next: Check) -> Check
-    ensures { λ r. ⌜ verdict r ≡ firstOf (verdict first) (verdict next) ⌝ }
+    ensures { λ r. ⌜ finding r ≡ firstOf (finding first) (finding next) ⌝ }
 {
     match first {
         Check::Passed => next,

@@ -6,7 +6,7 @@ use native.Mathlib.Omega.{arith}
 use lib.ListN.{length, take, drop, length-take, length-drop, length-append}
 use borrow.Author.Tests.{eqb-true, eq-eqb, ne-eqb}
 use Rattle.basis.specs.declared.Refusal.{Refusal}
-use Rattle.basis.specs.Outcome.{Verdict, passed, refusedBy, refusal, firstOf}
+use Rattle.basis.specs.Outcome.{Finding, passed, refusedBy, refusal, firstOf}
 use Rattle.run_check.specs.Run.{runCheck}
 use Rattle.basis.proofs.Outcome.{unless-passed, both-passed, first-stands, first-passed, first-together}
 use Rattle.run_check.proofs.Acceptance.{accepted}
@@ -61,7 +61,7 @@ pub accepted-run : (run : List ℕ) → runCheck run ≡ passed → length run �
 accepted-run run h = accepted run h .size
 
 -- ---- reading: the room and the outer check, then the run's own
-module _ (file out : List ℕ) (outer : Verdict) (e : outer ≡ firstOf (roomCheck 4554 out) (outerCheck file)) where
+module _ (file out : List ℕ) (outer : Finding) (e : outer ≡ firstOf (roomCheck 4554 out) (outerCheck file)) where
   then-run : firstOf outer (runCheck (runIn file)) ≡ firstOf (roomCheck 4554 out) (fileCheck file)
   unfolding fileCheck
   then-run = rw e (first-together (roomCheck 4554 out) (outerCheck file) (runCheck (runIn file)))

@@ -3,7 +3,7 @@ use Prim.Native.Nat.{ℕ}
 use mathlib.Core.List.{List}
 use lib.ListN.{length}
 use lib.Dec.{eqb}
-use Rattle.basis.specs.Outcome.{Verdict, refusal, unless, firstOf}
+use Rattle.basis.specs.Outcome.{Finding, refusal, unless, firstOf}
 use Rattle.run_check.specs.Run.{runCheck}
 use Rattle.block.specs.Blocks.{partsOf, blocksOf, blocksCheck}
 
@@ -17,13 +17,13 @@ fileOf run = blocksOf 0 9 run
 
 -- ---- the check
 -- the nine blocks, ascending from 0 (2, 3)
-abbrev pub nineCheck : List ℕ → Verdict
+abbrev pub nineCheck : List ℕ → Finding
 nineCheck file = blocksCheck 0 9 file
 
 -- not 4,608 bytes (1), then the nine blocks
-unfoldable pub outerCheck : List ℕ → Verdict
+unfoldable pub outerCheck : List ℕ → Finding
 outerCheck file = firstOf (unless (eqb (length file) 4608) (refusal 1 0 0)) (nineCheck file)
 
 -- then the data run (4, 5)
-unfoldable pub fileCheck : List ℕ → Verdict
+unfoldable pub fileCheck : List ℕ → Finding
 fileCheck file = firstOf (outerCheck file) (runCheck (runIn file))

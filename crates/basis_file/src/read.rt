@@ -1,7 +1,7 @@
 // Reading: the data run of a basis file, given out only when nothing refuses the file.
 ghost use mathlib.Core.Path.{_≡_};
 ghost use lib.ListN.{length};
-ghost use Rattle.basis.specs.Outcome.{firstOf, verdict};
+ghost use Rattle.basis.specs.Outcome.{firstOf, finding};
 ghost use Rattle.lent.specs.Lent.{roomCheck, written};
 ghost use Rattle.basis_file.specs.File.{runIn, nineCheck, outerCheck, fileCheck};
 use basis::Check;
@@ -10,14 +10,14 @@ use basis::Refusal;
 // The nine blocks, ascending.
 fn check_nine(file: &[u8]) -> Check
     requires { ⌜ length (now file) ≡ 4608 ⌝ }
-    ensures { λ r. ⌜ verdict r ≡ nineCheck (now (file .entry)) ⌝ }
+    ensures { λ r. ⌜ finding r ≡ nineCheck (now (file .entry)) ⌝ }
 {
     block::check_blocks(file, 9)
 }
 
 // The length, then the blocks.
 fn check_outer(file: &[u8]) -> Check
-    ensures { λ r. ⌜ verdict r ≡ outerCheck (now (file .entry)) ⌝ }
+    ensures { λ r. ⌜ finding r ≡ outerCheck (now (file .entry)) ⌝ }
 {
     if file.len() != 4608 {
         return Check::Refused(Refusal {
@@ -45,8 +45,8 @@ fn join_parts(file: &[u8], run: &mut [u8])
 // The data run of an accepted file, into the front of `run`. It is joined in an array of its own first, since the check
 // goes over one stretch, and a refused file leaves the output alone.
 pub fn read_file(file: &[u8], run: &mut [u8]) -> Check
-    ensures { λ r. ⌜ verdict r ≡ firstOf (roomCheck 4554 (now (run .entry))) (fileCheck (now (file .entry))) ⌝ }
-    ensures { λ r. ⌜ now (run .exit) ≡ written (verdict r) (runIn (now (file .entry))) (now (run .entry)) ⌝ }
+    ensures { λ r. ⌜ finding r ≡ firstOf (roomCheck 4554 (now (run .entry))) (fileCheck (now (file .entry))) ⌝ }
+    ensures { λ r. ⌜ now (run .exit) ≡ written (finding r) (runIn (now (file .entry))) (now (run .entry)) ⌝ }
 {
     let outer = basis::first_of(lent::check_room(4554, run.len()), check_outer(file));
     if let Check::Refused(_) = outer {

@@ -6,7 +6,7 @@ use native.Mathlib.Omega.{arith}
 use native.Mathlib.Nat.{add-sub-cancel-left}
 use lib.ListN.{length, take, drop, length-take, length-drop, length-append}
 use lib.Seq.{drop-drop, take-at, drop-at}
-use Rattle.basis.specs.Outcome.{Verdict, firstOf}
+use Rattle.basis.specs.Outcome.{Finding, firstOf}
 use Rattle.block.specs.Block.{blockCheck}
 use Rattle.block.specs.Blocks.{partsOf, blocksCheck}
 
@@ -22,7 +22,7 @@ module _ (s : List ℕ) (at n : ℕ) where
 left : (n b : ℕ) → b < n → n - b ≡ suc (n - (b + 1))
 left n b h = omega arith
 
-pub check-turn : (file : List ℕ) (n b : ℕ) (r : Verdict) → b < n → r ≡ blockCheck b (take 512 (drop (512 * b) file))
+pub check-turn : (file : List ℕ) (n b : ℕ) (r : Finding) → b < n → r ≡ blockCheck b (take 512 (drop (512 * b) file))
     → firstOf r (blocksCheck (b + 1) (n - (b + 1)) (drop (512 * (b + 1)) file)) ≡ blocksCheck b (n - b) (drop (512 * b) file)
 unfolding blocksCheck
 check-turn file n b r h e =

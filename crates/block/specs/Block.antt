@@ -3,7 +3,7 @@ use Prim.Native.Nat.{ℕ, zero, suc, _+_, _*_, _%_}
 use mathlib.Core.List.{List, _++_}
 use lib.Dec.{eqb}
 use Rattle.little_endian.specs.Bytes.{u16At, u32At, u16Bytes, u32Bytes}
-use Rattle.basis.specs.Outcome.{Verdict, refusal, unless, firstOf}
+use Rattle.basis.specs.Outcome.{Finding, refusal, unless, firstOf}
 
 -- the first n four-byte words, each times its place 1 to n, summed
 unfoldable pub wordSum : List ℕ → ℕ → ℕ
@@ -15,7 +15,7 @@ unfoldable pub checkOf : List ℕ → ℕ
 checkOf block = wordSum block 127 % 4_294_967_296
 
 -- its check is wrong (2), or its number is not its place (3)
-unfoldable pub blockCheck : ℕ → List ℕ → Verdict
+unfoldable pub blockCheck : ℕ → List ℕ → Finding
 blockCheck place block =
     firstOf (unless (eqb (u32At block 508) (checkOf block)) (refusal 2 place 0)) (unless (eqb (u16At block 0) place) (refusal 3 place 0))
 

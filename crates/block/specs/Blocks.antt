@@ -2,7 +2,7 @@
 use Prim.Native.Nat.{ℕ, zero, suc, _+_}
 use mathlib.Core.List.{List, [], _++_}
 use lib.ListN.{take, drop}
-use Rattle.basis.specs.Outcome.{Verdict, passed, firstOf}
+use Rattle.basis.specs.Outcome.{Finding, passed, firstOf}
 use Rattle.block.specs.Block.{blockCheck, blockOf}
 
 -- the data parts of n blocks, joined
@@ -16,6 +16,6 @@ blocksOf place zero run = []
 blocksOf place (suc n) run = blockOf place (take 506 run) ++ blocksOf (place + 1) n (drop 506 run)
 
 -- n blocks, ascending, the first of them at a place (2, 3)
-unfoldable pub blocksCheck : ℕ → ℕ → List ℕ → Verdict
+unfoldable pub blocksCheck : ℕ → ℕ → List ℕ → Finding
 blocksCheck place zero blocks = passed
 blocksCheck place (suc n) blocks = firstOf (blockCheck place (take 512 blocks)) (blocksCheck (place + 1) n (drop 512 blocks))

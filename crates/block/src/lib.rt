@@ -2,7 +2,7 @@
 ghost use mathlib.Core.Path.{_≡_};
 ghost use Prim.Native.Nat.{_+_, _*_, _%_, _≤_, _<_};
 ghost use lib.ListN.{length};
-ghost use Rattle.basis.specs.Outcome.{verdict};
+ghost use Rattle.basis.specs.Outcome.{finding};
 ghost use Rattle.lent.specs.Lent.{placed};
 ghost use Rattle.block.specs.Block.{checkOf, blockCheck, blockOf};
 ghost use Rattle.block.specs.Blocks.{blocksCheck};
@@ -36,7 +36,7 @@ fn check_of(block: &[u8]) -> u32
 // Whether a block has its check, and then whether its number is its place.
 fn check_block(block: &[u8], place: usize) -> Check
     requires { ⌜ length (now block) ≡ 512 ⌝ }
-    ensures { λ r. ⌜ verdict r ≡ blockCheck place (now (block .entry)) ⌝ }
+    ensures { λ r. ⌜ finding r ≡ blockCheck place (now (block .entry)) ⌝ }
 {
     if little_endian::read_u32(block, 508) != check_of(block) {
         return Check::Refused(Refusal {
@@ -58,7 +58,7 @@ fn check_block(block: &[u8], place: usize) -> Check
 // The blocks of a file, ascending from 0.
 pub fn check_blocks(file: &[u8], n: usize) -> Check
     requires { ⌜ length (now file) ≡ 512 * n ⌝ }
-    ensures { λ r. ⌜ verdict r ≡ blocksCheck 0 n (now (file .entry)) ⌝ }
+    ensures { λ r. ⌜ finding r ≡ blocksCheck 0 n (now (file .entry)) ⌝ }
 {
     let mut b: usize = 0;
     while b < n {

@@ -10,7 +10,7 @@ use lib.ListN.{length}
 use borrow.Author.Tests.{le-leb}
 use Rattle.lent.specs.Lent.{countCheck, written}
 use Rattle.basis.specs.declared.Refusal.{Refusal}
-use Rattle.basis.specs.Outcome.{Verdict, passed, refusedBy, Outcome, value, refused, firstOf}
+use Rattle.basis.specs.Outcome.{Finding, passed, refusedBy, Outcome, value, refused, firstOf}
 use Rattle.basis.proofs.Outcome.{checked-passed, first-refused}
 use Rattle.run_check.proofs.Acceptance.{accepted, passes}
 use Rattle.basis_file.specs.File.{runIn, fileOf}
@@ -43,7 +43,7 @@ use Rattle.handed_out.proofs.Distances.{handed-out}
 use Rattle.demands.specs.Demands.{RefusedThroughout, Demand1, Demand2, Demands}
 
 -- a refused output is unchanged
-unchanged : (check : Verdict) (new out : List ℕ) (r : Refusal) → check ≡ refusedBy r → written check new out ≡ out
+unchanged : (check : Finding) (new out : List ℕ) (r : Refusal) → check ≡ refusedBy r → written check new out ≡ out
 unchanged check new out r h = rw h refl
 
 module _ (run history : List ℕ) where
@@ -54,7 +54,7 @@ module _ (run history : List ℕ) where
   refused-by : (r : Refusal) → basisCheck run history ≡ refusedBy r → RefusedThroughout run history r
   unfolding improvementEnquiry factorEnquiry rateEnquiry survivorshipEnquiry expectationEnquiry annuityEnquiry
   refused-by r h =
-      let first : (next : Verdict) → firstOf (basisCheck run history) next ≡ refusedBy r = λ next. first-refused (basisCheck run history) next r h in
+      let first : (next : Finding) → firstOf (basisCheck run history) next ≡ refusedBy r = λ next. first-refused (basisCheck run history) next r h in
       record {
         improvement = λ age year. rw h refl;
         factor = λ age year. rw h refl;
@@ -78,7 +78,7 @@ module _ (run history : List ℕ) where
   line-unchanged age year survivors r h =
       by (stepCheck run history age year survivors) (eqb age 150) (survivorsAfterYear (basisWith run history) age year (pos survivors)) h
     where
-      by : (c : Verdict) (t : Bool) (o : Outcome ℤ)
+      by : (c : Finding) (t : Bool) (o : Outcome ℤ)
           → unlessRefused age year survivors c (cond t (moved age year survivors (value ended)) (yearLater age year survivors o)) .says ≡ refused r
           → standMoved (unlessRefused age year survivors c (cond t (moved age year survivors (value ended)) (yearLater age year survivors o))) ≡ standAt age year survivors
       by (refusedBy q) t o g = refl

@@ -4,7 +4,7 @@ use mathlib.Core.List.{List}
 use lib.IntN.{ℤ, pos, natAbs}
 use Rattle.basis.specs.declared.Refusal.{Refusal}
 use Rattle.lent.specs.Lent.{roomCheck}
-use Rattle.basis.specs.Outcome.{Verdict, passed, refusedBy, Outcome, value, refused, refusal, firstOf, noRefusal}
+use Rattle.basis.specs.Outcome.{Finding, passed, refusedBy, Outcome, value, refused, refusal, firstOf, noRefusal}
 use Rattle.run_check.specs.Run.{runCheck}
 use Rattle.basis_file.specs.File.{fileCheck}
 use Rattle.short_form.specs.ShortForm.{shortFormCheck}
@@ -13,7 +13,7 @@ use Rattle.engine.specs.declared.CSignedAnswer.{CSignedAnswer}
 
 -- ---- answers
 -- what a check says
-abbrev pub refusalOf : Verdict → Refusal
+abbrev pub refusalOf : Finding → Refusal
 refusalOf passed = noRefusal
 refusalOf (refusedBy r) = r
 
@@ -28,11 +28,11 @@ signedAnswerOf (value n) = record { refusal = noRefusal; value = n }
 signedAnswerOf (refused r) = record { refusal = r; value = pos 0 }
 
 -- ---- reading, writing and the short form: the lent output's room (11), then the input's own checks
-abbrev pub readCheck : List ℕ → List ℕ → Verdict
+abbrev pub readCheck : List ℕ → List ℕ → Finding
 readCheck file run = firstOf (roomCheck 4554 run) (fileCheck file)
 
-abbrev pub writeCheck : List ℕ → List ℕ → Verdict
+abbrev pub writeCheck : List ℕ → List ℕ → Finding
 writeCheck run file = firstOf (roomCheck 4608 file) (runCheck run)
 
-abbrev pub shortCheck : List ℕ → ℤ → List ℕ → Verdict
+abbrev pub shortCheck : List ℕ → ℤ → List ℕ → Finding
 shortCheck run rate out = firstOf (roomCheck 4554 out) (shortFormCheck run rate)

@@ -1,6 +1,6 @@
 // Checks and answers as C takes them: structs in the place of enums, with refusal number 0 for none.
 ghost use mathlib.Core.Path.{_≡_};
-ghost use Rattle.basis.specs.Outcome.{verdict, meaning, signedMeaning};
+ghost use Rattle.basis.specs.Outcome.{finding, meaning, signedMeaning};
 ghost use Rattle.engine.specs.Enquiry.{refusalOf, answerOf, signedAnswerOf};
 use crate::CAnswer;
 use crate::CSignedAnswer;
@@ -16,7 +16,7 @@ pub const NO_REFUSAL: Refusal = Refusal {
 };
 
 pub(crate) fn refusal_of(check: Check) -> Refusal
-    ensures { λ r. ⌜ r ≡ refusalOf (verdict check) ⌝ }
+    ensures { λ r. ⌜ r ≡ refusalOf (finding check) ⌝ }
 {
     match check {
         Check::Passed => NO_REFUSAL,

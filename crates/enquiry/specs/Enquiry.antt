@@ -3,7 +3,7 @@
 use Prim.Native.Nat.{ℕ}
 use mathlib.Core.List.{List}
 use lib.IntN.{ℤ}
-use Rattle.basis.specs.Outcome.{Verdict, Outcome, firstOf, checked}
+use Rattle.basis.specs.Outcome.{Finding, Outcome, firstOf, checked}
 use Rattle.history.specs.History.{basisWith, basisCheck}
 use Rattle.improvement.specs.Improvement.{firstYear, improvementOf, improvementNeeded}
 use Rattle.projection.specs.Projection.{factorOf, rateOf}
@@ -13,7 +13,7 @@ use Rattle.valuation.specs.Valuation.{expectationOf, annuityOf}
 use Rattle.question.specs.Question.{cellCheck, questionCheck}
 
 -- every enquiry checks its data run and its history afresh
-abbrev pub valuationCheck : List ℕ → List ℕ → ℕ → ℕ → ℕ → Verdict
+abbrev pub valuationCheck : List ℕ → List ℕ → ℕ → ℕ → ℕ → Finding
 valuationCheck run history age deferment year = firstOf (basisCheck run history) (questionCheck (basisWith run history .base) age deferment year)
 
 -- an improvement is asked for from the first year that has one

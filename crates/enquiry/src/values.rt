@@ -1,6 +1,6 @@
 // Enquiries for the values of a life: survivorship, expectation and annuity, each period and cohort.
 ghost use mathlib.Core.Path.{_≡_};
-ghost use Rattle.basis.specs.Outcome.{meaning, verdict};
+ghost use Rattle.basis.specs.Outcome.{meaning, finding};
 ghost use Rattle.enquiry.specs.Enquiry.{valuationCheck, survivorshipEnquiry, expectationEnquiry, annuityEnquiry};
 use basis::Answer;
 use basis::Check;
@@ -8,7 +8,7 @@ use survivorship::Kind;
 
 // The data run and its history afresh, then the question.
 pub fn check_valuation(run: &[u8], history: &[u8], age: u32, deferment: u32, year: u32) -> Check
-    ensures { λ r. ⌜ verdict r ≡ valuationCheck (now (run .entry)) (now (history .entry)) age deferment year ⌝ }
+    ensures { λ r. ⌜ finding r ≡ valuationCheck (now (run .entry)) (now (history .entry)) age deferment year ⌝ }
 {
     match history::check::check_basis(run, history) {
         Check::Passed => question::check_question(run, age, deferment, year),

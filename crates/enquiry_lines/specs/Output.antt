@@ -2,18 +2,18 @@
 use Prim.Native.Nat.{ℕ}
 use mathlib.Core.List.{List, _++_}
 use Rattle.basis.specs.Basis.{basisOf}
-use Rattle.basis.specs.Outcome.{Verdict, passed, refusedBy, firstOf}
+use Rattle.basis.specs.Outcome.{Finding, passed, refusedBy, firstOf}
 use Rattle.basis_file.specs.File.{fileCheck, runIn}
 use Rattle.history.specs.History.{basisWith, historyCheck}
 use Rattle.reply_text.specs.Reply.{headerLine, refusalLine}
 use Rattle.enquiry_lines.specs.Lines.{linesOf, replies}
 
 -- the basis file, then the history; a refused history counts as a refused basis (02, change 2)
-abbrev pub filesCheck : List ℕ → List ℕ → Verdict
+abbrev pub filesCheck : List ℕ → List ℕ → Finding
 filesCheck file history = firstOf (fileCheck file) (historyCheck (basisOf (runIn file)) history)
 
 -- the header comes first; a refused basis prints its refusal line alone
-abbrev pub printed : Verdict → List ℕ → List ℕ
+abbrev pub printed : Finding → List ℕ → List ℕ
 printed passed lines = headerLine ++ lines
 printed (refusedBy r) lines = refusalLine r
 

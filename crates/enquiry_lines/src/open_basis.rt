@@ -3,7 +3,7 @@ ghost use mathlib.Core.Path.{_≡_};
 ghost use mathlib.Core.List.{[]};
 ghost use Prim.Native.Nat.{_≤_};
 ghost use lib.ListN.{length};
-ghost use Rattle.basis.specs.Outcome.{verdict};
+ghost use Rattle.basis.specs.Outcome.{finding};
 ghost use Rattle.lent.specs.Lent.{written};
 ghost use Rattle.basis_file.specs.File.{runIn};
 ghost use Rattle.reply_text.specs.Inner.Put.{Put};
@@ -17,8 +17,8 @@ use reply_text::reply;
 // own first, since the history is checked against it.
 fn read_files(file: &[u8], history: &[u8], run: &mut [u8]) -> Check
     requires { ⌜ length (now run) ≡ 4554 ⌝ }
-    ensures { λ r. ⌜ verdict r ≡ filesCheck (now (file .entry)) (now (history .entry)) ⌝ }
-    ensures { λ r. ⌜ now (run .exit) ≡ written (verdict r) (runIn (now (file .entry))) (now (run .entry)) ⌝ }
+    ensures { λ r. ⌜ finding r ≡ filesCheck (now (file .entry)) (now (history .entry)) ⌝ }
+    ensures { λ r. ⌜ now (run .exit) ≡ written (finding r) (runIn (now (file .entry))) (now (run .entry)) ⌝ }
 {
     let mut read = [0u8; 4554];
     let c = read::read_file(file, &mut read);
@@ -36,8 +36,8 @@ fn read_files(file: &[u8], history: &[u8], run: &mut [u8]) -> Check
 pub fn open_files(file: &[u8], history: &[u8], run: &mut [u8], out: &mut [u8]) -> Opening
     requires { ⌜ length (now run) ≡ 4554 ⌝ }
     requires { ⌜ 192 ≤ length (now out) ⌝ }
-    ensures { λ r. ⌜ verdict (r .check) ≡ filesCheck (now (file .entry)) (now (history .entry)) ⌝ }
-    ensures { λ r. ⌜ now (run .exit) ≡ written (verdict (r .check)) (runIn (now (file .entry))) (now (run .entry)) ⌝ }
+    ensures { λ r. ⌜ finding (r .check) ≡ filesCheck (now (file .entry)) (now (history .entry)) ⌝ }
+    ensures { λ r. ⌜ now (run .exit) ≡ written (finding (r .check)) (runIn (now (file .entry))) (now (run .entry)) ⌝ }
     ensures { λ r. ⌜ Put (now (out .entry)) 0 (printed (filesCheck (now (file .entry)) (now (history .entry))) []) (now (out .exit)) (r .at) ⌝ }
     ensures { λ r. ⌜ r .at ≤ 192 ⌝ }
 {

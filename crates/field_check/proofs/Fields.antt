@@ -3,7 +3,7 @@ use mathlib.Core.Path.{_≡_, refl, sym, ap, _∙_}
 use mathlib.Core.Bool.{Bool, _&&_}
 use mathlib.Core.List.{List, [], _∷_, _++_}
 use Prim.Native.Nat.{ℕ}
-use Rattle.basis.specs.Outcome.{Verdict, passed, refusedBy, firstOf, passes}
+use Rattle.basis.specs.Outcome.{Finding, passed, refusedBy, firstOf, passes}
 use Rattle.basis.proofs.Outcome.{both-passed, both-pass, first-together}
 use Rattle.field_check.specs.declared.Field.{Field}
 use Rattle.field_check.specs.Field.{fieldCheck, fieldsCheck}
@@ -28,7 +28,7 @@ module _ (run : List ℕ) where
   all-pass (_and_ {f} {fs} h hs) = rw (field-passes run f h) (all-pass hs)
 
 -- a row before others: the first refusal of both is that of the longer table
-pub row-first : (run : List ℕ) (f : Field) (fs : List Field) {c rest r : Verdict}
+pub row-first : (run : List ℕ) (f : Field) (fs : List Field) {c rest r : Finding}
     → c ≡ fieldCheck run f → rest ≡ fieldsCheck run fs → r ≡ firstOf c rest → r ≡ fieldsCheck run (f ∷ fs)
 unfolding fieldsCheck
 row-first run f fs e g h = h ∙ rw (e, g) refl
@@ -41,7 +41,7 @@ no-rows run = refl
 pub rows-join : (run : List ℕ) (fs gs : List Field) → fieldsCheck run (fs ++ gs) ≡ firstOf (fieldsCheck run fs) (fieldsCheck run gs)
 unfolding fieldsCheck
 rows-join run [] gs = refl
-rows-join run (f ∷ fs) gs = ap (λ (c : Verdict). firstOf (fieldCheck run f) c) (rows-join run fs gs) ∙ sym (first-together (fieldCheck run f) _ _)
+rows-join run (f ∷ fs) gs = ap (λ (c : Finding). firstOf (fieldCheck run f) c) (rows-join run fs gs) ∙ sym (first-together (fieldCheck run f) _ _)
 
 -- two tables pass where each does, row by row
 pub row-passes : (run : List ℕ) (f : Field) (fs : List Field) {ok rest : Bool}
@@ -53,6 +53,6 @@ pub last-passes : (run : List ℕ) (f : Field) {ok : Bool} → ok ≡ passes (fi
 unfolding fieldsCheck
 last-passes run f e = e ∙ by (fieldCheck run f)
   where
-    by : (c : Verdict) → passes c ≡ passes (firstOf c passed)
+    by : (c : Finding) → passes c ≡ passes (firstOf c passed)
     by passed = refl
     by (refusedBy r) = refl

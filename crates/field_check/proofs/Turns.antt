@@ -7,7 +7,7 @@ use native.Mathlib.Nat.{not-suc-le-zero, suc-mul}
 use native.Mathlib.Numerals.{sub-one}
 use lib.IntN.{ℤ}
 use Rattle.basis.specs.declared.Refusal.{Refusal}
-use Rattle.basis.specs.Outcome.{Verdict, refusedBy, refusal, passes}
+use Rattle.basis.specs.Outcome.{Finding, refusedBy, refusal, passes}
 use Rattle.field_check.specs.declared.Number.{Number}
 use Rattle.field_check.specs.Field.{widthOf, valueAt, between, entriesCheck}
 
@@ -29,7 +29,7 @@ module _ (run : List ℕ) (number : ℕ) (kind : Number) (low high : ℤ) (at : 
   outside (suc n) h b e = rw (← b, e)
 
 -- the same where every number is looked at
-both : (all ok : Bool) (rest : Verdict) (r : Refusal) → ((all && ok) && passes rest) ≡ (all && passes (cond ok rest (refusedBy r)))
+both : (all ok : Bool) (rest : Finding) (r : Refusal) → ((all && ok) && passes rest) ≡ (all && passes (cond ok rest (refusedBy r)))
 both true true rest r = refl
 both true false rest r = refl
 both false ok rest r = refl
@@ -54,6 +54,6 @@ module _ (run : List ℕ) (number : ℕ) (kind : Number) (low high : ℤ) where
       by (between low high (valueAt kind run at)) (entriesCheck run other kind low high (at + widthOf kind) n)
       (entriesCheck run number kind low high (at + widthOf kind) n) (any-number other (at + widthOf kind) n)
     where
-      by : (ok : Bool) (a b : Verdict) → passes a ≡ passes b → passes (cond ok a (refusedBy (refusal other at 0))) ≡ passes (cond ok b (refusedBy (refusal number at 0)))
+      by : (ok : Bool) (a b : Finding) → passes a ≡ passes b → passes (cond ok a (refusedBy (refusal other at 0))) ≡ passes (cond ok b (refusedBy (refusal number at 0)))
       by true a b e = e
       by false a b e = refl

@@ -5,7 +5,7 @@ use mathlib.Core.List.{List, [], _∷_}
 use lib.IntN.{ℤ, pos}
 use lib.Signed.{leZ}
 use Rattle.little_endian.specs.Bytes.{byteAt, u16At, u32At, i32At}
-use Rattle.basis.specs.Outcome.{Verdict, passed, refusedBy, refusal, firstOf}
+use Rattle.basis.specs.Outcome.{Finding, passed, refusedBy, refusal, firstOf}
 use Rattle.field_check.specs.declared.Number.{Number}
 use Rattle.field_check.specs.declared.Number.the-variants.{Byte, Half, Word, SignedWord}
 use Rattle.field_check.specs.declared.Field.{Field}
@@ -27,7 +27,7 @@ abbrev pub between : ℤ → ℤ → ℤ → Bool
 between low high n = leZ low n && leZ n high
 
 -- the first of n numbers, one after the other from an offset on, that is outside its limits
-unfoldable pub entriesCheck : List ℕ → ℕ → Number → ℤ → ℤ → ℕ → ℕ → Verdict
+unfoldable pub entriesCheck : List ℕ → ℕ → Number → ℤ → ℤ → ℕ → ℕ → Finding
 entriesCheck run refused kind low high at zero = passed
 entriesCheck run refused kind low high at (suc n) =
     cond (between low high (valueAt kind run at)) (entriesCheck run refused kind low high (at + widthOf kind) n) (refusedBy (refusal refused at 0))
@@ -36,10 +36,10 @@ entriesCheck run refused kind low high at (suc n) =
 abbrev pub field : ℕ → Number → ℤ → ℤ → ℕ → ℕ → Field
 field refused kind low high offset count = (refused, kind, low, high, offset, count)
 
-unfoldable pub fieldCheck : List ℕ → Field → Verdict
+unfoldable pub fieldCheck : List ℕ → Field → Finding
 fieldCheck run f = entriesCheck run (f .0) (f .1) (f .2) (f .3) (f .4) (f .5)
 
 -- a table of fields, row by row
-unfoldable pub fieldsCheck : List ℕ → List Field → Verdict
+unfoldable pub fieldsCheck : List ℕ → List Field → Finding
 fieldsCheck run [] = passed
 fieldsCheck run (f ∷ fs) = firstOf (fieldCheck run f) (fieldsCheck run fs)

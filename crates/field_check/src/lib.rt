@@ -2,7 +2,7 @@
 ghost use mathlib.Core.Path.{_≡_};
 ghost use Prim.Native.Nat.{_+_, _*_, _≤_};
 ghost use lib.ListN.{length};
-ghost use Rattle.basis.specs.Outcome.{passes, verdict};
+ghost use Rattle.basis.specs.Outcome.{passes, finding};
 ghost use Rattle.field_check.specs.Field.{widthOf, valueAt, between, fieldCheck};
 use basis::Check;
 use basis::Refusal;
@@ -82,7 +82,7 @@ pub fn all_within(run: &[u8], f: Field) -> bool
 // The first number of a field that is outside its limits.
 pub fn check_field(run: &[u8], f: Field) -> Check
     requires { ⌜ f .4 + f .5 * widthOf (f .1) ≤ length (now run) ⌝ }
-    ensures { λ r. ⌜ verdict r ≡ fieldCheck (now (run .entry)) f ⌝ }
+    ensures { λ r. ⌜ finding r ≡ fieldCheck (now (run .entry)) f ⌝ }
 {
     let kind = f.1;
     let low = f.2;

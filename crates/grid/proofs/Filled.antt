@@ -10,7 +10,7 @@ use Rattle.basis.specs.Basis.{Basis}
 use Rattle.history.specs.History.{basisWith, basisCheck, Workable}
 use Rattle.history.proofs.Acceptance.{accepted-workable}
 use Rattle.basis.proofs.Outcome.{both-passed, unless-passed}
-use Rattle.basis.specs.Outcome.{Verdict, passed, refusedBy}
+use Rattle.basis.specs.Outcome.{Finding, passed, refusedBy}
 use Rattle.grid_record.specs.declared.Point.{Point}
 use Rattle.grid_record.specs.Record.{answeredOf}
 use Rattle.lent.specs.Lent.{countCheck}
@@ -41,7 +41,7 @@ unfolding gridOf
 grid-is run history points = refl
 
 -- ---- the count: a record is answered only where the checks have passed
-passes : (check : Verdict) (i : ℕ) → i < recordsOf check → check ≡ passed
+passes : (check : Finding) (i : ℕ) → i < recordsOf check → check ≡ passed
 passes passed i h = refl
 passes (refusedBy r) i h = absurd (not-suc-le-zero h)
 
@@ -51,7 +51,7 @@ module _ (run history : List ℕ) (count : ℕ) where
   unfolding gridCheck countCheck
   records-fit = by (gridCheck run history count) refl
     where
-      by : (check : Verdict) → gridCheck run history count ≡ check → recordsOf check ≤ count
+      by : (check : Finding) → gridCheck run history count ≡ check → recordsOf check ≤ count
       by passed h = leb-true 119 count (unless-passed (leb 119 count) _ (both-passed (countCheck 119 count) (basisCheck run history) h .0))
       by (refusedBy r) h = zero-le
 

@@ -3,7 +3,7 @@ use Prim.Native.Nat.{ℕ, zero, suc}
 use mathlib.Core.List.{List, [], _∷_}
 use lib.ListN.{length}
 use Rattle.basis.specs.Basis.{Basis}
-use Rattle.basis.specs.Outcome.{Verdict, passed, refusedBy, firstOf, verdict}
+use Rattle.basis.specs.Outcome.{Finding, passed, refusedBy, firstOf, finding}
 use Rattle.history.specs.History.{basisWith, basisCheck}
 use Rattle.lent.specs.Lent.{countCheck}
 use Rattle.grid_record.specs.declared.Point.{Point}
@@ -11,20 +11,20 @@ use Rattle.grid_record.specs.Record.{answeredOf}
 use Rattle.grid.specs.declared.GridStart.{GridStart}
 
 -- a list shorter than 119 is refused as 11 with 119 for the bytes, before the basis and its history are looked at
-unfoldable pub gridCheck : List ℕ → List ℕ → ℕ → Verdict
+unfoldable pub gridCheck : List ℕ → List ℕ → ℕ → Finding
 gridCheck run history count = firstOf (countCheck 119 count) (basisCheck run history)
 
 -- how many records are answered: 119, and none of a refused grid
-abbrev pub recordsOf : Verdict → ℕ
+abbrev pub recordsOf : Finding → ℕ
 recordsOf passed = 119
 recordsOf (refusedBy r) = 0
 
-abbrev pub gridStart : Verdict → Verdict × ℕ
+abbrev pub gridStart : Finding → Finding × ℕ
 gridStart check = (check, recordsOf check)
 
 -- what a start of the grid stands for
-abbrev pub gridStartMeaning : GridStart → Verdict × ℕ
-gridStartMeaning s = (verdict (s .check), s .records)
+abbrev pub gridStartMeaning : GridStart → Finding × ℕ
+gridStartMeaning s = (finding (s .check), s .records)
 
 -- each of the first n records answered; further records are kept
 unfoldable pub answers : Basis → ℕ → List Point → List Point

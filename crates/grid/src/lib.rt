@@ -2,7 +2,7 @@
 ghost use mathlib.Core.Path.{_≡_};
 ghost use Prim.Native.Nat.{_≤_, _<_};
 ghost use lib.ListN.{length};
-ghost use Rattle.basis.specs.Outcome.{verdict};
+ghost use Rattle.basis.specs.Outcome.{finding};
 ghost use Rattle.history.specs.History.{basisWith, Workable};
 ghost use Rattle.workings.specs.Workings.{Workings};
 ghost use Rattle.grid.specs.Grid.{gridCheck, gridStart, gridStartMeaning, answers, gridOf};
@@ -17,7 +17,7 @@ pub struct GridStart {
 
 // 11 before the basis and its history are looked at.
 fn check_grid(run: &[u8], history: &[u8], count: usize) -> Check
-    ensures { λ r. ⌜ verdict r ≡ gridCheck (now (run .entry)) (now (history .entry)) count ⌝ }
+    ensures { λ r. ⌜ finding r ≡ gridCheck (now (run .entry)) (now (history .entry)) count ⌝ }
 {
     match lent::check_room(119, count) {
         Check::Passed => history::check::check_basis(run, history),
@@ -69,7 +69,7 @@ fn fill_records(run: &[u8], history: &[u8], workings: &[u32], n: usize, points: 
 
 // Each record's results or its own refusal, in its place.
 pub fn fill(run: &[u8], history: &[u8], points: &mut [Point]) -> Check
-    ensures { λ r. ⌜ verdict r ≡ gridCheck (now (run .entry)) (now (history .entry)) (length (now (points .entry))) ⌝ }
+    ensures { λ r. ⌜ finding r ≡ gridCheck (now (run .entry)) (now (history .entry)) (length (now (points .entry))) ⌝ }
     ensures { λ _. ⌜ now (points .exit) ≡ gridOf (now (run .entry)) (now (history .entry)) (now (points .entry)) ⌝ }
 {
     let mut workings: [u32; 18340] = [0; 18340];

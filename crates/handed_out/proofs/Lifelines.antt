@@ -9,7 +9,7 @@ use lib.Dec.{eqb}
 use lib.IntN.{pos}
 use borrow.Author.Tests.{le-leb, eqb-false}
 use Rattle.arithmetic.proofs.Distance.{within-more}
-use Rattle.basis.specs.Outcome.{Verdict, passed, refusedBy, value}
+use Rattle.basis.specs.Outcome.{Finding, passed, refusedBy, value}
 use Rattle.basis.proofs.Outcome.{both-passed}
 use Rattle.history.specs.History.{basisWith, basisCheck}
 use Rattle.survivorship.specs.declared.Kind.the-variants.{Cohort}
@@ -44,7 +44,7 @@ below run history age year s h =
     let p = step-passed run history age year s (c .0) in
     at-most (p .2) (eqb-false age 150 (c .1))
   where
-    by : (c : Verdict) (e : Bool) (m : Step) → unlessRefused age year s c (cond e (moved age year s (value ended)) m) .says ≡ value advanced → (c ≡ passed) × (e ≡ false)
+    by : (c : Finding) (e : Bool) (m : Step) → unlessRefused age year s c (cond e (moved age year s (value ended)) m) .says ≡ value advanced → (c ≡ passed) × (e ≡ false)
     by passed false m g = (refl, refl)
     by passed true m g = let z : _≡_ {A = ℕ} 0 1 = cc in absurd (omega arith)
     by (refusedBy r) e m g = let z : _≡_ {A = ℕ} 0 1 = cc in absurd (omega arith)
@@ -57,7 +57,7 @@ module _ (run history : List ℕ) (age year : ℕ) where
       let c = zero-is-none .check (startAt run history age year .check) (numbered-refusals run history .start age year) begun in
       by (valuationCheck run history age 0 year) c
     where
-      by : (c : Verdict) → begunAt age year c .check ≡ passed → c ≡ passed
+      by : (c : Finding) → begunAt age year c .check ≡ passed → c ≡ passed
       by passed g = refl
       by (refusedBy r) g = g
 

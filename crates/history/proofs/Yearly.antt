@@ -4,7 +4,7 @@ use mathlib.Core.List.{List}
 use Prim.Native.Nat.{ℕ, zero, suc, _+_, _*_, _-_, _<_, _≤_}
 use native.Mathlib.Omega.{arith}
 use lib.ListN.{length}
-use Rattle.basis.specs.Outcome.{Verdict, passed, firstOf}
+use Rattle.basis.specs.Outcome.{Finding, passed, firstOf}
 use Rattle.basis.proofs.Outcome.{both-passed, first-together}
 use Rattle.field_check.specs.declared.Field.{Field}
 use Rattle.field_check.specs.Field.{widthOf, fieldCheck, fieldsCheck}
@@ -14,7 +14,7 @@ use Rattle.history.specs.Inner.Part.{partCheck}
 use Rattle.history.proofs.Window.{part-field}
 
 module _ (s : List ℕ) (first second : Field) where
-  abbrev Yearly : ℕ → ℕ → Verdict
+  abbrev Yearly : ℕ → ℕ → Finding
   Yearly at n = fieldsCheck s (yearlyFields first second at n)
 
   pub no-years : (at : ℕ) → passed ≡ Yearly at 0
@@ -77,7 +77,7 @@ module _ (s : List ℕ) (first second : Field) where
       a-year at n ∙ rw (here .0, here .1) (years-pass n (at + 1012) next)
 
 -- the same with the year's two blocks as they lie in the file; the years that are looked at begin at `after`
-pub year-turn : (history : List ℕ) (first second : Field) (n k after : ℕ) {younger older r rest next : Verdict}
+pub year-turn : (history : List ℕ) (first second : Field) (n k after : ℕ) {younger older r rest next : Finding}
     → length history ≡ 1024 * n → k < n → after ≡ k + 1
     → first .4 + first .5 * widthOf (first .1) ≤ 506 → second .4 + second .5 * widthOf (second .1) ≤ 506
     → younger ≡ partCheck history (2 * k) first → older ≡ partCheck history (2 * k + 1) second → r ≡ firstOf younger older

@@ -7,7 +7,7 @@ use lib.ListN.{length}
 use lib.Dec.{eqb, leb}
 use lib.IntN.{ℤ, pos, negℤ, natAbs}
 use Rattle.little_endian.specs.Bytes.{i32At}
-use Rattle.basis.specs.Outcome.{Verdict, refusal, unless, firstOf}
+use Rattle.basis.specs.Outcome.{Finding, refusal, unless, firstOf}
 use Rattle.basis.specs.Basis.{Basis, basisOf, Accepted}
 use Rattle.field_check.specs.declared.Field.{Field}
 use Rattle.field_check.specs.declared.Number.the-variants.{Byte, SignedWord}
@@ -86,14 +86,14 @@ historyFields years = yearlyFields firstRemaining secondRemaining 0 years ++ yea
 
 -- ---- the check
 -- its length is not the one needed (13), then the blocks (2, 3), then the fields (4, 5)
-unfoldable pub historyCheck : Basis → List ℕ → Verdict
+unfoldable pub historyCheck : Basis → List ℕ → Finding
 historyCheck b history =
     firstOf
     (unless (eqb (length history) (lengthNeeded b)) (refusal 13 (lengthNeeded b) 0))
     (firstOf (blocksCheck 0 (2 * actualYears b) history) (fieldsCheck (historyData b history) (historyFields (actualYears b))))
 
 -- the data run afresh, then the history
-unfoldable pub basisCheck : List ℕ → List ℕ → Verdict
+unfoldable pub basisCheck : List ℕ → List ℕ → Finding
 basisCheck run history = firstOf (runCheck run) (historyCheck (basisOf run) history)
 
 -- what the work asks of a data run and its history: the run's own acceptance, the history's length, and the limits of its improvements.

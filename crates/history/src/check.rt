@@ -3,7 +3,7 @@ ghost use mathlib.Core.Path.{_≡_};
 ghost use Prim.Native.Nat.{_+_, _*_, _≤_, _<_};
 ghost use lib.ListN.{length};
 ghost use Rattle.basis.specs.Basis.{basisOf, Accepted};
-ghost use Rattle.basis.specs.Outcome.{passes, verdict};
+ghost use Rattle.basis.specs.Outcome.{passes, finding};
 ghost use Rattle.field_check.specs.Field.{widthOf, fieldsCheck};
 ghost use Rattle.block.specs.Blocks.{partsOf};
 ghost use Rattle.history.specs.History.{actualYears, historyFields, historyCheck, basisCheck};
@@ -30,7 +30,7 @@ fn years_needed(run: &[u8]) -> usize
 // A field in the data of a block, with the place of its refusal counted in the joined data.
 fn check_part(history: &[u8], b: usize, f: Field) -> Check
     requires { ⌜ (b < 176) × (512 * b + 512 ≤ length (now history)) × (f .4 + f .5 * widthOf (f .1) ≤ 506) ⌝ }
-    ensures { λ r. ⌜ verdict r ≡ partCheck (now (history .entry)) b f ⌝ }
+    ensures { λ r. ⌜ finding r ≡ partCheck (now (history .entry)) b f ⌝ }
 {
     let from = 512 * b + 2;
     match field_check::check_field(&history[from..from + 506], f) {
@@ -57,7 +57,7 @@ fn part_within(history: &[u8], b: usize, f: Field) -> bool
 // sought only in a year that has some.
 fn check_fields(history: &[u8], years: usize) -> Check
     requires { ⌜ (length (now history) ≡ 1024 * years) × (years ≤ 88) ⌝ }
-    ensures { λ r. ⌜ verdict r ≡ fieldsCheck (partsOf (2 * years) (now (history .entry))) (historyFields years) ⌝ }
+    ensures { λ r. ⌜ finding r ≡ fieldsCheck (partsOf (2 * years) (now (history .entry))) (historyFields years) ⌝ }
 {
     let mut fours = Check::Passed;
     let mut fives = Check::Passed;
@@ -91,7 +91,7 @@ fn check_fields(history: &[u8], years: usize) -> Check
 // The length (13), the blocks, then the fields.
 pub fn check_history(run: &[u8], history: &[u8]) -> Check
     requires { ⌜ Accepted (now run) ⌝ }
-    ensures { λ r. ⌜ verdict r ≡ historyCheck (basisOf (now (run .entry))) (now (history .entry)) ⌝ }
+    ensures { λ r. ⌜ finding r ≡ historyCheck (basisOf (now (run .entry))) (now (history .entry)) ⌝ }
 {
     let years = years_needed(run);
     if history.len() != 1024 * years {
@@ -110,7 +110,7 @@ pub fn check_history(run: &[u8], history: &[u8]) -> Check
 
 // The data run afresh, then its history.
 pub fn check_basis(run: &[u8], history: &[u8]) -> Check
-    ensures { λ r. ⌜ verdict r ≡ basisCheck (now (run .entry)) (now (history .entry)) ⌝ }
+    ensures { λ r. ⌜ finding r ≡ basisCheck (now (run .entry)) (now (history .entry)) ⌝ }
 {
     match run_check::check_run(run) {
         Check::Passed => check_history(run, history),

@@ -9,12 +9,12 @@ use lib.ListN.{length, take, drop, set, length-append, length-drop, take-append-
 use lib.Seq.{length-take-le, take-at, drop-at, drop-drop, take-suc-set, drop-set-lt}
 use borrow.Author.Tests.{le-leb, leb-true}
 use Rattle.basis.specs.declared.Refusal.{Refusal}
-use Rattle.basis.specs.Outcome.{Verdict, passed, refusedBy, firstOf}
+use Rattle.basis.specs.Outcome.{Finding, passed, refusedBy, firstOf}
 use Rattle.basis.proofs.Outcome.{unless-passed, both-passed}
 use Rattle.lent.specs.Lent.{countCheck, roomCheck, written, placed}
 
 -- the room comes before every other check
-module _ {A : Type 0} (need : ℕ) (out : List A) (next : Verdict) where
+module _ {A : Type 0} (need : ℕ) (out : List A) (next : Finding) where
   pub roomy : need ≤ length out → firstOf (roomCheck need out) next ≡ next
   unfolding countCheck
   roomy h = simp (le-leb need (length out) h)
@@ -24,7 +24,7 @@ module _ {A : Type 0} (need : ℕ) (out : List A) (next : Verdict) where
   room-passed h = let e = both-passed _ _ h in (leb-true need (length out) (unless-passed _ _ (e .0)), e .1)
 
 -- what stands in the output then
-module _ {A : Type 0} (c : Verdict) (new out : List A) where
+module _ {A : Type 0} (c : Finding) (new out : List A) where
   pub filled : (n : ℕ) → c ≡ passed → length new ≡ n → written c new out ≡ new ++ drop n out
   filled n e l = simp (e, l)
 

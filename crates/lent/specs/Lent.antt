@@ -3,17 +3,17 @@ use Prim.Native.Nat.{ℕ, _+_}
 use mathlib.Core.List.{List, _++_}
 use lib.ListN.{length, take, drop}
 use lib.Dec.{leb}
-use Rattle.basis.specs.Outcome.{Verdict, passed, refusedBy, refusal, unless}
+use Rattle.basis.specs.Outcome.{Finding, passed, refusedBy, refusal, unless}
 
 -- too short (11): fewer elements are lent than are needed
-unfoldable pub countCheck : ℕ → ℕ → Verdict
+unfoldable pub countCheck : ℕ → ℕ → Finding
 countCheck needed lent = unless (leb needed lent) (refusal 11 needed 0)
 
-abbrev pub roomCheck : {A : Type 0} → ℕ → List A → Verdict
+abbrev pub roomCheck : {A : Type 0} → ℕ → List A → Finding
 roomCheck needed out = countCheck needed (length out)
 
 -- what stands in an output after the check: the new elements in front of its further ones, or what stood there
-abbrev pub written : {A : Type 0} → Verdict → List A → List A → List A
+abbrev pub written : {A : Type 0} → Finding → List A → List A → List A
 written passed new out = new ++ drop (length new) out
 written (refusedBy r) new out = out
 

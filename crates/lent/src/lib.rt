@@ -2,14 +2,14 @@
 ghost use mathlib.Core.Path.{_≡_};
 ghost use Prim.Native.Nat.{_+_, _≤_};
 ghost use lib.ListN.{length, replicate};
-ghost use Rattle.basis.specs.Outcome.{verdict};
+ghost use Rattle.basis.specs.Outcome.{finding};
 ghost use Rattle.lent.specs.Lent.{countCheck, placed};
 use basis::Check;
 use basis::Refusal;
 
 // Whether as many elements are lent as are needed: the first check of every call that fills a lent output.
 pub fn check_room(needed: usize, lent: usize) -> Check
-    ensures { λ r. ⌜ verdict r ≡ countCheck needed lent ⌝ }
+    ensures { λ r. ⌜ finding r ≡ countCheck needed lent ⌝ }
 {
     if needed <= lent {
         Check::Passed

@@ -10,7 +10,7 @@ use lib.IntN.{ℤ, pos, natAbs}
 use borrow.Author.Tests.{le-leb, ne-eqb}
 use Rattle.arithmetic.specs.Fraction.{U}
 use Rattle.history.specs.History.{basisWith, basisCheck}
-use Rattle.basis.specs.Outcome.{Verdict, passed, refusedBy, Outcome, value, refused, checked, andThen}
+use Rattle.basis.specs.Outcome.{Finding, passed, refusedBy, Outcome, value, refused, checked, andThen}
 use Rattle.basis.proofs.Outcome.{both-passed, checked-value}
 use Rattle.survivorship.specs.declared.Kind.the-variants.{Cohort}
 use Rattle.question.specs.Question.{ageCheck, defermentCheck, questionCheck}
@@ -119,7 +119,7 @@ module _ (run history : List ℕ) (age year : ℕ) where
         says = λ s. says-by s (stepCheck run history age year s) (eqb age 150) (survivorsAfterYear (basisWith run history) age year (pos s));
       }
     where
-      says-by : (s : ℕ) (c : Verdict) (e : Bool) (o : Outcome ℤ) → unlessRefused age year s c (cond e (moved age year s (value ended)) (yearLater age year s o)) .says
+      says-by : (s : ℕ) (c : Finding) (e : Bool) (o : Outcome ℤ) → unlessRefused age year s c (cond e (moved age year s (value ended)) (yearLater age year s o)) .says
           ≡ checked c (cond e (value ended) (andThen o (λ t. value advanced)))
       says-by s passed false (value t) = refl
       says-by s passed false (refused r) = refl
@@ -129,7 +129,7 @@ module _ (run history : List ℕ) (age year : ℕ) where
       moves-on : MovesOn
       moves-on age year s h = by (stepCheck run history age year s) (eqb age 150) (survivorsAfterYear (basisWith run history) age year (pos s)) h
         where
-          by : (c : Verdict) (e : Bool) (o : Outcome ℤ) → unlessRefused age year s c (cond e (moved age year s (value ended)) (yearLater age year s o)) .says ≡ value advanced
+          by : (c : Finding) (e : Bool) (o : Outcome ℤ) → unlessRefused age year s c (cond e (moved age year s (value ended)) (yearLater age year s o)) .says ≡ value advanced
               → (t : ℤ) × (o ≡ value t) × (unlessRefused age year s c (cond e (moved age year s (value ended)) (yearLater age year s o)) ≡ moved (age + 1) (year + 1) (natAbs t) (value advanced))
           by passed false (value t) g = (t, refl, refl)
           by passed false (refused r) g = let z : _≡_ {A = ℕ} 0 1 = cc in absurd (omega arith)

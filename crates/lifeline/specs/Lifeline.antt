@@ -8,7 +8,7 @@ use lib.IntN.{ℤ, pos, natAbs}
 use Rattle.arithmetic.specs.Fraction.{U}
 use Rattle.basis.specs.Basis.{Basis}
 use Rattle.history.specs.History.{basisWith, basisCheck}
-use Rattle.basis.specs.Outcome.{Verdict, passed, refusedBy, Outcome, value, refused, refusal, unless, firstOf}
+use Rattle.basis.specs.Outcome.{Finding, passed, refusedBy, Outcome, value, refused, refusal, unless, firstOf}
 use Rattle.question.specs.Question.{inRange, ageCheck}
 use Rattle.enquiry.specs.Enquiry.{valuationCheck}
 use Rattle.survivorship.specs.Survivorship.{survivorsAfterYear}
@@ -16,11 +16,11 @@ use Rattle.lifeline.specs.declared.Stand.{Stand}
 use Rattle.lifeline.specs.Said.{Start, Said, advanced, ended, Step}
 
 -- ---- the start
-abbrev pub begun : ℕ → ℕ → ℕ → Verdict → Start
+abbrev pub begun : ℕ → ℕ → ℕ → Finding → Start
 begun age year survivors check = record { age = age; year = year; survivors = survivors; check = check }
 
 -- it starts with U at an age and year; a refused start holds age, year and survivors 0
-abbrev pub begunAt : ℕ → ℕ → Verdict → Start
+abbrev pub begunAt : ℕ → ℕ → Finding → Start
 begunAt age year passed = begun age year U passed
 begunAt age year (refusedBy r) = begun 0 0 0 (refusedBy r)
 
@@ -34,19 +34,19 @@ abbrev pub lastStandingYear : ℕ → ℕ
 lastStandingYear age = 2110 + age
 
 -- 7: before B, or year − age after 2110; a year after 2130 may stand
-unfoldable pub standingYearCheck : ℕ → ℕ → ℕ → Verdict
+unfoldable pub standingYearCheck : ℕ → ℕ → ℕ → Finding
 standingYearCheck base age year = unless (inRange base (lastStandingYear age) year) (refusal 7 year 0)
 
 -- 5: survivors above U, places 4554 and 0
-unfoldable pub survivorsCheck : ℕ → Verdict
+unfoldable pub survivorsCheck : ℕ → Finding
 survivorsCheck survivors = unless (leb survivors U) (refusal 5 4554 0)
 
 -- the age (6), the year, then the survivors
-unfoldable pub standingCheck : ℕ → ℕ → ℕ → ℕ → Verdict
+unfoldable pub standingCheck : ℕ → ℕ → ℕ → ℕ → Finding
 standingCheck base age year survivors = firstOf (ageCheck age) (firstOf (standingYearCheck base age year) (survivorsCheck survivors))
 
 -- first of all the data run, and directly after it the history
-abbrev pub stepCheck : List ℕ → List ℕ → ℕ → ℕ → ℕ → Verdict
+abbrev pub stepCheck : List ℕ → List ℕ → ℕ → ℕ → ℕ → Finding
 stepCheck run history age year survivors = firstOf (basisCheck run history) (standingCheck (basisWith run history .base) age year survivors)
 
 -- ---- the step
@@ -64,7 +64,7 @@ lived b age year survivors =
     cond (eqb age 150) (moved age year survivors (value ended)) (yearLater age year survivors (survivorsAfterYear b age year (pos survivors)))
 
 -- a refused step leaves it unchanged
-abbrev pub unlessRefused : ℕ → ℕ → ℕ → Verdict → Step → Step
+abbrev pub unlessRefused : ℕ → ℕ → ℕ → Finding → Step → Step
 unlessRefused age year survivors passed s = s
 unlessRefused age year survivors (refusedBy r) s = moved age year survivors (refused r)
 

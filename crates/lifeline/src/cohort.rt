@@ -2,7 +2,7 @@
 ghost use mathlib.Core.Path.{_≡_};
 ghost use Prim.Native.Nat.{_+_, _≤_, _<_};
 ghost use lib.IntN.{pos};
-ghost use Rattle.basis.specs.Outcome.{verdict};
+ghost use Rattle.basis.specs.Outcome.{finding};
 ghost use Rattle.basis.specs.Basis.{basisOf, Accepted};
 ghost use Rattle.history.specs.History.{basisWith, Workable};
 ghost use Rattle.question.specs.Question.{inRange};
@@ -47,7 +47,7 @@ fn is_standing_year(base: u32, age: u32, year: u32) -> bool
 
 // 7: any other year.
 fn check_standing_year(base: u32, age: u32, year: u32) -> Check
-    ensures { λ r. ⌜ verdict r ≡ standingYearCheck base age year ⌝ }
+    ensures { λ r. ⌜ finding r ≡ standingYearCheck base age year ⌝ }
 {
     if is_standing_year(base, age, year) {
         Check::Passed
@@ -62,7 +62,7 @@ fn check_standing_year(base: u32, age: u32, year: u32) -> Check
 
 // 5: survivors above U, with the length of the run for a place.
 fn check_survivors(survivors: u64) -> Check
-    ensures { λ r. ⌜ verdict r ≡ survivorsCheck survivors ⌝ }
+    ensures { λ r. ⌜ finding r ≡ survivorsCheck survivors ⌝ }
 {
     if survivors <= UNIT {
         Check::Passed
@@ -78,7 +78,7 @@ fn check_survivors(survivors: u64) -> Check
 // The age, the year, then the survivors.
 fn check_standing(run: &[u8], age: u32, year: u32, survivors: u64) -> Check
     requires { ⌜ Accepted (now run) ⌝ }
-    ensures { λ r. ⌜ verdict r ≡ standingCheck (basisOf (now (run .entry)) .base) age year survivors ⌝ }
+    ensures { λ r. ⌜ finding r ≡ standingCheck (basisOf (now (run .entry)) .base) age year survivors ⌝ }
 {
     let of_year = check_standing_year(basis::fields::base_year(run), age, year);
     basis::first_of(
@@ -89,7 +89,7 @@ fn check_standing(run: &[u8], age: u32, year: u32, survivors: u64) -> Check
 
 // All that a step checks before it moves: the data run and its history afresh, then these.
 fn check_step(run: &[u8], history: &[u8], age: u32, year: u32, survivors: u64) -> Check
-    ensures { λ r. ⌜ verdict r ≡ stepCheck (now (run .entry)) (now (history .entry)) age year survivors ⌝ }
+    ensures { λ r. ⌜ finding r ≡ stepCheck (now (run .entry)) (now (history .entry)) age year survivors ⌝ }
 {
     match history::check::check_basis(run, history) {
         Check::Passed => check_standing(run, age, year, survivors),

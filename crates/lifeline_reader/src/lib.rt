@@ -1,7 +1,7 @@
 // The lifeline reader (the paper's words): a small struct that holds the lent data run itself. Its start and its step have the
 // work done by the numbers, and hold the same run again; the history is lent to each of them.
 ghost use mathlib.Core.Path.{_≡_};
-ghost use Rattle.basis.specs.Outcome.{verdict};
+ghost use Rattle.basis.specs.Outcome.{finding};
 ghost use Rattle.lifeline.specs.Said.{statusMeaning};
 ghost use Rattle.lifeline.specs.Lifeline.{startAt, standAfter};
 ghost use Rattle.lifeline_reader.specs.Reader.{lineStarted, stepOf, lineStepped};
@@ -31,7 +31,7 @@ pub struct Stepped<'a> {
 }
 
 pub fn start<'a>(run: &'a [u8], history: &[u8], age: u32, year: u32) -> Started<'a>
-    ensures { λ r. ⌜ (r .line ≡ lineStarted (run .entry) (now (history .entry)) age year) × (verdict (r .check) ≡ startAt (now (run .entry)) (now (history .entry)) age year .check) ⌝ }
+    ensures { λ r. ⌜ (r .line ≡ lineStarted (run .entry) (now (history .entry)) age year) × (finding (r .check) ≡ startAt (now (run .entry)) (now (history .entry)) age year .check) ⌝ }
 {
     let b = cohort::start_at(run, history, age, year);
     Started {

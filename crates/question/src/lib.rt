@@ -1,6 +1,6 @@
 // What an enquiry asks: its own checks, 6, 8 and 7.
 ghost use mathlib.Core.Path.{_≡_};
-ghost use Rattle.basis.specs.Outcome.{verdict};
+ghost use Rattle.basis.specs.Outcome.{finding};
 ghost use Rattle.basis.specs.Basis.{basisOf, Accepted};
 ghost use Rattle.question.specs.Question.{inRange, ageCheck, defermentCheck, yearCheck, cellCheck, questionCheck};
 use basis::Check;
@@ -14,7 +14,7 @@ fn is_in_range(low: u32, high: u32, n: u32) -> bool
 
 // 6: age outside 20 to 150.
 pub fn check_age(age: u32) -> Check
-    ensures { λ r. ⌜ verdict r ≡ ageCheck age ⌝ }
+    ensures { λ r. ⌜ finding r ≡ ageCheck age ⌝ }
 {
     if is_in_range(20, 150, age) {
         Check::Passed
@@ -29,7 +29,7 @@ pub fn check_age(age: u32) -> Check
 
 // 8: age + deferment above 150. The sum is made in 64 bits, where it cannot wrap.
 fn check_deferment(age: u32, deferment: u32) -> Check
-    ensures { λ r. ⌜ verdict r ≡ defermentCheck age deferment ⌝ }
+    ensures { λ r. ⌜ finding r ≡ defermentCheck age deferment ⌝ }
 {
     if age as u64 + deferment as u64 <= 150 {
         Check::Passed
@@ -44,7 +44,7 @@ fn check_deferment(age: u32, deferment: u32) -> Check
 
 // 7: the enquiry's year after 2130, or before the first that it may name.
 fn check_year(first: u32, year: u32) -> Check
-    ensures { λ r. ⌜ verdict r ≡ yearCheck first year ⌝ }
+    ensures { λ r. ⌜ finding r ≡ yearCheck first year ⌝ }
 {
     if is_in_range(first, 2130, year) {
         Check::Passed
@@ -59,7 +59,7 @@ fn check_year(first: u32, year: u32) -> Check
 
 // 6, then 7.
 pub fn check_cell(first: u32, age: u32, year: u32) -> Check
-    ensures { λ r. ⌜ verdict r ≡ cellCheck first age year ⌝ }
+    ensures { λ r. ⌜ finding r ≡ cellCheck first age year ⌝ }
 {
     let of_age = check_age(age);
     let of_year = check_year(first, year);
@@ -69,7 +69,7 @@ pub fn check_cell(first: u32, age: u32, year: u32) -> Check
 // 6, then 8, then 7, for years from B on.
 pub fn check_question(run: &[u8], age: u32, deferment: u32, year: u32) -> Check
     requires { ⌜ Accepted (now run) ⌝ }
-    ensures { λ r. ⌜ verdict r ≡ questionCheck (basisOf (now (run .entry)) .base) age deferment year ⌝ }
+    ensures { λ r. ⌜ finding r ≡ questionCheck (basisOf (now (run .entry)) .base) age deferment year ⌝ }
 {
     let of_year = check_year(basis::fields::base_year(run), year);
     basis::first_of(

@@ -9,7 +9,7 @@ use lib.IntN.{ℤ, pos}
 use borrow.Author.Tests.{ne-eqb}
 use Rattle.basis.specs.declared.Refusal.{Refusal}
 use Rattle.basis.specs.Basis.{basisOf}
-use Rattle.basis.specs.Outcome.{Verdict, passed, refusedBy, Outcome, value, refused, firstOf}
+use Rattle.basis.specs.Outcome.{Finding, passed, refusedBy, Outcome, value, refused, firstOf}
 use Rattle.basis.specs.Refusals.{numbers, recordNumbers, isListed, Listed, RefusesBy, RefusedBy}
 use Rattle.basis.proofs.Refusals.{first-by, checked-by, check-among, work-among, record-numbers, never-zero}
 use Rattle.lent.proofs.Numbered.{count-numbered}
@@ -56,7 +56,7 @@ module _ (run history : List ℕ) where
   unfolding startAt
   start-numbered age year = by (valuationCheck run history age 0 year) (valuation-checked age 0 year)
     where
-      by : (c : Verdict) → RefusesBy numbers c → RefusesBy numbers (begunAt age year c .check)
+      by : (c : Finding) → RefusesBy numbers c → RefusesBy numbers (begunAt age year c .check)
       by passed p = p
       by (refusedBy r) p = p
 
@@ -68,7 +68,7 @@ module _ (run history : List ℕ) where
             (eqb age 150) (survivorsAfterYear (basisWith run history) age year (pos survivors)) (work-among record-numbers (year-numbered (basisWith run history) age year (pos survivors)));
       }
     where
-      by : (c : Verdict) → RefusesBy numbers c → (t : Bool) (o : Outcome ℤ) → RefusedBy numbers o → (r : Refusal)
+      by : (c : Finding) → RefusesBy numbers c → (t : Bool) (o : Outcome ℤ) → RefusedBy numbers o → (r : Refusal)
           → unlessRefused age year survivors c (cond t (moved age year survivors (value ended)) (yearLater age year survivors o)) .says ≡ refused r → Listed numbers (r .number)
       by (refusedBy q) p t o w r g = let e : q ≡ r = cc in rw (← e) (p .listed q refl)
       by passed p true o w r g = let z : _≡_ {A = ℕ} 0 1 = cc in absurd (omega arith)
@@ -80,7 +80,7 @@ set-refusal : (run history : List ℕ) (questions : Questions) → smallSetOf ru
 unfolding smallSetOf
 set-refusal run history questions = by (basisCheck run history) _
   where
-    by : (c : Verdict) (points : List PointAnswer) → setOf c points .refusal ≡ refusalOf c
+    by : (c : Finding) (points : List PointAnswer) → setOf c points .refusal ≡ refusalOf c
     by passed points = refl
     by (refusedBy r) points = refl
 
@@ -135,7 +135,7 @@ zero-is-none =
       text = of-text;
     }
   where
-    of-check : (c : Verdict) → RefusesBy numbers c → refusalOf c .number ≡ 0 → c ≡ passed
+    of-check : (c : Finding) → RefusesBy numbers c → refusalOf c .number ≡ 0 → c ≡ passed
     of-check passed p e = refl
     of-check (refusedBy r) p e = absurd (zero-refused e (p .listed r refl))
 

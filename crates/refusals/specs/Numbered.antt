@@ -7,7 +7,7 @@ use Prim.Native.Nat.{ℕ}
 use lib.IntN.{ℤ}
 use Rattle.basis.specs.declared.Refusal.{Refusal}
 use Rattle.basis.specs.Basis.{Basis}
-use Rattle.basis.specs.Outcome.{Verdict, passed, Outcome, value, refused, checked}
+use Rattle.basis.specs.Outcome.{Finding, passed, Outcome, value, refused, checked}
 use Rattle.basis.specs.Refusals.{numbers, recordNumbers, isListed, Listed, RefusesBy, RefusedBy}
 use Rattle.run_check.specs.Run.{runCheck}
 use Rattle.history.specs.History.{basisWith, basisCheck}
@@ -79,7 +79,7 @@ workText q (refused r) = refusalLine r
 pub record ZeroIsNone : Type 0 where
   pub unlisted : isListed numbers 0 ≡ false
   -- in C: a check, an answer, a signed one, a lifeline's step
-  pub check : (c : Verdict) → RefusesBy numbers c → refusalOf c .number ≡ 0 → c ≡ passed
+  pub check : (c : Finding) → RefusesBy numbers c → refusalOf c .number ≡ 0 → c ≡ passed
   pub answer : (work : Outcome ℤ) → RefusedBy numbers work → answerOf work .refusal .number ≡ 0 → (v : ℤ) × (work ≡ value v)
   pub signed : (work : Outcome ℤ) → RefusedBy numbers work → signedAnswerOf work .refusal .number ≡ 0 → (v : ℤ) × (work ≡ value v)
   pub step : (says : Outcome Said) → RefusedBy numbers says → stepRefusal says .number ≡ 0 → (s : Said) × (says ≡ value s)

@@ -5,7 +5,7 @@ use mathlib.Core.List.{List, [], _∷_}
 use lib.ListN.{length}
 use lib.Dec.{eqb}
 use lib.IntN.{pos, negℤ}
-use Rattle.basis.specs.Outcome.{Verdict, refusedBy, refusal}
+use Rattle.basis.specs.Outcome.{Finding, refusedBy, refusal}
 use Rattle.field_check.specs.declared.Field.{Field}
 use Rattle.field_check.specs.declared.Number.the-variants.{Byte, Half, Word, SignedWord}
 use Rattle.field_check.specs.Field.{field, fieldsCheck}
@@ -34,5 +34,5 @@ runFields =
     ∷ []
 
 -- the length (1), then the fields
-unfoldable pub runCheck : List ℕ → Verdict
+unfoldable pub runCheck : List ℕ → Finding
 runCheck run = cond (eqb (length run) 4554) (fieldsCheck run runFields) (refusedBy (refusal 1 0 0))

@@ -2,7 +2,7 @@
 mod rows;
 
 ghost use mathlib.Core.Path.{_≡_};
-ghost use Rattle.basis.specs.Outcome.{verdict};
+ghost use Rattle.basis.specs.Outcome.{finding};
 ghost use Rattle.run_check.specs.Run.{runCheck};
 use basis::Check;
 use basis::Refusal;
@@ -10,7 +10,7 @@ use basis::first_of;
 
 // The first refusal of a data run.
 pub fn check_run(run: &[u8]) -> Check
-    ensures { λ r. ⌜ verdict r ≡ runCheck (now (run .entry)) ⌝ }
+    ensures { λ r. ⌜ finding r ≡ runCheck (now (run .entry)) ⌝ }
 {
     if run.len() != 4554 {
         return Check::Refused(Refusal {

@@ -3,7 +3,7 @@
 // tables every number is looked at, several at a time, and only where one is outside its limits is the first such sought.
 ghost use mathlib.Core.Path.{_≡_};
 ghost use lib.ListN.{length, take, drop};
-ghost use Rattle.basis.specs.Outcome.{verdict};
+ghost use Rattle.basis.specs.Outcome.{finding};
 ghost use Rattle.field_check.specs.Field.{fieldsCheck};
 ghost use Rattle.run_check.specs.Run.{runFields};
 use basis::Check;
@@ -16,7 +16,7 @@ use field_check::check_field;
 // The letters MPB1 and the zero bytes (4).
 pub(crate) fn check_mark(run: &[u8]) -> Check
     requires { ⌜ length (now run) ≡ 4554 ⌝ }
-    ensures { λ r. ⌜ verdict r ≡ fieldsCheck (now (run .entry)) (take 5 runFields) ⌝ }
+    ensures { λ r. ⌜ finding r ≡ fieldsCheck (now (run .entry)) (take 5 runFields) ⌝ }
 {
     let m = check_field(run, Field(4, Number::Byte, 77, 77, 0, 1));
     let p = check_field(run, Field(4, Number::Byte, 80, 80, 1, 1));
@@ -35,7 +35,7 @@ pub(crate) fn check_mark(run: &[u8]) -> Check
 // F, B, the addition and the rate of discount (5).
 pub(crate) fn check_single_fields(run: &[u8]) -> Check
     requires { ⌜ length (now run) ≡ 4554 ⌝ }
-    ensures { λ r. ⌜ verdict r ≡ fieldsCheck (now (run .entry)) (take 4 (drop 5 runFields)) ⌝ }
+    ensures { λ r. ⌜ finding r ≡ fieldsCheck (now (run .entry)) (take 4 (drop 5 runFields)) ⌝ }
 {
     let foundation = check_field(run, Field(5, Number::Half, 1992, 2080, 4, 1));
     let base = check_field(run, Field(5, Number::Half, 1992, 2130, 6, 1));
@@ -56,7 +56,7 @@ pub(crate) fn check_single_fields(run: &[u8]) -> Check
 // The tables by age (5).
 pub(crate) fn check_ages(run: &[u8]) -> Check
     requires { ⌜ length (now run) ≡ 4554 ⌝ }
-    ensures { λ r. ⌜ verdict r ≡ fieldsCheck (now (run .entry)) (take 5 (drop 9 runFields)) ⌝ }
+    ensures { λ r. ⌜ finding r ≡ fieldsCheck (now (run .entry)) (take 5 (drop 9 runFields)) ⌝ }
 {
     let rates = Field(5, Number::Word, 0, 1_000_000_000, 30, 131);
     let initial = Field(5, Number::SignedWord, -200_000_000, 200_000_000, 554, 131);
@@ -87,7 +87,7 @@ pub(crate) fn check_ages(run: &[u8]) -> Check
 // The tables by birth year (5).
 pub(crate) fn check_birth_years(run: &[u8]) -> Check
     requires { ⌜ length (now run) ≡ 4554 ⌝ }
-    ensures { λ r. ⌜ verdict r ≡ fieldsCheck (now (run .entry)) (take 4 (drop 14 runFields)) ⌝ }
+    ensures { λ r. ⌜ finding r ≡ fieldsCheck (now (run .entry)) (take 4 (drop 14 runFields)) ⌝ }
 {
     let initial = Field(5, Number::SignedWord, -200_000_000, 200_000_000, 1864, 269);
     let long = Field(5, Number::SignedWord, -200_000_000, 200_000_000, 2940, 269);

@@ -8,7 +8,7 @@ use lib.ListN.{length}
 use lib.IntN.{ℤ, pos, negℤ, natAbs}
 use Rattle.basis.specs.declared.Refusal.{Refusal}
 use Rattle.basis.specs.Basis.{Accepted}
-use Rattle.basis.specs.Outcome.{Verdict, passed, refusedBy, refusal, unless, firstOf}
+use Rattle.basis.specs.Outcome.{Finding, passed, refusedBy, refusal, unless, firstOf}
 use Rattle.field_check.specs.Field.{between}
 use Rattle.run_check.specs.Run.{runCheck}
 use Rattle.basis.proofs.Outcome.{first-stands, unless-passed, both-passed}
@@ -19,7 +19,7 @@ use Rattle.lent.proofs.Lent.{room-passed}
 use Rattle.short_form.specs.ShortForm.{rateLimit, shortFormCheck}
 
 module _ (run : List ℕ) (rate : ℤ) where
-  pub run-refused : (c : Verdict) {r : Refusal} → c ≡ runCheck run → c ≡ refusedBy r → c ≡ shortFormCheck run rate
+  pub run-refused : (c : Finding) {r : Refusal} → c ≡ runCheck run → c ≡ refusedBy r → c ≡ shortFormCheck run rate
   unfolding shortFormCheck
   run-refused c e f = e ∙ sym (first-stands (runCheck run) _ (sym e ∙ f))
 

@@ -8,7 +8,7 @@ use lib.IntN.{ℤ, pos, negℤ, _*ℤ_}
 use Rattle.arithmetic.specs.Round.{roundDiv}
 use Rattle.basis.specs.declared.Convergence.{Convergence}
 use Rattle.little_endian.specs.Bytes.{i32Bytes}
-use Rattle.basis.specs.Outcome.{Verdict, passed, refusal, unless, firstOf}
+use Rattle.basis.specs.Outcome.{Finding, passed, refusal, unless, firstOf}
 use Rattle.field_check.specs.Field.{between}
 use Rattle.run_check.specs.Run.{runCheck}
 use Rattle.basis.specs.Basis.{Basis, basisOf}
@@ -17,7 +17,7 @@ use Rattle.basis.specs.Basis.{Basis, basisOf}
 abbrev pub rateLimit : ℕ
 rateLimit = 200_000_000
 
-unfoldable pub shortFormCheck : List ℕ → ℤ → Verdict
+unfoldable pub shortFormCheck : List ℕ → ℤ → Finding
 shortFormCheck run rate = firstOf (runCheck run) (unless (between (negℤ (pos rateLimit)) (pos rateLimit) rate) (refusal 5 1078 0))
 
 -- ---- the rates by age

@@ -4,7 +4,7 @@ mod parts;
 mod rates;
 
 ghost use mathlib.Core.Path.{_≡_};
-ghost use Rattle.basis.specs.Outcome.{firstOf, verdict};
+ghost use Rattle.basis.specs.Outcome.{firstOf, finding};
 ghost use Rattle.lent.specs.Lent.{roomCheck, written};
 ghost use Rattle.short_form.specs.ShortForm.{shortFormCheck, shortFormOf};
 use basis::Check;
@@ -12,7 +12,7 @@ use basis::Refusal;
 
 // The run's own check, then S.
 fn check_short_form(run: &[u8], rate: i32) -> Check
-    ensures { λ r. ⌜ verdict r ≡ shortFormCheck (now (run .entry)) rate ⌝ }
+    ensures { λ r. ⌜ finding r ≡ shortFormCheck (now (run .entry)) rate ⌝ }
 {
     let c = run_check::check_run(run);
     if let Check::Refused(_) = c {
@@ -31,8 +31,8 @@ fn check_short_form(run: &[u8], rate: i32) -> Check
 
 // Writes the short form into the front of `out`.
 pub fn short_form(run: &[u8], rate: i32, out: &mut [u8]) -> Check
-    ensures { λ r. ⌜ verdict r ≡ firstOf (roomCheck 4554 (now (out .entry))) (shortFormCheck (now (run .entry)) rate) ⌝ }
-    ensures { λ r. ⌜ now (out .exit) ≡ written (verdict r) (shortFormOf (now (run .entry)) rate) (now (out .entry)) ⌝ }
+    ensures { λ r. ⌜ finding r ≡ firstOf (roomCheck 4554 (now (out .entry))) (shortFormCheck (now (run .entry)) rate) ⌝ }
+    ensures { λ r. ⌜ now (out .exit) ≡ written (finding r) (shortFormOf (now (run .entry)) rate) (now (out .entry)) ⌝ }
 {
     let c = basis::first_of(
         lent::check_room(4554, out.len()),

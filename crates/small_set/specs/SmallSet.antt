@@ -2,7 +2,7 @@
 use Prim.Native.Nat.{ℕ}
 use mathlib.Core.List.{List, map}
 use lib.ListN.{replicate}
-use Rattle.basis.specs.Outcome.{Verdict, passed, refusedBy, noRefusal}
+use Rattle.basis.specs.Outcome.{Finding, passed, refusedBy, noRefusal}
 use Rattle.history.specs.History.{basisWith, basisCheck}
 use Rattle.model_points.specs.declared.PointAnswer.{PointAnswer}
 use Rattle.model_points.specs.Point.{noResults, pointOf}
@@ -10,7 +10,7 @@ use Rattle.small_set.specs.declared.Questions.{Questions}
 use Rattle.small_set.specs.declared.SmallSet.{SmallSet}
 
 -- a refused basis, and a refused history as well, refuses the set as a whole: its points then carry 0 in every result, refusal and place
-abbrev pub setOf : Verdict → List PointAnswer → SmallSet
+abbrev pub setOf : Finding → List PointAnswer → SmallSet
 setOf passed points = record { refusal = noRefusal; points = points }
 setOf (refusedBy r) points = record { refusal = r; points = replicate 6 (record { results = noResults; refusal = noRefusal }) }
 

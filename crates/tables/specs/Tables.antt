@@ -2,7 +2,7 @@
 use Prim.Native.Nat.{ℕ, _*_}
 use mathlib.Core.List.{List}
 use lib.ListN.{take, drop}
-use Rattle.basis.specs.Outcome.{Verdict, passed, refusedBy}
+use Rattle.basis.specs.Outcome.{Finding, passed, refusedBy}
 use Rattle.run_check.specs.Run.{runCheck}
 use Rattle.tables.specs.declared.Table.{Table}
 use Rattle.tables.specs.declared.Table.the-variants.{BaseRates, AgeInitialRates, AgeLongTermRates, AgePeriods, AgeProportions}
@@ -22,7 +22,7 @@ stretchOf BirthYearPeriods = (4016, 269)
 stretchOf BirthYearProportions = (4285, 269)
 
 -- the stretch that is handed back; of a refused run it has length 0
-abbrev pub handedBack : Verdict → Table → Stretch
+abbrev pub handedBack : Finding → Table → Stretch
 handedBack passed table = stretchOf table
 handedBack (refusedBy r) table = (0, 0)
 

@@ -1,6 +1,6 @@
 -- By the two cases of the first.
 use mathlib.Core.Path.{sym, ap}
-use Rattle.basis.specs.Outcome.{verdict}
+use Rattle.basis.specs.Outcome.{finding}
 use Rattle.basis.proofs.Outcome.{first-refused}
 use borrow.Author.Needs.{needs}
 use Rattle.basis.proofs.first_of.Statement.{statement}
@@ -16,7 +16,7 @@ returns : tie.Need-returns
 returns c = search needs
 
 returns-2 : tie.Need-returns-2
-returns-2 c = sym (first-refused _ _ _ (ap verdict (c .before .first .given .1)))
+returns-2 c = sym (first-refused _ _ _ (ap finding (c .before .first .given .1)))
 
 pub first-of-spec : {M : Type 1} → statement M
 first-of-spec = tie.close (tie.spec enum-told enum-known-first returns returns-2)

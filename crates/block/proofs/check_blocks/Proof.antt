@@ -4,7 +4,7 @@ use Prim.Native.Nat.{ℕ, _*_, _-_, _≤_}
 use native.Mathlib.Omega.{arith}
 use borrow.Author.Needs.{needs}
 use lib.ListN.{drop}
-use Rattle.basis.specs.Outcome.{verdict}
+use Rattle.basis.specs.Outcome.{finding}
 use Rattle.basis.proofs.Outcome.{first-stands, first-passed}
 use Rattle.block.specs.Blocks.{blocksCheck}
 use Rattle.block.proofs.Joined.{part-is, check-turn}
@@ -50,8 +50,8 @@ returns c =
     let f = a .file .now in
     let b = l .loop .b in
     let k = c .before .before .check-block in
-    let turn = check-turn f (a .n) b (verdict (k .result)) (omega arith) (rw (part-is f (512 * b) 512) at (k .ensures)) in
-    sym (first-stands (verdict (k .result)) _ (ap verdict (c .enum-told .given .1))) ∙ turn ∙ l .loop .inv .1
+    let turn = check-turn f (a .n) b (finding (k .result)) (omega arith) (rw (part-is f (512 * b) 512) at (k .ensures)) in
+    sym (first-stands (finding (k .result)) _ (ap finding (c .enum-told .given .1))) ∙ turn ∙ l .loop .inv .1
 
 enum-told-2 : tie.Need-enum-told-2 Inv-loop μ-loop
 enum-told-2 c = search needs
@@ -69,8 +69,8 @@ loop-again c =
     let f = a .file .now in
     let b = l .loop .b in
     let k = c .before .before .check-block in
-    let turn = check-turn f (a .n) b (verdict (k .result)) (omega arith) (rw (part-is f (512 * b) 512) at (k .ensures)) in
-    (omega arith, sym (first-passed (verdict (k .result)) _ (ap verdict (c .enum-told2 .given .1))) ∙ turn ∙ l .loop .inv .1)
+    let turn = check-turn f (a .n) b (finding (k .result)) (omega arith) (rw (part-is f (512 * b) 512) at (k .ensures)) in
+    (omega arith, sym (first-passed (finding (k .result)) _ (ap finding (c .enum-told2 .given .1))) ∙ turn ∙ l .loop .inv .1)
 
 returns-2 : tie.Need-returns-2 Inv-loop μ-loop
 unfolding blocksCheck

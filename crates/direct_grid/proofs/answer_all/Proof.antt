@@ -9,7 +9,7 @@ use borrow.Author.Needs.{needs}
 use Rattle.history.specs.History.{basisWith}
 use Rattle.grid_record.specs.declared.Point.{Point}
 use Rattle.grid_record.specs.Record.{answeredOf}
-use Rattle.basis.specs.Outcome.{Verdict}
+use Rattle.basis.specs.Outcome.{Finding}
 use Rattle.grid.specs.Grid.{gridCheck, recordsOf, answers}
 use Rattle.grid.proofs.Filled.{answers-none, answers-set, records-fit, turn-accepted, grid-is}
 use Rattle.direct_grid.proofs.answer_all.Statement.{statement}
@@ -33,7 +33,7 @@ loop-holds c =
     let s = c .before .before .before in
     let a = s .args in (
       omega arith,
-      ap (λ (p : Verdict × ℕ). p .1) (c .start-grid .ensures),
+      ap (λ (p : Finding × ℕ). p .1) (c .start-grid .ensures),
       sym (answers-none (basisWith (a .run .now) (a .history .now)) (a .records)),
       s .good .1 .1 .0 .1 .0 .1,
     )

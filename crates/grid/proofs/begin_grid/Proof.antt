@@ -3,7 +3,7 @@ use mathlib.Core.Path.{ap, subst}
 use Prim.Native.Nat.{ℕ, _<_}
 use native.Mathlib.Omega.{arith}
 use borrow.Author.Needs.{needs}
-use Rattle.basis.specs.Outcome.{Verdict}
+use Rattle.basis.specs.Outcome.{Finding}
 use Rattle.grid.proofs.Filled.{turn-accepted}
 use Rattle.grid.proofs.begin_grid.Statement.{statement}
 use Rattle.grid.proofs.begin_grid.Tie as tie
@@ -15,7 +15,7 @@ work-out-requires : tie.Need-work-out-requires
 work-out-requires c κs =
     let g = c .before .before in
     let s = g .before .before .before .before in
-    let records = ap (λ (p : Verdict × ℕ). p .1) (g .start-grid .ensures) in
+    let records = ap (λ (p : Finding × ℕ). p .1) (g .start-grid .ensures) in
     let some : 0 < g .start-grid .result .records = omega arith in
     (turn-accepted (s .args .run .now) (s .args .history .now) (s .args .count) 0 (subst (λ (n : ℕ). 0 < n) records some), s .pre)
 
@@ -26,7 +26,7 @@ returns : tie.Need-returns
 returns c =
     let g = c .before .before .before .before .before in
     let s = g .before .before .before .before in
-    let records = ap (λ (p : Verdict × ℕ). p .1) (g .start-grid .ensures) in (
+    let records = ap (λ (p : Finding × ℕ). p .1) (g .start-grid .ensures) in (
       g .start-grid .ensures,
       λ some. (turn-accepted (s .args .run .now) (s .args .history .now) (s .args .count) 0 (subst (λ (n : ℕ). 0 < n) records some), c .before .before .work-out .ensures),
     )

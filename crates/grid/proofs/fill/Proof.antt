@@ -54,7 +54,7 @@ use Rattle.grid_record.proofs.Point as P
 use Rattle.basis.proofs.Check as F
 use Rattle.basis.proofs.Check.Laws as F′
 use Rattle.basis.specs.declared.Check.{Check}
-use Rattle.basis.specs.Outcome.{Verdict, verdict}
+use Rattle.basis.specs.Outcome.{Finding, finding}
 use Rattle.grid.proofs.Filled.{records-fit, grid-is}
 use Rattle.grid.proofs.LocalRow.{big, array-of, slice-of, Row, enough, zeros-typed, zeros-lie, row-back, row-room, val}
 use Rattle.grid.proofs.GridStart as G
@@ -160,7 +160,7 @@ module _ {M : Type 1} (𝓤 : URA M) (H : Heap 𝓤) (A : Atoms 𝓤) (W : Given
       move ! (2 ∷ []) $ use1 W (‵ Own₁ ⊛ ‵ Own₁) (shr-slice-copy 𝓤 H A W (named 1) κ₁ u8 .twice s₁ (val s₁ ∷ [])) $ split ! $ move ! (2 ∷ 0 ∷ 3 ∷ []) $ done !
 
   -- what the checks say of the grid
-  abbrev found : Verdict × ℕ
+  abbrev found : Finding × ℕ
   found = gridStart (gridCheck (now s₀) (now s₁) (length xs))
 
   -- ---- the calls, with the row of numbers l lent from (c, 0) for the lifetime ν under the name δ: what each is passed and asks, what it says, and how the row comes back
@@ -249,7 +249,7 @@ module _ {M : Type 1} (𝓤 : URA M) (H : Heap 𝓤) (A : Atoms 𝓤) (W : Given
           use1 W (‵ (froom array-ty c 0)) (row-room 𝓤 H A W 18340 l c long) $ at-once ! $ move ! (1 ∷ 0 ∷ []) $ done !
 
   -- ---- the exit
-  exits : (r : Check) (w : Val) (zs : List Point) → Is F.the-row r (w ∷ []) → verdict r ≡ gridCheck (now s₀) (now s₁) (length xs) → zs ≡ gridOf (now s₀) (now s₁) xs → length zs ≡ length xs
+  exits : (r : Check) (w : Val) (zs : List Point) → Is F.the-row r (w ∷ []) → finding r ≡ gridCheck (now s₀) (now s₁) (length xs) → zs ≡ gridOf (now s₀) (now s₁) xs → length zs ≡ length xs
       → ent 𝓤 (⋆ 𝓤 H A (Tokens Last ∷ Owned ∷ ‵ (finally P.the-row γ zs) ∷ [])) (Post w)
   exits r w zs is e f same =
       qed W (Tokens Last ∷ Owned ∷ ‵ (finally P.the-row γ zs) ∷ []) ∵
@@ -287,14 +287,14 @@ module _ {M : Type 1} (𝓤 : URA M) (H : Heap 𝓤) (A : Atoms 𝓤) (W : Given
           -- [the tokens; what the slices own; the last list; _13; …; _5; …]
           move ! (19 ∷ 20 ∷ []) $ free1 ! $ move ! (17 ∷ 18 ∷ []) $ free1 ! $ move ! (15 ∷ 16 ∷ []) $ free1 ! $ move ! (13 ∷ 14 ∷ []) $ free1 ! $ move ! (11 ∷ 12 ∷ []) $ free1 ! $
           move ! (9 ∷ 10 ∷ []) $ free1 ! $ move ! (7 ∷ 8 ∷ []) $ free1 ! $ move ! (5 ∷ 6 ∷ []) $ free1 ! $ move ! (3 ∷ 4 ∷ []) $ free1 ! $ free0 ! $
-          by ! (exits (f .check) _ zs known (ap (λ (p : Verdict × ℕ). p .0) f-is) e same)
+          by ! (exits (f .check) _ zs known (ap (λ (p : Finding × ℕ). p .0) f-is) e same)
 
       -- ---- `fill_records`, once `begin_grid` has left the row l
       fills : Triple 𝓤 (C #grid·fill-records) (Records 𝓤 H A at-mem run) → Room P.the-row (length xs) → (l : List ℕ) → length l ≡ 18340 → (0 < f .records → Workable (now s₀) (now s₁) × Workings (basisWith (now s₀) (now s₁)) l)
           → ent 𝓤 (⋆ 𝓤 H A (‵ (Row l l₄) ∷ Listed ∷ Two ∷ Owned ∷ Locals (fat fullShare G′.mir l₅ 0 (start-val f)))) (Wp 𝓤 H C Λ En parts.t-6 (atReturn 𝓤 H En Post))
       fills known room l long ready =
           let fits = LL.owed G.the-type G′.the-laws f _ is .1 .0 .1 in
-          let count = ap (λ (p : Verdict × ℕ). p .1) f-is in
+          let count = ap (λ (p : Finding × ℕ). p .1) f-is in
           let few = subst (λ (m : ℕ). m ≤ length xs) (sym count) (records-fit (now s₀) (now s₁) (length xs)) in
           qed W (‵ (Row l l₄) ∷ Listed ∷ Two ∷ Owned ∷ Locals (fat fullShare G′.mir l₅ 0 (start-val f))) ∵ exec ! C Λ En parts.t-6 (atRet En Post) $
           assigns ! (addr ! (from ! (stop !))) (from ! (stop !)) (init ! 10 refl (tt, tt)) $

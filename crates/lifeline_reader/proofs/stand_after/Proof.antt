@@ -46,7 +46,7 @@ use denote.Triple.Table.{entered, cited}
 use denote.Triple.Walked.{says, Stays, stay-none, stay-none-slice, walkOf, goes-none, goes-none-slice, Walks, ends-at, walked, walk-meets}
 use denote.Exit.{yes}
 use denote.Triple.Clauses.{ensured, lasts}
-use Rattle.basis.specs.Outcome.{verdict}
+use Rattle.basis.specs.Outcome.{finding}
 use Rattle.lifeline.specs.Said.{statusMeaning}
 use Rattle.lifeline.specs.Lifeline.{startAt, standAfter}
 use Rattle.lifeline_reader.specs.Reader.{lineStarted, stepOf, lineStepped}
@@ -178,7 +178,7 @@ module _ {M : Type 1} (𝓤 : URA M) (H : Heap 𝓤) (A : Atoms 𝓤) (W : Given
 
   -- what `start` promises of its result
   abbrev Starting : Started → Type 0
-  Starting r = (r .line ≡ lineStarted s (now h) x t) × (verdict (r .check) ≡ startAt (now s) (now h) x t .check)
+  Starting r = (r .line ≡ lineStarted s (now h) x t) × (finding (r .check) ≡ startAt (now s) (now h) x t .check)
 
   start-said : (r : Started) → ent 𝓤 (ensured 𝓤 H A start.ended (start.clauses 𝓤 H A mem run) (κ₀, (κ₁, tt)) (s, (h, (x, (t, tt)))) tt r) (fact 𝓤 (Starting r))
   start-said r = exE 𝓤 _ (λ ws. snd∗ 𝓤 (sem 𝓤 H A (lasts start.ended (κ₀, (κ₁, tt)) (s, (h, (x, (t, tt)))) ws)) (fact 𝓤 (Starting r)))

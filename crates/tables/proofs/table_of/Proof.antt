@@ -6,7 +6,7 @@ use native.Mathlib.Nat.{zero-add}
 use native.Mathlib.Omega.{arith}
 use lib.ListN.{take, drop}
 use Rattle.basis.specs.declared.Refusal.{Refusal}
-use Rattle.basis.specs.Outcome.{Verdict, passed, refusedBy, verdict}
+use Rattle.basis.specs.Outcome.{Finding, passed, refusedBy, finding}
 use Rattle.run_check.specs.Run.{runCheck}
 use Rattle.run_check.proofs.Acceptance.{accepted}
 use Rattle.tables.specs.declared.Table.{Table}
@@ -19,10 +19,10 @@ use Rattle.tables.proofs.table_of.Tie as tie
 
 -- ---- what is handed back, by what the check says
 module _ (run : List ℕ) (table : Table) where
-  handed : {c : Verdict} → runCheck run ≡ c
+  handed : {c : Finding} → runCheck run ≡ c
       → (tableOf run table ≡ bytesOf run (handedBack c table)) × (tableStart run table ≡ handedBack c table .0)
   unfolding tableOf tableStart
-  handed h = (ap (λ (c : Verdict). bytesOf run (handedBack c table)) h, ap (λ (c : Verdict). handedBack c table .0) h)
+  handed h = (ap (λ (c : Finding). bytesOf run (handedBack c table)) h, ap (λ (c : Finding). handedBack c table .0) h)
 
   refused-table : {r : Refusal} → runCheck run ≡ refusedBy r → (tableOf run table ≡ []) × (tableStart run table ≡ 0)
   refused-table h = handed h
@@ -54,7 +54,7 @@ returns : tie.Need-returns
 returns c =
     let k = c .before .before .before in
     let s = k .before .before .args in
-    let t = refused-table (s .run .now) (s .table) (sym (k .check-run .ensures) ∙ ap verdict (c .before .enum-told .given .1)) in
+    let t = refused-table (s .run .now) (s .table) (sym (k .check-run .ensures) ∙ ap finding (c .before .enum-told .given .1)) in
     (sym (t .0), rw (t .1, zero-add) refl)
 
 -- ---- a run that passed, and the table's stretch in it
@@ -72,7 +72,7 @@ passing : (c : tie.After-struct-known) → Passing c
 passing c =
     let t = c .before .before in
     record {
-      passed = sym (t .before .before .check-run .ensures) ∙ ap verdict (t .enum-told2 .given .1);
+      passed = sym (t .before .before .check-run .ensures) ∙ ap finding (t .enum-told2 .given .1);
       in-run = rw (c .before .stretch-of .ensures) (inside (t .before .before .before .before .args .table));
     }
 

@@ -2,7 +2,7 @@
 -- in front.
 use mathlib.Core.Path.{sym, ap, _∙_}
 use native.Mathlib.Omega.{arith}
-use Rattle.basis.specs.Outcome.{verdict}
+use Rattle.basis.specs.Outcome.{finding}
 use Rattle.run_check.specs.Run.{runCheck}
 use Rattle.lent.specs.Lent.{placed}
 use Rattle.lent.proofs.Lent.{kept, put-in-front}
@@ -28,8 +28,8 @@ returns c =
     let k = c .before .before in
     let s = k .before .before .before .before .before .args in
     let e = rw (k .before .before .check-room .ensures, k .before .check-outer .ensures) at (k .first-of .ensures) in
-    let told = ap verdict (c .enum-told .given .1) in
-    (outer-refuses (s .file .now) (s .run .now) _ e _ told, sym (kept (verdict (k .first-of .result)) _ _ _ told))
+    let told = ap finding (c .enum-told .given .1) in
+    (outer-refuses (s .file .now) (s .run .now) _ e _ told, sym (kept (finding (k .first-of .result)) _ _ _ told))
 
 enum-told-2 : tie.Need-enum-told-2
 enum-told-2 c = search needs
@@ -42,7 +42,7 @@ join-parts-requires c κs =
     let k = c .before .before .before in
     let s = k .before .before .before .before .before .args in
     let e = rw (k .before .before .check-room .ensures, k .before .check-outer .ensures) at (k .first-of .ensures) in
-    (outer-lets (s .file .now) (s .run .now) _ e (ap verdict (c .before .enum-told2 .given .1)) .1, search needs)
+    (outer-lets (s .file .now) (s .run .now) _ e (ap finding (c .before .enum-told2 .given .1)) .1, search needs)
 
 slice-aggregate-check-run : tie.Need-slice-aggregate-check-run
 slice-aggregate-check-run c = search needs
@@ -62,7 +62,7 @@ put-requires c κs =
     let k = told .before .before in
     let s = k .before .before .before .before .before .args in
     let e = rw (k .before .before .check-room .ensures, k .before .check-outer .ensures) at (k .first-of .ensures) in
-    omega (arith, outer-lets (s .file .now) (s .run .now) _ e (ap verdict (told .enum-told2 .given .1)) .0)
+    omega (arith, outer-lets (s .file .now) (s .run .now) _ e (ap finding (told .enum-told2 .given .1)) .0)
 
 enum-told-4 : tie.Need-enum-told-4
 enum-told-4 c = search needs
@@ -80,8 +80,8 @@ returns-2 c =
     let k = outer .before .before in
     let s = k .before .before .before .before .before .args in
     let e = rw (k .before .before .check-room .ensures, k .before .check-outer .ensures) at (k .first-of .ensures) in (
-      run .check-run .ensures ∙ ap runCheck (join .join-parts .ensures) ∙ outer-lets (s .file .now) (s .run .now) _ e (ap verdict (outer .enum-told2 .given .1)) .2,
-      at .put .ensures ∙ ap (placed (s .run .now) 0) (join .join-parts .ensures) ∙ put-in-front (verdict (run .check-run .result)) _ _ (ap verdict (told .enum-told3 .given .1)),
+      run .check-run .ensures ∙ ap runCheck (join .join-parts .ensures) ∙ outer-lets (s .file .now) (s .run .now) _ e (ap finding (outer .enum-told2 .given .1)) .2,
+      at .put .ensures ∙ ap (placed (s .run .now) 0) (join .join-parts .ensures) ∙ put-in-front (finding (run .check-run .result)) _ _ (ap finding (told .enum-told3 .given .1)),
     )
 
 returns-3 : tie.Need-returns-3
@@ -92,8 +92,8 @@ returns-3 c =
     let k = outer .before .before in
     let s = k .before .before .before .before .before .args in
     let e = rw (k .before .before .check-room .ensures, k .before .check-outer .ensures) at (k .first-of .ensures) in (
-      run .check-run .ensures ∙ ap runCheck (join .join-parts .ensures) ∙ outer-lets (s .file .now) (s .run .now) _ e (ap verdict (outer .enum-told2 .given .1)) .2,
-      sym (kept (verdict (run .check-run .result)) _ _ _ (ap verdict (c .enum-told4 .given .1))),
+      run .check-run .ensures ∙ ap runCheck (join .join-parts .ensures) ∙ outer-lets (s .file .now) (s .run .now) _ e (ap finding (outer .enum-told2 .given .1)) .2,
+      sym (kept (finding (run .check-run .result)) _ _ _ (ap finding (c .enum-told4 .given .1))),
     )
 
 pub read-file-spec : {M : Type 1} → statement M

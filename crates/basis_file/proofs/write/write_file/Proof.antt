@@ -1,6 +1,6 @@
 -- The output is written only where both checks have passed, and then it has the file in front.
 use mathlib.Core.Path.{sym, _∙_, ap}
-use Rattle.basis.specs.Outcome.{verdict}
+use Rattle.basis.specs.Outcome.{finding}
 use Rattle.run_check.specs.Run.{runCheck}
 use Rattle.lent.proofs.Lent.{room-passed, kept, put-in-front}
 use Rattle.basis_file.proofs.Files.{accepted-run}
@@ -25,7 +25,7 @@ write-blocks-requires c κs =
     let k = c .before .before .before in
     let s = k .before .before .before .before .before .args in
     let e = rw (k .before .before .check-room .ensures, k .before .check-run .ensures) at (k .first-of .ensures) in
-    let p = room-passed 4608 (s .file .now) (runCheck (s .run .now)) (sym e ∙ ap verdict (c .before .enum-told .given .1)) in
+    let p = room-passed 4608 (s .file .now) (runCheck (s .run .now)) (sym e ∙ ap finding (c .before .enum-told .given .1)) in
     (accepted-run (s .run .now) (p .1), p .0)
 
 enum-told-2 : tie.Need-enum-told-2
@@ -39,14 +39,14 @@ returns c =
     let told = c .before .before .before .before in
     let k = told .before .before in (
       rw (k .before .before .check-room .ensures, k .before .check-run .ensures) at (k .first-of .ensures),
-      c .before .before .write-blocks .ensures ∙ put-in-front (verdict (k .first-of .result)) _ _ (ap verdict (told .enum-told .given .1)),
+      c .before .before .write-blocks .ensures ∙ put-in-front (finding (k .first-of .result)) _ _ (ap finding (told .enum-told .given .1)),
     )
 
 returns-2 : tie.Need-returns-2
 returns-2 c =
     let k = c .before .before in (
       rw (k .before .before .check-room .ensures, k .before .check-run .ensures) at (k .first-of .ensures),
-      sym (kept (verdict (k .first-of .result)) _ _ _ (ap verdict (c .enum-told2 .given .1))),
+      sym (kept (finding (k .first-of .result)) _ _ _ (ap finding (c .enum-told2 .given .1))),
     )
 
 pub write-file-spec : {M : Type 1} → statement M

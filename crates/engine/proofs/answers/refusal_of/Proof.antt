@@ -2,7 +2,7 @@
 use mathlib.Core.Path.{ap, sym}
 use borrow.Author.Needs.{needs}
 use Rattle.basis.specs.declared.Check.{Check}
-use Rattle.basis.specs.Outcome.{verdict}
+use Rattle.basis.specs.Outcome.{finding}
 use Rattle.engine.specs.Enquiry.{refusalOf}
 use Rattle.engine.proofs.answers.refusal_of.Statement.{statement}
 use Rattle.engine.proofs.answers.refusal_of.Tie as tie
@@ -14,7 +14,7 @@ enum-known-check : tie.Need-enum-known-check
 enum-known-check c = search needs
 
 returns : tie.Need-returns
-returns c = ap (λ (k : Check). refusalOf (verdict k)) (sym (c .enum-told .given .1))
+returns c = ap (λ (k : Check). refusalOf (finding k)) (sym (c .enum-told .given .1))
 
 returns-2 : tie.Need-returns-2
 returns-2 c = search needs

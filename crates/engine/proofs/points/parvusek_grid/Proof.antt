@@ -45,7 +45,7 @@ use Rattle.basis.proofs.Check.Laws as K′
 use Rattle.basis.proofs.Refusal as F
 use Rattle.basis.proofs.Refusal.Laws as F′
 use Rattle.basis.specs.declared.Check.{Check}
-use Rattle.basis.specs.Outcome.{verdict}
+use Rattle.basis.specs.Outcome.{finding}
 use Rattle.grid_record.proofs.Point as P
 use Rattle.grid.proofs.fill as fill
 use Rattle.grid.proofs.fill.Symbol as fill-def
@@ -137,8 +137,8 @@ module _ {M : Type 1} (𝓤 : URA M) (H : Heap 𝓤) (A : Atoms 𝓤) (W : Given
   goes-refusal c w =
       qed W (‵ (K.the-row .own c (w ∷ [])) ∷ []) ∵ nothing ! $ move ! (1 ∷ 0 ∷ []) $ fjoin ! $ nothing ! $ join ! $ frame ! $ done !
 
-  refusal-said : (c : Check) (r : Refusal) → ent 𝓤 (ensured 𝓤 H A refusal-of.ended (refusal-of.clauses 𝓤 H A mem run) tt (c, tt) tt r) (fact 𝓤 (r ≡ refusalOf (verdict c)))
-  refusal-said c r = exE 𝓤 _ (λ ws. snd∗ 𝓤 (sem 𝓤 H A (lasts refusal-of.ended tt (c, tt) ws)) (fact 𝓤 (r ≡ refusalOf (verdict c))))
+  refusal-said : (c : Check) (r : Refusal) → ent 𝓤 (ensured 𝓤 H A refusal-of.ended (refusal-of.clauses 𝓤 H A mem run) tt (c, tt) tt r) (fact 𝓤 (r ≡ refusalOf (finding c)))
+  refusal-said c r = exE 𝓤 _ (λ ws. snd∗ 𝓤 (sem 𝓤 H A (lasts refusal-of.ended tt (c, tt) ws)) (fact 𝓤 (r ≡ refusalOf (finding c))))
 
   -- ---- the exit
   exits : (r : Refusal) (w : Val) (zs : List Point) → r ≡ refusalOf (gridCheck (now s₀) (now s₁) (length xs)) → zs ≡ gridOf (now s₀) (now s₁) xs → length zs ≡ length xs
@@ -170,8 +170,8 @@ module _ {M : Type 1} (𝓤 : URA M) (H : Heap 𝓤) (A : Atoms 𝓤) (W : Given
         use1 W (later (some (λ (c : Check). (Tokens ⊛ ‵ (K.the-row .own c (w ∷ [])))
         ⊛ raw (ensured 𝓤 H A fill.ended (fill.clauses 𝓤 H A mem run) (κ₀, (κ₁, (κ₂, tt))) a tt c)))) (id⊢ 𝓤 _) $ await ! tt $ pick ! (λ c.
         split ! $ move ! (1 ∷ []) $ use1 W (some (λ (zs : Unit {0} × (Unit {0} × (List Point × Unit {0}))). ‵ (lasts fill.ended (κ₀, (κ₁, (κ₂, tt))) a zs)
-        ⊛ (raw (fact 𝓤 (verdict c ≡ gridCheck (now s₀) (now s₁) (length xs))) ⊛ raw (fact 𝓤 (zs .1 .1 .0 ≡ gridOf (now s₀) (now s₁) xs))))) (id⊢ 𝓤 _) $ pick ! (λ zs.
-        split ! $ move ! (1 ∷ []) $ split ! $ heard ! (verdict c ≡ gridCheck (now s₀) (now s₁) (length xs)) (λ e. heard ! (zs .1 .1 .0 ≡ gridOf (now s₀) (now s₁) xs) (λ f.
+        ⊛ (raw (fact 𝓤 (finding c ≡ gridCheck (now s₀) (now s₁) (length xs))) ⊛ raw (fact 𝓤 (zs .1 .1 .0 ≡ gridOf (now s₀) (now s₁) xs))))) (id⊢ 𝓤 _) $ pick ! (λ zs.
+        split ! $ move ! (1 ∷ []) $ split ! $ heard ! (finding c ≡ gridCheck (now s₀) (now s₁) (length xs)) (λ e. heard ! (zs .1 .1 .0 ≡ gridOf (now s₀) (now s₁) xs) (λ f.
         fsplit ! $ drop ! $ fsplit ! $ drop ! $ fsplit ! $ fsplit ! $ move ! (1 ∷ []) $ feqL ! (λ same. move ! (1 ∷ []) $ drop ! $ move ! (1 ∷ []) $ split ! $ move ! (1 ∷ []) $
         -- [what the check owns; the tokens; the last list; what the slices own; _6; …]
         peeks ! K.the-row (Is K.the-row) (shows 𝓤 H A K.the-row) c (w ∷ []) (λ isc. land ! (from ! (stop !)) (init ! 8 refl (EL.lawful K.the-type K′.the-laws 𝓤 H A W tt .typed c _ isc .0)) $
@@ -180,7 +180,7 @@ module _ {M : Type 1} (𝓤 : URA M) (H : Heap 𝓤) (A : Atoms 𝓤) (W : Given
         calls-at ! fm (RefusalOf 𝓤 H A mem run) known-refusal (to-refusal c w) (and-then ! (load ! (from ! (stop !)) (look ! 8 refl)) (no-more !)) (λ t.
         use1 W (later (some (λ (r : Refusal). (‵ ftrue ⊛ ‵ (F.the-row .own r (t ∷ []))) ⊛ raw (ensured 𝓤 H A refusal-of.ended (refusal-of.clauses 𝓤 H A mem run) tt (c, tt) tt r)))) (id⊢ 𝓤 _) $
         await ! tt $ pick ! (λ r.
-        split ! $ move ! (1 ∷ []) $ use1 W (raw (fact 𝓤 (r ≡ refusalOf (verdict c)))) (refusal-said c r) $ heard ! (r ≡ refusalOf (verdict c)) (λ g. split ! $ drop ! $
+        split ! $ move ! (1 ∷ []) $ use1 W (raw (fact 𝓤 (r ≡ refusalOf (finding c)))) (refusal-said c r) $ heard ! (r ≡ refusalOf (finding c)) (λ g. split ! $ drop ! $
         peeks ! F.the-row (Is F.the-row) (shows 𝓤 H A F.the-row) r (t ∷ []) (λ isr. land ! (from ! (stop !)) (init ! 16 refl (LL.lawful F.the-type F′.the-laws 𝓤 H A W .typed r _ isr .0)) $
         returns ! (look ! 16 refl) $ forget ! 4 refl $ forget ! 6 refl $ forget ! 8 refl $ forget ! 10 refl $ forget ! 12 refl $ forget ! 14 refl $ forget ! 16 refl $
         move ! (16 ∷ 17 ∷ []) $ free1 ! $ move ! (14 ∷ 15 ∷ []) $ free1 ! $ move ! (12 ∷ 13 ∷ []) $ free1 ! $ move ! (10 ∷ 11 ∷ []) $ free1 ! $ move ! (8 ∷ 9 ∷ []) $ free1 ! $

@@ -5,7 +5,7 @@ use native.Mathlib.Omega.{arith}
 use lib.ListN.{length}
 use Rattle.lent.specs.Lent.{written}
 use Rattle.basis_file.specs.File.{runIn}
-use Rattle.basis.specs.Outcome.{Verdict, verdict}
+use Rattle.basis.specs.Outcome.{Finding, finding}
 use Rattle.reply_text.specs.Reply.{headerLine}
 use Rattle.reply_text.proofs.Puts.{being}
 use Rattle.enquiry_lines.specs.Output.{printed}
@@ -41,9 +41,9 @@ returns : tie.Need-returns
 returns c = let told = c .before .before .before .before in
     let read = told .before .before .before .before in
     let f = read .read-files .ensures in
-    let is = sym (ap verdict (told .enum-told .given .1)) ∙ f .0 in
+    let is = sym (ap finding (told .enum-told .given .1)) ∙ f .0 in
     let a = read .before .before .before .before .before .before .args in
-    let run = f .1 ∙ ap (λ (k : Verdict). written k (runIn (a .file .now)) (a .run .now)) (ap verdict (told .enum-told .given .1)) in
+    let run = f .1 ∙ ap (λ (k : Finding). written k (runIn (a .file .now)) (a .run .now)) (ap finding (told .enum-told .given .1)) in
     (is, (run, (being (ap (λ k. printed k []) is) refl (c .before .before .put-header .ensures), omega (arith, c .before .before .put-header .ensures .next, header))))
 
 same-length-3 : tie.Need-same-length-3
@@ -56,9 +56,9 @@ returns-2 : tie.Need-returns-2
 returns-2 c = let told = c .before .before .before .before .before in
     let read = told .before .before .before .before in
     let f = read .read-files .ensures in
-    let is = sym (ap verdict (told .x .given .1)) ∙ f .0 in
+    let is = sym (ap finding (told .x .given .1)) ∙ f .0 in
     let a = read .before .before .before .before .before .before .args in
-    let run = f .1 ∙ ap (λ (k : Verdict). written k (runIn (a .file .now)) (a .run .now)) (ap verdict (told .x .given .1)) in
+    let run = f .1 ∙ ap (λ (k : Finding). written k (runIn (a .file .now)) (a .run .now)) (ap finding (told .x .given .1)) in
     (is, (run, (being (ap (λ k. printed k []) is) refl (c .before .before .put-refusal .ensures .0), omega (arith, c .before .before .put-refusal .ensures .1))))
 
 pub open-files-spec : {M : Type 1} → statement M

@@ -4,7 +4,7 @@ use mathlib.Core.List.{List}
 use Prim.Native.Nat.{ℕ, _+_, _*_, _-_, _≤_, _<_}
 use native.Mathlib.Omega.{arith}
 use borrow.Author.Needs.{needs}
-use Rattle.basis.specs.Outcome.{Verdict, firstOf, verdict}
+use Rattle.basis.specs.Outcome.{Finding, firstOf, finding}
 use Rattle.basis.proofs.Outcome.{first-same, both-passed, says-passed, both-pass}
 use Rattle.field_check.specs.declared.Field.{Field}
 use Rattle.field_check.specs.Field.{fieldsCheck}
@@ -17,12 +17,12 @@ use Rattle.history.proofs.check.check_fields.Statement.{statement}
 use Rattle.history.proofs.check.check_fields.Tie as tie
 
 -- what two fields a year say from the k-th year on
-abbrev From : List ℕ → ℕ → ℕ → Field → Field → Verdict
+abbrev From : List ℕ → ℕ → ℕ → Field → Field → Finding
 From history years k first second = fieldsCheck (partsOf (2 * years) history) (yearlyFields first second (1012 * k) (years - k))
 
 abbrev Inv-loop : tie.InvT-loop
 Inv-loop history years fours₀ fives₀ k₀ fours fives k =
-    (k ≤ years) × (verdict fours ≡ From history years k firstRemaining secondRemaining) × (verdict fives ≡ From history years k youngerAges olderAges)
+    (k ≤ years) × (finding fours ≡ From history years k firstRemaining secondRemaining) × (finding fives ≡ From history years k youngerAges olderAges)
 
 abbrev μ-loop : tie.MeasureT-loop
 μ-loop history years fours₀ fives₀ k₀ fours fives k = k

@@ -3,7 +3,7 @@ use mathlib.Core.Path.{_∙_, sym, ap}
 use Prim.Native.Nat.{_*_}
 use borrow.Author.Needs.{needs}
 use Rattle.basis.specs.Basis.{basisOf}
-use Rattle.basis.specs.Outcome.{Verdict, firstOf, verdict}
+use Rattle.basis.specs.Outcome.{Finding, firstOf, finding}
 use Rattle.basis.proofs.Outcome.{first-stands, first-passed}
 use Rattle.field_check.specs.Field.{fieldsCheck}
 use Rattle.block.specs.Blocks.{blocksCheck}
@@ -45,8 +45,8 @@ returns-2 c =
     let y = t .before .years-needed .ensures in
     let l = rw y at (t .if1 .left) in
     let e = rw y at (k .check-blocks .ensures) in
-    sym (first-stands (verdict (k .check-blocks .result)) _ (ap verdict (c .enum-told .given .1)))
-    ∙ ap (λ (x : Verdict). firstOf x (fieldsCheck (historyData b (a .history .now)) (historyFields (actualYears b)))) e
+    sym (first-stands (finding (k .check-blocks .result)) _ (ap finding (c .enum-told .given .1)))
+    ∙ ap (λ (x : Finding). firstOf x (fieldsCheck (historyData b (a .history .now)) (historyFields (actualYears b)))) e
     ∙ sym (right-length b (a .history .now) l)
 
 enum-told-2 : tie.Need-enum-told-2
@@ -66,7 +66,7 @@ returns-3 c =
     let e = rw y at (k .check-blocks .ensures) in
     let f = rw y at (c .check-fields .ensures) in
     f ∙ joined-fields b (a .history .now)
-    ∙ sym (first-passed (blocksCheck 0 (2 * actualYears b) (a .history .now)) _ (sym e ∙ ap verdict (c .before .enum-told2 .given .1)))
+    ∙ sym (first-passed (blocksCheck 0 (2 * actualYears b) (a .history .now)) _ (sym e ∙ ap finding (c .before .enum-told2 .given .1)))
     ∙ sym (right-length b (a .history .now) l)
 
 pub check-history-spec : {M : Type 1} → statement M

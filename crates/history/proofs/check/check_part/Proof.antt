@@ -3,7 +3,7 @@ use mathlib.Core.Path.{_∙_, ap, sym}
 use Prim.Native.Nat.{_+_, _*_}
 use native.Mathlib.Omega.{arith}
 use borrow.Author.Needs.{needs}
-use Rattle.basis.specs.Outcome.{verdict}
+use Rattle.basis.specs.Outcome.{finding}
 use Rattle.block.proofs.Joined.{part-is}
 use Rattle.history.specs.Inner.Part.{countedFrom}
 use Rattle.history.proofs.Window.{refused-in}
@@ -44,21 +44,21 @@ add-t15 : tie.Need-add-t15
 add-t15 c =
     let k = c .before .before .before .before in
     let s = c .before .before .before .before .before .before .before in
-    omega (arith, refused-in _ (s .args .f) _ (sym (k .check-field .ensures) ∙ ap verdict (c .before .before .r .given .1)), s .pre .2)
+    omega (arith, refused-in _ (s .args .f) _ (sym (k .check-field .ensures) ∙ ap finding (c .before .before .r .given .1)), s .pre .2)
 
 returns : tie.Need-returns
 returns c =
     let k = c .before .before in
     let s = k .before .before .before in
     let e = rw (part-is (s .args .history .now) (512 * s .args .b + 2) 506) at (k .check-field .ensures) in
-    ap (countedFrom (506 * s .args .b)) (sym (ap verdict (c .enum-told .given .1)) ∙ e)
+    ap (countedFrom (506 * s .args .b)) (sym (ap finding (c .enum-told .given .1)) ∙ e)
 
 returns-2 : tie.Need-returns-2
 returns-2 c =
     let k = c .before .before .before .before in
     let s = k .before .before .before in
     let e = rw (part-is (s .args .history .now) (512 * s .args .b + 2) 506) at (k .check-field .ensures) in
-    ap (countedFrom (506 * s .args .b)) (sym (ap verdict (c .before .before .r .given .1)) ∙ e)
+    ap (countedFrom (506 * s .args .b)) (sym (ap finding (c .before .before .r .given .1)) ∙ e)
 
 pub check-part-spec : {M : Type 1} → statement M
 check-part-spec =

@@ -3,14 +3,14 @@ use mathlib.Core.Path.{_≡_, refl, _∙_}
 use Prim.Native.Nat.{ℕ, _+_, _*_}
 use lib.ListN.{take, drop}
 use borrow.Author.Needs.{needs}
-use Rattle.basis.specs.Outcome.{Verdict, passed, refusedBy, passes}
+use Rattle.basis.specs.Outcome.{Finding, passed, refusedBy, passes}
 use Rattle.field_check.specs.Field.{fieldCheck}
 use Rattle.block.proofs.Joined.{part-is}
 use Rattle.history.specs.Inner.Part.{countedFrom}
 use Rattle.history.proofs.check.part_within.Statement.{statement}
 use Rattle.history.proofs.check.part_within.Tie as tie
 
-counted : (from : ℕ) (c : Verdict) → passes c ≡ passes (countedFrom from c)
+counted : (from : ℕ) (c : Finding) → passes c ≡ passes (countedFrom from c)
 counted from passed = refl
 counted from (refusedBy r) = refl
 
