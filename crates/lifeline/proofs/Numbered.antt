@@ -1,17 +1,17 @@
 -- No number but those of the papers' list: by the laws of what refuses by numbers of a list. Assumes nothing.
 use mathlib.Core.Path.{refl}
-use Prim.Native.Nat.{ℕ, _+_}
+use Prim.Native.Nat.{ℕ}
 use lib.Dec.{leb}
 use Rattle.arithmetic.specs.Fraction.{U}
 use Rattle.basis.specs.Refusals.{numbers, isListed, RefusesBy}
 use Rattle.basis.proofs.Refusals.{unless-by, first-by, check-among, record-numbers}
 use Rattle.question.specs.Question.{inRange}
 use Rattle.question.proofs.Numbered.{age-numbered}
-use Rattle.lifeline.specs.Lifeline.{standingYearCheck, survivorsCheck, standingCheck}
+use Rattle.lifeline.specs.Lifeline.{lastStandingYear, standingYearCheck, survivorsCheck, standingCheck}
 
 standing-year-numbered : (base age year : ℕ) → RefusesBy numbers (standingYearCheck base age year)
 unfolding standingYearCheck numbers isListed
-standing-year-numbered base age year = unless-by (inRange base (2110 + age) year) _ refl
+standing-year-numbered base age year = unless-by (inRange base (lastStandingYear age) year) _ refl
 
 survivors-numbered : (survivors : ℕ) → RefusesBy numbers (survivorsCheck survivors)
 unfolding survivorsCheck numbers isListed
