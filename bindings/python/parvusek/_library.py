@@ -166,7 +166,7 @@ def library() -> ctypes.CDLL:
     for name, (arguments, result) in FUNCTIONS.items():
         function = getattr(loaded, name, None)
         if function is None:
-            raise LibraryNotFound(f"{path} has no function {name}, and so is no library of parvusek {__version__}")
+            raise LibraryNotFound(f"{path} has no function {name}, so it is not the library of parvusek {__version__}")
         function.argtypes = arguments
         function.restype = result
     return loaded

@@ -191,7 +191,7 @@ def places_to_make(out: str, named: Optional[str], basis: Basis) -> tuple[Place,
     if not basis.history:
         return place, None
     if named is None and not place.is_file:
-        raise CommandError(f"{out} is no regular file, so that its history has no name; --history names one")
+        raise CommandError(f"{out} is not a regular file, so its history has no name; --history names one")
     if named is None and place.is_file:
         _unambiguous(out)
     return place, place_of(named if named is not None else history_to_make(out))

@@ -214,7 +214,7 @@ def _foreign_history(out: str) -> None:
         warn(str(error))
         return
     if found is not None:
-        warn(f"{found} is no history of this basis, which has none; take it away, or value with --no-history")
+        warn(f"{found} does not belong to this basis, which has no history; remove it, or value with --no-history")
 
 
 def show_tables(options: argparse.Namespace) -> int:

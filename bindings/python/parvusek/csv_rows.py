@@ -24,7 +24,7 @@ class NotCsv(Exception):
 class Row(NamedTuple):
     """A row: its first line, its own text without the line end, its cells, and what is wrong with it, if anything is.
 
-    One that is no row of a CSV has no cells.
+    One that cannot be read as CSV has no cells.
     """
 
     line: int
@@ -132,7 +132,7 @@ class Rows:
                 return whole
             if len(self._rest) > _LONGEST_LINE:
                 raise NotCsv(f"line {self.line + 1} has more than {_LONGEST_LINE:,} characters and no end: "
-                             "from there on the file is no CSV")
+                             "from there on the file cannot be read as CSV")
 
     def plain(self, text: str) -> Optional[tuple[list[str], list[list[str]]]]:
         """The lines of a block in which every line is one row, and the cells of each; None where it is not so, or where
@@ -221,7 +221,7 @@ class Rows:
         fault = _fault(text, self.separator)
         if len(self._taken) > 1:
             raise NotCsv(f"{self._place(line, text, fault.opened)}: the quote that opens a cell there {fault.later}; "
-                         "from there on the file is no CSV")
+                         "from there on the file cannot be read as CSV")
         return Row(line, text, None, f"{_within(line, self._place(line, text, fault.at))}: {fault.why}")
 
     def _place(self, line: int, text: str, at: int) -> str:

@@ -85,7 +85,7 @@ def _known(encoding: str) -> str:
     except LookupError:
         raise EncodingError(f"--encoding {encoding} is not known; utf-8, cp1252 and utf-16 are") from None
     if not getattr(codec, "_is_text_encoding", True):
-        raise EncodingError(f"--encoding {encoding} is no encoding of text")
+        raise EncodingError(f"--encoding {encoding} is not a text encoding")
     return codec.name
 
 

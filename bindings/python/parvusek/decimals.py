@@ -6,13 +6,13 @@ from decimal import Decimal
 
 UNIT = 1_000_000_000
 
-# As spreadsheets write numbers. What the decimal module takes beyond this (NaN, digits of other scripts) is no number here.
+# As spreadsheets write numbers. What the decimal module takes beyond this (NaN, digits of other scripts) is not a number here.
 _DECIMAL = re.compile(r"[+-]?(?:[0-9]+\.?[0-9]*|\.[0-9]+)(?:[eE][+-]?[0-9]{1,3})?")
 _LONGEST = 400
 
 
 class TooManyDecimals(ValueError):
-    """A number that is no whole number of units."""
+    """A number that is not a whole number of units."""
 
 
 def decimal(units: int) -> str:

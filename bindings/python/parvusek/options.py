@@ -9,7 +9,7 @@ from . import __version__
 REFUSED_ROWS = 3
 
 STATUSES = """exit status:
-  0      done; a refused row is no error
+  0      done; a refused row is not an error
   1      an error, which is said on standard error; no output has taken its place, unless the error is
          that the summary itself cannot be written
   2      a wrong command line
@@ -48,8 +48,8 @@ OUT.csv is there only once it is whole, and keeps the mode and the owner of the 
 pipe, a device or standard output is written to directly. No output may be one of the inputs.
 
 Beside OUT.csv stands its record, OUT.csv.json: the version, the time, the SHA-256 of the basis, the
-history, the members and the values, and the counts. There is none where OUT.csv is no regular file and
---record names none. A file of that name that is no such record is never replaced.
+history, the members and the values, and the counts. There is none where OUT.csv is not a regular file and
+--record names none. A file of that name that is not such a record is never replaced.
 
 {_HISTORY} A basis whose base year is before its foundation year is
 valued with its history. One that does not belong to the basis is an error."""
@@ -156,5 +156,5 @@ def _show(commands: Any) -> argparse.ArgumentParser:
 
 def _sha256(text: str) -> str:
     if not re.fullmatch(r"[0-9a-fA-F]{64}", text):
-        raise argparse.ArgumentTypeError(f"{text!r} is no SHA-256, which has 64 hexadecimal digits")
+        raise argparse.ArgumentTypeError(f"{text!r} is not a SHA-256 digest, which has 64 hexadecimal digits")
     return text.lower()

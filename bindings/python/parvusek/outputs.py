@@ -1,4 +1,4 @@
-"""Writing: a file is there only once it is whole, and what is no regular file is written to directly."""
+"""Writing: a file is there only once it is whole, and what is not a regular file is written to directly."""
 
 import contextlib
 import errno

@@ -34,7 +34,7 @@ def record_place(values: Place, named: Optional[str], without: bool) -> Optional
 def not_the_users(place: Place) -> None:
     """A file that is there is replaced only if it is such a record itself."""
     if place.is_file and os.path.exists(place.path) and not _is_record(place.path):
-        raise CommandError(f"{place.name} is there and is no record of a valuation; it stays. Name another file for the "
+        raise CommandError(f"{place.name} exists and is not the record of a valuation; it stays. Name another file for the "
                            "record with --record, or leave it out with --no-record")
 
 

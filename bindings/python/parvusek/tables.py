@@ -168,7 +168,7 @@ class Tables:
                 rows = Rows(Source(opened, self._encoding), header)
                 found = [row for text in rows.blocks() for row in rows.careful(text)]
         except (NotCsv, EncodingError) as error:
-            self._is_wrong(f"{file} is no CSV table: {error}")
+            self._is_wrong(f"{file} is not a CSV table: {error}")
             return None
         except CommandError as error:
             self._wrong += error.sentences

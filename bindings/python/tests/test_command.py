@@ -296,8 +296,8 @@ class Histories(Command):
         self.beside.write_bytes(self.history)
         status, said, wrong = self.run_command("basis", "make", SAMPLE / "tables", self.basis)
         self.assertEqual(status, 0)
-        self.assertEqual(wrong, f"parvusek: {self.beside} is no history of this basis, which has none; take it away, or "
-                                "value with --no-history\n")
+        self.assertEqual(wrong, f"parvusek: {self.beside} does not belong to this basis, which has no history; remove it, "
+                                "or value with --no-history\n")
         self.assertEqual(self.beside.read_bytes(), self.history)
 
     def test_a_failed_make_leaves_the_old_files(self) -> None:

@@ -87,7 +87,7 @@ class Encodings(Command):
 
     def test_encodings_that_do_not_fit(self) -> None:
         for members, encoding, wanted in ((MEMBERS.encode(), "none-such", "is not known"),
-                                          (MEMBERS.encode(), "hex", "is no encoding of text"),
+                                          (MEMBERS.encode(), "hex", "is not a text encoding"),
                                           (MEMBERS.encode("utf-8-sig"), "cp1252", "begins with the mark of utf-8"),
                                           (MEMBERS.encode("utf-16"), "cp1252", "begins with the mark of utf-16"),
                                           (MEMBERS.encode("utf-16")[:-1], "utf-16", "cannot be read")):
@@ -205,7 +205,7 @@ class BadRows(Command):
             status, said, wrong = self.value(members)
             self.assertEqual((status, said), (1, ""))
             self.assertIn(f"the members cannot be read: {place}the quote that opens a cell there is ", wrong)
-            self.assertIn("from there on the file is no CSV", wrong)
+            self.assertIn("from there on the file cannot be read as CSV", wrong)
             self.assertEqual(self.files(), ["members.csv"])
 
     def test_a_line_without_an_end(self) -> None:

@@ -99,7 +99,7 @@ class Sums(Command):
     def test_a_sum_that_is_none(self) -> None:
         status, _, wrong = self.run_process("value", SAMPLE / "members.csv", SAMPLE / "basis.bin", "-", "--expect", "abc")
         self.assertEqual(status, 2)
-        self.assertIn(b"'abc' is no SHA-256", wrong)
+        self.assertIn(b"'abc' is not a SHA-256 digest", wrong)
 
     def test_a_flipped_bit_that_passes_the_check_is_refused(self) -> None:
         file = bytearray((SAMPLE / "basis.bin").read_bytes())
@@ -155,7 +155,7 @@ class Record(Command):
             self.record.write_bytes(content)
             status, _, wrong = self.value_older()
             self.assertEqual(status, 1)
-            self.assertIn(f"{self.record} is there and is no record of a valuation", wrong)
+            self.assertIn(f"{self.record} exists and is not the record of a valuation", wrong)
             self.assertIn("--record", wrong)
             self.assertEqual(self.record.read_bytes(), content)
             self.assertEqual(self.files(), ["values.csv.json"])

@@ -194,8 +194,8 @@ class Messages(unittest.TestCase):
 
     def test_a_table_that_is_no_csv(self) -> None:
         self.assertEqual(self.refused("base_rates.csv", "\n23,", '\n"23,'),
-                         "base_rates.csv is no CSV table: line 5, character 1: the quote that opens a cell there is not closed "
-                         "by the end of the file, or not within 131,072 characters; from there on the file is no CSV")
+                         "base_rates.csv is not a CSV table: line 5, character 1: the quote that opens a cell there is not closed "
+                         "by the end of the file, or not within 131,072 characters; from there on the file cannot be read as CSV")
         self.assertEqual(self.refused("base_rates.csv", '\n"23,0', '\n"23"x,0'),
                          "base_rates.csv, line 5: character 5: something follows the quote that closes a cell")
 

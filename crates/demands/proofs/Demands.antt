@@ -26,6 +26,8 @@ use Rattle.figures.proofs.Computed.{figures-hold}
 use Rattle.history.specs.History.{basisWith, basisCheck}
 use Rattle.short_form.specs.ShortForm.{shortFormOf}
 use Rattle.sweep.proofs.Steps.{each-step}
+use Rattle.sweep.proofs.Fixed.{held-is-fixed}
+use Rattle.workings.proofs.Fixed.{workings-are-fixed}
 use Rattle.survivorship.specs.Survivorship.{survivorsAfterYear}
 use Rattle.enquiry.specs.Enquiry.{improvementEnquiry, factorEnquiry, rateEnquiry, survivorshipEnquiry, expectationEnquiry, annuityEnquiry}
 use Rattle.model_points.specs.Point.{pointAnswerOf, pointOf}
@@ -115,6 +117,8 @@ module _ (run history : List ℕ) where
         annuity = λ kind age deferment year h. checked-passed _ _ h;
         point = λ q h. ap pointAnswerOf (checked-passed _ _ h);
         sweep = each-step run history;
+        heldIsFixed = held-is-fixed;
+        workingsAreFixed = workings-are-fixed;
         roundTrips = round-trips;
         historyAccepted = history-acceptance;
         actualAnswered = actual-answered run history;

@@ -22,9 +22,11 @@ use Rattle.improvement.specs.Answered.{Edges, ActualAnswered}
 use Rattle.improvement.specs.OneRounding.{OneRounding}
 use Rattle.projection.specs.Projection.{factorOf, rateOf}
 use Rattle.sweep.specs.EachStep.{EachStep}
+use Rattle.sweep.specs.Fixed.{HeldIsFixed}
 use Rattle.survivorship.specs.declared.Kind.{Kind}
 use Rattle.survivorship.specs.Survivorship.{survivorsOf}
 use Rattle.valuation.specs.Valuation.{expectationOf, annuityOf}
+use Rattle.workings.specs.Fixed.{WorkingsAreFixed}
 use Rattle.question.specs.Question.{cellCheck, questionCheck}
 use Rattle.enquiry.specs.Enquiry.{valuationCheck, improvementEnquiry, factorEnquiry, rateEnquiry, survivorshipEnquiry, expectationEnquiry, annuityEnquiry}
 use Rattle.model_points.specs.declared.Question.{Question}
@@ -113,6 +115,9 @@ pub record Demand2 (run history : List ℕ) : Type 0 where
   pub figures : FiguresHold
   -- the sweep holds what the direct engine answers (02, change 5)
   pub sweep : EachStep run history
+  -- and what it and the workings of the grid hold leaves no number of a lent list free
+  pub heldIsFixed : HeldIsFixed
+  pub workingsAreFixed : WorkingsAreFixed
   -- "A basis read and written back is the same file; written and read back, the same basis"
   pub roundTrips : RoundTrips
 

@@ -6,3 +6,4 @@ pub mod Values
 pub mod Largest
 pub mod Demands
 pub mod Sharp
+pub mod WorseRun

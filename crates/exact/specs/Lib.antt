@@ -1,3 +1,4 @@
 pub mod Model
 pub mod Distance
 pub mod Sharp
+pub mod WorseRun

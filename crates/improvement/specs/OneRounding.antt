@@ -1,11 +1,16 @@
 -- One rounding per improvement (02, change 3: "their exact sum be rounded once"): numbers that two roundings would miss.
 use mathlib.Core.Path.{_≡_}
 use mathlib.Core.Bool.{cond}
-use lib.Dec.{eqb}
+use Prim.Native.Nat.{ℕ}
+use lib.Dec.{eqb, ltb}
 use lib.IntN.{ℤ, pos, negsuc}
 use Rattle.basis.specs.Basis.{Basis}
 use Rattle.component.specs.Component.{terms}
 use Rattle.improvement.specs.Improvement.{projectedOf}
+
+-- the initial rates of birth years other than 1947, so that none of them gives both numbers below
+abbrev otherBirthYear : ℕ → ℤ
+otherBirthYear year = cond (ltb year 1947) (negsuc 0) (pos 0)
 
 -- a year after F half of each initial rate is left: of the one by age, and of that of the birth year 1947
 abbrev pub halved : ℤ → ℤ → Basis
@@ -17,7 +22,7 @@ halved byAge byBirthYear =
       discount = pos 0;
       baseRate = λ age. 0;
       byAge = λ age. terms byAge (pos 0) 2 50;
-      byBirthYear = λ year. terms (cond (eqb year 1947) byBirthYear (pos 0)) (pos 0) 2 50;
+      byBirthYear = λ year. terms (cond (eqb year 1947) byBirthYear (otherBirthYear year)) (pos 0) 2 50;
       actual = λ age year. pos 0;
     }
 

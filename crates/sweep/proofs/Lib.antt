@@ -1,4 +1,5 @@
 pub mod Direct
+pub mod Fixed
 mod Moving
 pub mod Numbers
 mod Stepping

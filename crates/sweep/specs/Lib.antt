@@ -1,3 +1,4 @@
 pub mod Held
 pub mod Sweep
 pub mod EachStep
+pub mod Fixed

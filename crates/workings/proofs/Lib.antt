@@ -1,5 +1,6 @@
 mod Clearing
 mod Copying
 mod Discounting
+pub mod Fixed
 pub mod Reading
 mod Sweeping
