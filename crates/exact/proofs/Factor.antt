@@ -33,7 +33,8 @@ module _ (b : Basis) (age k : ℕ) (f : ℤ) (byAge : ConvergenceLimits (b .byAg
       let i = improvementOf b age year in
       let near = improvement-within b age year (byAge .period-low) (byBirthYear .period-low) in
       let i⁺ = improvement-natural b age year (byAge .period-low) (byBirthYear .period-low) premise in
-      chained-next c (rest-small i U i⁺ (omega arith)) (unit-rest (unit-near i (exactImprovement b age year) (omega arith) premise near)) (within-difference (within-whole (pos U)) near)
+      chained-next c (rest-small i U i⁺ (omega arith)) (unit-rest (unit-near i (exactImprovement b age year) (omega arith) premise near))
+      (within-difference (within-whole (pos U)) near)
 
 module _ (b : Basis) (age year : ℕ) (limits : Limited b) (low : 20 ≤ age) (high : age ≤ 150) (improving : Improving b age year) where
   factored : (f : ℤ) → factorOf b age year ≡ value f → Factored b age (yearsTo b year) f

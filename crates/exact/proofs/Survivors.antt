@@ -25,7 +25,8 @@ Survived b kind age year K j s = Chained (2 * K + 1) j s (exactSurvivors b kind 
 
 module _ (b : Basis) (kind : Kind) (age year K n : ℕ) (limits : Limited b) (low : 20 ≤ age) (high : age + n ≤ 150)
     (improving : ImprovingOver b kind age year n) (most : (j : ℕ) → j < n → yearsTo b (yearOn kind year j) ≤ K) where
-  survived-next : (j : ℕ) (s q : ℤ) → j < n → rateOf b (age + j) (yearOn kind year j) ≡ value q → Survived b kind age year K j s → Survived b kind age year K (suc j) (survivorsNext s q)
+  survived-next : (j : ℕ) (s q : ℤ) → j < n → rateOf b (age + j) (yearOn kind year j) ≡ value q → Survived b kind age year K j s
+      → Survived b kind age year K (suc j) (survivorsNext s q)
   unfolding exactSurvivors
   survived-next j s q less h c =
       let m = rate-small b (age + j) (yearOn kind year j) q h in

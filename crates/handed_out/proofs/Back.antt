@@ -38,17 +38,23 @@ demand-3-again run history h =
       improvement = λ age year i answered.
           within-more (signed-back (λ v. Within v (exactImprovement b age year) 1) (improvementEnquiry run history age year) i answered (h .improvement age year)) (omega arith);
       factor = λ age year f answered improving.
-          within-more (back (FactorNear b age year) (factorEnquiry run history age year) f answered (factor-answer run history age year f answered) (h .factor age year) improving) (omega arith);
+          within-more (back (FactorNear b age year) (factorEnquiry run history age year) f answered (factor-answer run history age year f answered)
+          (h .factor age year) improving) (omega arith);
       rate = λ age year q answered improving.
-          within-more (back (RateNear b age year) (rateEnquiry run history age year) q answered (rate-answer run history age year q answered) (h .rate age year) improving) (omega arith);
+          within-more (back (RateNear b age year) (rateEnquiry run history age year) q answered (rate-answer run history age year q answered)
+          (h .rate age year) improving) (omega arith);
       survivorship = λ kind age n year s answered improving.
           within-more
-          (back (SurvivorsNear b kind age n year) (survivorshipEnquiry run history kind age n year) s answered (survivorship-answer run history kind age n year s answered) (h .survivorship kind age n year) improving)
+          (back (SurvivorsNear b kind age n year) (survivorshipEnquiry run history kind age n year) s answered
+          (survivorship-answer run history kind age n year s answered) (h .survivorship kind age n year) improving)
           (omega arith);
       expectation = λ kind age deferment year e answered improving.
           quarters-more
-          (back (ExpectationNear b kind age deferment year) (expectationEnquiry run history kind age deferment year) e answered (expectation-answer run history kind age deferment year e answered) (h .expectation kind age deferment year) improving)
+          (back (ExpectationNear b kind age deferment year) (expectationEnquiry run history kind age deferment year) e answered
+          (expectation-answer run history kind age deferment year e answered) (h .expectation kind age deferment year) improving)
           (omega arith);
-      annuity = λ sign kind age deferment year a answered improving. quarters-more (annuity-back run history h kind age deferment year a answered .once sign improving) (omega arith);
-      annuityBelowZero = λ sign kind age deferment year a answered improving. quarters-more (annuity-back run history h kind age deferment year a answered .belowZero sign improving) (omega arith);
+      annuity = λ sign kind age deferment year a answered improving.
+          quarters-more (annuity-back run history h kind age deferment year a answered .once sign improving) (omega arith);
+      annuityBelowZero = λ sign kind age deferment year a answered improving.
+          quarters-more (annuity-back run history h kind age deferment year a answered .belowZero sign improving) (omega arith);
     }

@@ -158,5 +158,6 @@ actual-answered run history =
           let b = basisWith run history in
           let e : isActual b year ≡ true = is-actual b year after upto in
           let small = accepted-workable run history ok .actual age year low high after upto in
-          rw e (needed-usable age year (actualOf (basisOf run) history age year) (le-leb (natAbs (actualOf (basisOf run) history age year)) improvementLimit (omega (arith, small))));
+          rw e (needed-usable age year (actualOf (basisOf run) history age year)
+          (le-leb (natAbs (actualOf (basisOf run) history age year)) improvementLimit (omega (arith, small))));
     }

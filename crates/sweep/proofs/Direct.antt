@@ -62,5 +62,6 @@ module _ (b : Basis) where
       back i l = let e : 20 + i - 20 ≡ i = omega arith in rw e (h .each i l)
 
   -- each number is the direct engine's factor of that age and year, or its refusal
-  pub state-direct : (numbers : List ℕ) (k : ℕ) → b .base ≤ 2130 → Holds numbers (sweepAfter b k) → (i : ℕ) → i < 131 → heldIn (20 + i) (getD numbers i 0) ≡ factorOf b (20 + i) (b .base + k)
+  pub state-direct : (numbers : List ℕ) (k : ℕ) → b .base ≤ 2130 → Holds numbers (sweepAfter b k) → (i : ℕ) → i < 131
+      → heldIn (20 + i) (getD numbers i 0) ≡ factorOf b (20 + i) (b .base + k)
   state-direct numbers k early h i l = h .each i l ∙ sweep-direct b (20 + i) early k

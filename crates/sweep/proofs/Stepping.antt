@@ -26,7 +26,8 @@ module _ (b : Basis) (year : ℕ) (start : List ℕ) where
   step-is : (i : ℕ) → sweepStep b year (stateIn start) (20 + i) ≡ movedOn b (20 + i) year (heldIn (20 + i) (getD start i 0))
   step-is i = let e : 20 + i - 20 ≡ i = omega arith in rw e refl
 
-  more : (state : List ℕ) (n x : ℕ) → n < 131 → Moved b year start state n → heldIn (20 + n) x ≡ movedOn b (20 + n) year (heldIn (20 + n) (getD state n 0)) → Moved b year start (set state n x) (suc n)
+  more : (state : List ℕ) (n x : ℕ) → n < 131 → Moved b year start state n
+      → heldIn (20 + n) x ≡ movedOn b (20 + n) year (heldIn (20 + n) (getD state n 0)) → Moved b year start (set state n x) (suc n)
   more state n x l m h =
       record {
         size = length-set state n x ∙ m .size;
@@ -38,7 +39,8 @@ module _ (b : Basis) (year : ℕ) (start : List ℕ) where
       by i k (yes q) = ap (heldIn (20 + i)) (getD-set-other state n i x 0 (λ e. omega arith)) ∙ m .done i q
       by i k (no q) =
           let e : i ≡ n = omega arith in
-          rw e (ap (heldIn (20 + n)) (getD-set-same state n x 0 (omega (arith, m .size))) ∙ h ∙ ap (λ (y : ℕ). movedOn b (20 + n) year (heldIn (20 + n) y)) (m .left n (omega arith)))
+          rw e (ap (heldIn (20 + n)) (getD-set-same state n x 0 (omega (arith, m .size)))
+          ∙ h ∙ ap (λ (y : ℕ). movedOn b (20 + n) year (heldIn (20 + n) y)) (m .left n (omega arith)))
 
   -- one age more
   pub moved-next : (state : List ℕ) (age x : ℕ) → 20 ≤ age → age ≤ 150 → Moved b year start state (age - 20) →

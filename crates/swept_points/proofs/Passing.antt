@@ -75,7 +75,8 @@ module _ (b : Basis) (kind : Kind) (age year from : ℕ) where
         made = rw e at (made-next b kind age year from 0 0 U p (rw z (sum-none _)) (living .survivors) (d .0));
       }
 
-  pub passing-next : (j s lives payments x p : ℕ) {at : ℕ} → Passing b kind age year from j s lives payments → at ≡ yearOn kind year j → value (pos x) ≡ survivorsAfterYear b (age + j) at (pos s) →
+  pub passing-next : (j s lives payments x p : ℕ) {at : ℕ} → Passing b kind age year from j s lives payments → at ≡ yearOn kind year j
+      → value (pos x) ≡ survivorsAfterYear b (age + j) at (pos s) →
       (pos p ≡ dueAfter b from (j + 1) (pos x)) × (p ≤ 4 * U) → Passing b kind age year from (j + 1) x (lives + x) (payments + p)
   passing-next j s lives payments x p i e g d =
       let living = living-next b kind age year j s lives x (i .living) e g in
@@ -105,10 +106,12 @@ module _ (b : Basis) (kind : Kind) (age year from : ℕ) where
             paid-refused b kind age year from j (pos payments) r (omega arith) l (rw f at (i .made)) after
 
   -- at age 150 both sums are whole
-  pub expectation-last : (j s lives payments : ℕ) → j ≡ 150 - age → Passing b kind age year from j s lives payments → value (pos (500_000_000 + lives)) ≡ expectationOf b kind age year 0
+  pub expectation-last : (j s lives payments : ℕ) → j ≡ 150 - age → Passing b kind age year from j s lives payments
+      → value (pos (500_000_000 + lives)) ≡ expectationOf b kind age year 0
   expectation-last j s lives payments e i = lived-last b kind age year 0 j s lives (omega arith) (omega arith) (omega arith) (i .living)
 
-  pub annuity-last : (j s lives payments : ℕ) → j ≡ 150 - age → from ≤ 150 - age → Passing b kind age year from j s lives payments → value (pos payments) ≡ annuityOf b kind age year from
+  pub annuity-last : (j s lives payments : ℕ) → j ≡ 150 - age → from ≤ 150 - age → Passing b kind age year from j s lives payments
+      → value (pos payments) ≡ annuityOf b kind age year from
   annuity-last j s lives payments e m i =
       let f : suc j - from ≡ suc (j - from) = omega arith in
       paid-last b kind age year from j (pos payments) e (rw f at (i .made))

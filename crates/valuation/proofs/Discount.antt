@@ -31,8 +31,12 @@ module _ (b : Basis) (limits : Limited b) where
   natural (suc j) =
       let p = natural j in
       let d = accumulationOf b in
-      let low = accumulation-low b limits in
-      ((2 * (p .0 * U) + d) / (2 * d), rw (p .1) refl, round-abs-le (pos (p .0 * U)) d (grown (suc j)) (omega arith) (omega (arith, grown-share j (p .0) 1 d low (omega (arith, p .2)))))
+      let low = accumulation-low b limits in (
+        (2 * (p .0 * U) + d) / (2 * d),
+        rw (p .1) refl,
+        round-abs-le (pos (p .0 * U)) d (grown (suc j)) (omega arith)
+            (omega (arith, grown-share j (p .0) 1 d low (omega (arith, p .2)))),
+      )
 
   pub discount-small : (j v : ℕ) → j ≤ 130 → discountAfter b j ≡ pos v → v < 4 * U
   discount-small j v l h = let p = natural j in let e : v ≡ p .0 = cc in omega (arith, p .2, grown-small j l)

@@ -47,7 +47,8 @@ module _ (b : Basis) (kind : Kind) (age year : ℕ) where
       })
 
 module _ (b : Basis) (kind : Kind) (age year deferment : ℕ) where
-  pub lived-refused : (j s total : ℕ) (r : Refusal) {at from start : ℕ} → from ≡ age + deferment → start ≡ year + deferment → j < 150 - age - deferment → Living b kind from start j s total →
+  pub lived-refused : (j s total : ℕ) (r : Refusal) {at from start : ℕ} → from ≡ age + deferment → start ≡ year + deferment
+      → j < 150 - age - deferment → Living b kind from start j s total →
       at ≡ yearOn kind start j → refused r ≡ survivorsAfterYear b (from + j) at (pos s) → refused r ≡ expectationOf b kind age year deferment
   unfolding expectationOf curtateOf
   lived-refused j s total r {at} {from} {start} ef es l i e g =

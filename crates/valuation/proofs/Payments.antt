@@ -41,14 +41,17 @@ module _ (b : Basis) (kind : Kind) (age year from : ℕ) where
       rw z
       (sum-next (λ k. paymentAfter b kind age year (from + k)) 0 (pos 0) (payment v s) (sum-none _) first ∙ ap value (zero-left (payment v s) ∙ sym e))
 
-  paid-next : (j : ℕ) (total s v p : ℤ) → from ≤ j → Paid j total → survivorsOf b kind age year (suc j) ≡ value s → discountAfter b (suc j) ≡ v → p ≡ payment v s → Paid (suc j) (total +ℤ p)
+  paid-next : (j : ℕ) (total s v p : ℤ) → from ≤ j → Paid j total → survivorsOf b kind age year (suc j) ≡ value s → discountAfter b (suc j) ≡ v
+      → p ≡ payment v s → Paid (suc j) (total +ℤ p)
   paid-next j total s v p l q h k e =
       let z : suc j - from ≡ suc (j - from) = omega arith in
       let f : from + suc (j - from) ≡ suc j = omega arith in
-      rw (z, e) (sum-next (λ k. paymentAfter b kind age year (from + k)) (suc (j - from)) total (payment v s) q (ap (paymentAfter b kind age year) f ∙ payment-value (suc j) s v h k))
+      rw (z, e) (sum-next (λ k. paymentAfter b kind age year (from + k)) (suc (j - from)) total (payment v s) q
+      (ap (paymentAfter b kind age year) f ∙ payment-value (suc j) s v h k))
 
   -- a refusal after the deferment's end, and one before it
-  pub paid-refused : (j : ℕ) (total : ℤ) (r : Refusal) → from ≤ j → j < 150 - age → Paid j total → survivorsOf b kind age year (suc j) ≡ refused r → refused r ≡ annuityOf b kind age year from
+  pub paid-refused : (j : ℕ) (total : ℤ) (r : Refusal) → from ≤ j → j < 150 - age → Paid j total → survivorsOf b kind age year (suc j) ≡ refused r
+      → refused r ≡ annuityOf b kind age year from
   unfolding annuityOf
   paid-refused j total r l m q h =
       let f : from + suc (j - from) ≡ suc j = omega arith in
@@ -59,7 +62,8 @@ module _ (b : Basis) (kind : Kind) (age year from : ℕ) where
   unfolding annuityOf
   refused-before r h =
       let f : from + 0 ≡ from = omega arith in
-      sym (sum-refused (λ k. paymentAfter b kind age year (from + k)) 0 (suc (150 - age - from)) (pos 0) r (omega arith) (sum-none _) (ap (paymentAfter b kind age year) f ∙ payment-refused from r h))
+      sym (sum-refused (λ k. paymentAfter b kind age year (from + k)) 0 (suc (150 - age - from)) (pos 0) r (omega arith) (sum-none _)
+      (ap (paymentAfter b kind age year) f ∙ payment-refused from r h))
 
   -- all of them are the annuity
   pub paid-last : (j : ℕ) (total : ℤ) → j ≡ 150 - age → Paid j total → value total ≡ annuityOf b kind age year from
@@ -91,7 +95,8 @@ module _ (b : Basis) (kind : Kind) (age year from : ℕ) where
         paid = paid-first b kind age year from (pos s) (pos v) (pos p) h (sym k) (q .0);
       }
 
-  pub paying-next : (j s v total x w p : ℕ) {at accumulation : ℕ} → Paying b kind age year from j s v total → j < 150 - age → at ≡ yearOn kind year j → accumulation ≡ accumulationOf b →
+  pub paying-next : (j s v total x w p : ℕ) {at accumulation : ℕ} → Paying b kind age year from j s v total → j < 150 - age → at ≡ yearOn kind year j
+      → accumulation ≡ accumulationOf b →
       value (pos x) ≡ survivorsAfterYear b (age + j) at (pos s) → pos w ≡ discountNext (pos v) accumulation → (pos p ≡ payment (pos w) (pos x)) × (p ≤ 4 * U) →
       Paying b kind age year from (j + 1) x w (total + p)
   paying-next j s v total x w p {at} i l e f g k q =

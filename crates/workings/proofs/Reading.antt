@@ -17,7 +17,8 @@ same-factor : (b : Basis) (age year : ℕ) → factorOf b age (heldYear year) �
 unfolding factorOf
 same-factor b age year = rw (held-until (heldYear year) (held-late year)) refl
 
-module _ (b : Basis) (numbers : List ℕ) (w : Workings b numbers) (first : 1992 ≤ b .base) (early : b .base ≤ 2130) (age year : ℕ) (low : 20 ≤ age) (high : age ≤ 150) (late : b .base ≤ year) where
+module _ (b : Basis) (numbers : List ℕ) (w : Workings b numbers) (first : 1992 ≤ b .base) (early : b .base ≤ 2130) (age year : ℕ) (low : 20 ≤ age)
+    (high : age ≤ 150) (late : b .base ≤ year) where
   -- where its number stands: among the years, which begin in 1992
   pub within : (n base : ℕ) → n ≡ heldYear year → base ≡ b .base → (base ≤ n) × (n ≤ 2130) × (131 * (n - base) + (age - 20) < 18209)
   within n base e f =

@@ -117,7 +117,8 @@ returns c =
     let s = d .before .before .before .before .before in
     let a = s .args in
     let q = floorDiv (dividend-at s) (divisor (s .args .period)) in
-    let whole : toZ w64 (ofZ w64 (toZ w64 (ofZ w64 (c .before .before .wide .result)) +ℤ toZ w64 (ofZ w64 (d .divide .result .whole)))) ≡ a .long +ℤ q = rw (long-is c, quotient-is c) (toZ-ofZ (sum-fits s (omega arith))) in
+    let whole : toZ w64 (ofZ w64 (toZ w64 (ofZ w64 (c .before .before .wide .result)) +ℤ toZ w64 (ofZ w64 (d .divide .result .whole)))) ≡ a .long +ℤ q =
+    rw (long-is c, quotient-is c) (toZ-ofZ (sum-fits s (omega arith))) in
     ap (λ (z : ℤ). mixed z (d .divide .result .remainder) (divisor (s .args .period))) whole
     ∙ ap (λ (m : Mixed). mixed (a .long +ℤ q) (m .remainder) (divisor (s .args .period))) (share-is d)
     ∙ sym (component-before (a .initial) (a .long) (a .period) (a .remaining) (a .years) (omega arith))

@@ -58,7 +58,8 @@ sum-is : (c : tie.After-round-sum) → toZ w64 (ofZ w64 (c .round-sum .result)) 
 unfolding by-age by-birth rounded
 sum-is c =
     let s = c .before .before .before in
-    got w64 (c .round-sum .ok) (c .round-sum .ensures ∙ sum-of (by-age s) (by-birth s) (c .before .before .component .ensures) (c .before .component2 .ensures) (age-proper s) (birth-proper s))
+    got w64 (c .round-sum .ok) (c .round-sum .ensures ∙ sum-of (by-age s) (by-birth s) (c .before .before .component .ensures)
+    (c .before .component2 .ensures) (age-proper s) (birth-proper s))
 
 addition-is : (c : tie.After-wide) → toZ w64 (ofZ w64 (c .wide .result)) ≡ c .before .before .before .before .args .addition
 addition-is c = got w64 (c .wide .ok) (c .wide .ensures ∙ toZ-ofZ (c .before .before .before .before .fits .addition))

@@ -57,8 +57,12 @@ loop-again c = let y = c .before .before .before in let l = y .before .before .b
     let b = basisWith (a .run .now) (a .history .now) in
     let v = c .before .v .given .0 .0 in
     let g = sym (ap meaning (c .before .v .given .1)) ∙ y .survivors-after-year .ensures in
-    let small = year-small b (a .age + l .loop .j) (y .before .year-on .result) (l .loop .s) v (l .loop .inv .1) (sym g) in
-    (omega arith, small, rw add-one (survivors-next b (a .kind) (a .age) (a .year) (l .loop .j) (pos (l .loop .s)) (value (pos v)) (y .before .year-on .ensures) (l .loop .inv .2) g))
+    let small = year-small b (a .age + l .loop .j) (y .before .year-on .result) (l .loop .s) v (l .loop .inv .1) (sym g) in (
+      omega arith,
+      small,
+      rw add-one (survivors-next b (a .kind) (a .age) (a .year) (l .loop .j) (pos (l .loop .s)) (value (pos v))
+          (y .before .year-on .ensures) (l .loop .inv .2) g),
+    )
 
 returns-2 : tie.Need-returns-2 Inv-loop μ-loop
 returns-2 c = let l = c .before in let e : l .loop .j ≡ l .before .before .before .args .n = omega arith in

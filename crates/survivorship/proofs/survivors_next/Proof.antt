@@ -22,8 +22,10 @@ round-div-unsigned-requires : tie.Need-round-div-unsigned-requires
 round-div-unsigned-requires c κs = omega (arith, room c)
 
 returns : tie.Need-returns
-returns c = let a = c .before .args in
-    (ap pos (c .round-div-unsigned .ensures) ∙ next-is (a .s) (a .q) (c .before .pre .1), next-small (a .s) (a .q) (c .round-div-unsigned .result) (c .before .pre .0) (c .round-div-unsigned .ensures))
+returns c = let a = c .before .args in (
+  ap pos (c .round-div-unsigned .ensures) ∙ next-is (a .s) (a .q) (c .before .pre .1),
+  next-small (a .s) (a .q) (c .round-div-unsigned .result) (c .before .pre .0) (c .round-div-unsigned .ensures),
+)
 
 pub survivors-next-spec : {M : Type 1} → statement M
 survivors-next-spec =

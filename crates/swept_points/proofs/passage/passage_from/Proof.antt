@@ -57,7 +57,8 @@ returns c =
     let r = c .before .r .given .0 .0 in
     let g = sym (ap meaning (c .before .r .given .1)) ∙ y .survivors-after-year .ensures in
     let i = l .loop .inv .1 in (
-      expectation-refused b (a .kind) (a .age) (a .year) (a .deferment) (l .loop .j) (l .loop .s) (l .loop .lives) (l .loop .payments) r i (omega arith) (y .before .year-on .ensures) g,
+      expectation-refused b (a .kind) (a .age) (a .year) (a .deferment) (l .loop .j) (l .loop .s) (l .loop .lives) (l .loop .payments) r i
+          (omega arith) (y .before .year-on .ensures) g,
       annuity-refused b (a .kind) (a .age) (a .year) (a .deferment) (l .loop .j) (l .loop .s) (l .loop .lives) (l .loop .payments) r i (omega arith) (y .before .year-on .ensures) g
           (omega (arith, s .pre .3)),
     )
@@ -119,7 +120,8 @@ returns-2 c =
     let a = s .args in
     let b = basisWith (a .run .now) (a .history .now) in (
       expectation-last b (a .kind) (a .age) (a .year) (a .deferment) (l .loop .j) (l .loop .s) (l .loop .lives) (l .loop .payments) (omega arith) (l .loop .inv .1),
-      annuity-last b (a .kind) (a .age) (a .year) (a .deferment) (l .loop .j) (l .loop .s) (l .loop .lives) (l .loop .payments) (omega arith) (omega (arith, s .pre .3)) (l .loop .inv .1),
+      annuity-last b (a .kind) (a .age) (a .year) (a .deferment) (l .loop .j) (l .loop .s) (l .loop .lives) (l .loop .payments) (omega arith)
+          (omega (arith, s .pre .3)) (l .loop .inv .1),
     )
 
 pub passage-from-spec : {M : Type 1} → statement M

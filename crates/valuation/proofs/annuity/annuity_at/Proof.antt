@@ -29,7 +29,8 @@ returns c = search needs
 
 returns-2 : tie.Need-returns-2
 returns-2 c = let s = c .before .before .before .before .before .before in let a = s .args in
-    refused-before (basisWith (a .run .now) (a .history .now)) (a .kind) (a .age) (a .year) (a .deferment) _ (sym (c .before .before .before .survivors-at .ensures) ∙ ap meaning (c .before .r .given .1))
+    refused-before (basisWith (a .run .now) (a .history .now)) (a .kind) (a .age) (a .year) (a .deferment) _
+    (sym (c .before .before .before .survivors-at .ensures) ∙ ap meaning (c .before .r .given .1))
 
 pub annuity-at-spec : {M : Type 1} → statement M
 annuity-at-spec =

@@ -78,7 +78,8 @@ add-t19 c = omega (arith, c .before .loop .inv .1 .sum)
 
 returns-2 : tie.Need-returns-2 Inv-loop μ-loop
 returns-2 c = let l = c .before in let s = l .before .before .before in let a = s .args in
-    lived-last (basisWith (a .run .now) (a .history .now)) (a .kind) (a .age) (a .year) (a .deferment) (l .loop .j) (l .loop .s) (l .loop .total) refl refl (omega arith) (l .loop .inv .1)
+    lived-last (basisWith (a .run .now) (a .history .now)) (a .kind) (a .age) (a .year) (a .deferment) (l .loop .j) (l .loop .s)
+    (l .loop .total) refl refl (omega arith) (l .loop .inv .1)
 
 pub expectation-at-spec : {M : Type 1} → statement M
 expectation-at-spec =

@@ -60,8 +60,11 @@ loop-again c =
     let l = c .before .before in
     let s = l .before .before .before .before .before in
     let b = basisWith (s .args .run .now) (s .args .history .now) in
-    let e = l .before .accumulation .ensures ∙ accumulation-with (s .args .run .now) (s .args .history .now) in
-    (omega arith, discounted-next b (s .args .numbers .now) (l .loop .numbers) (l .loop .j) (l .loop .v) (c .discount-next .result) (omega (arith, s .pre .1)) e (l .loop .inv .1) (c .discount-next .ensures))
+    let e = l .before .accumulation .ensures ∙ accumulation-with (s .args .run .now) (s .args .history .now) in (
+      omega arith,
+      discounted-next b (s .args .numbers .now) (l .loop .numbers) (l .loop .j) (l .loop .v) (c .discount-next .result)
+          (omega (arith, s .pre .1)) e (l .loop .inv .1) (c .discount-next .ensures),
+    )
 
 same-length : tie.Need-same-length Inv-loop μ-loop
 same-length c = search needs

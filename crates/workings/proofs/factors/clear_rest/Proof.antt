@@ -50,8 +50,12 @@ loop-again : tie.Need-loop-again Inv-loop μ-loop
 loop-again c =
     let l = c .before in
     let s = l .before .before .before .before .before in
-    let b = basisWith (s .args .run .now) (s .args .history .now) in
-    (omega arith, omega arith, cleared-next (131 * (2131 - b .base)) (s .args .numbers .now) (l .loop .numbers) (l .loop .at) (l .loop .inv .0) (omega (arith, s .pre .1)) (l .loop .inv .2))
+    let b = basisWith (s .args .run .now) (s .args .history .now) in (
+      omega arith,
+      omega arith,
+      cleared-next (131 * (2131 - b .base)) (s .args .numbers .now) (l .loop .numbers) (l .loop .at) (l .loop .inv .0)
+          (omega (arith, s .pre .1)) (l .loop .inv .2),
+    )
 
 same-length : tie.Need-same-length Inv-loop μ-loop
 same-length c = c .before .loop .inv .2 .same

@@ -68,7 +68,8 @@ returns c =
     let a = s .args in
     let limits = s .pre .0 .basis .limits in
     c .held .ensures
-    ∙ noted-factor (basisWith (a .run .now) (a .history .now)) (a .numbers .now) (s .pre .1) (limits .base-low) (limits .base-high) (a .age) (a .year) (s .pre .2) (s .pre .3) (s .pre .4)
+    ∙ noted-factor (basisWith (a .run .now) (a .history .now)) (a .numbers .now) (s .pre .1) (limits .base-low) (limits .base-high) (a .age)
+    (a .year) (s .pre .2) (s .pre .3) (s .pre .4)
     _ _ (y .before .held-year .ensures) (y .base-year .ensures)
 
 pub factor-spec : {M : Type 1} → statement M

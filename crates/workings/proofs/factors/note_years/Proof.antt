@@ -69,7 +69,8 @@ loop-again c =
     let s = b .before .before .before .before in (
       omega arith,
       sweeping-next (basisWith (s .args .run .now) (s .args .history .now)) (l .loop .numbers) (l .loop .state) (y .note-state .last .1 .1 .0) (c .before .step .last .1 .1 .1 .0)
-          (l .loop .k) (131 * l .loop .k) (b .base-year .result + l .loop .k) refl (omega (arith, b .base-year .ensures)) (search needs) (l .loop .inv .1) (y .note-state .ensures .0) (y .note-state .ensures .1) (c .before .step .ensures .1),
+          (l .loop .k) (131 * l .loop .k) (b .base-year .result + l .loop .k) refl (omega (arith, b .base-year .ensures)) (search needs)
+          (l .loop .inv .1) (y .note-state .ensures .0) (y .note-state .ensures .1) (c .before .step .ensures .1),
     )
 
 same-length : tie.Need-same-length Inv-loop μ-loop
@@ -79,7 +80,8 @@ returns : tie.Need-returns Inv-loop μ-loop
 returns c =
     let l = c .before in
     let b = l .before .before in
-    let e : l .loop .k ≡ 2131 - basisWith (b .before .before .before .before .args .run .now) (b .before .before .before .before .args .history .now) .base = omega (arith, b .base-year .ensures) in
+    let a = b .before .before .before .before .args in
+    let e : l .loop .k ≡ 2131 - basisWith (a .run .now) (a .history .now) .base = omega (arith, b .base-year .ensures) in
     rw e at (l .loop .inv .1 .years)
 
 pub note-years-spec : {M : Type 1} → statement M
