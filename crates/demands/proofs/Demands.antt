@@ -18,7 +18,8 @@ use Rattle.arithmetic.proofs.Rounding.{ties-go-up}
 use Rattle.basis_file.proofs.RoundTrip.{round-trips}
 use Rattle.history.proofs.Acceptance.{history-acceptance}
 use Rattle.improvement.proofs.Cases.{actual-answered}
-use Rattle.improvement.proofs.OneRounding.{one-rounding, edges}
+use Rattle.improvement.proofs.OneRounding.{one-rounding}
+use Rattle.improvement.proofs.Edges.{edges}
 use Rattle.short_form.proofs.Accepted.{short-form-stands}
 use Rattle.lifeline.proofs.Survivorship.{is-cohort-survivorship}
 use Rattle.enquiry_text.proofs.Says.{line-says}

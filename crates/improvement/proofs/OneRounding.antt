@@ -1,13 +1,9 @@
--- Numbers that tell one rounding from two, and the edges of 9, by computation of the definitions. Assumes nothing.
+-- Numbers that tell one rounding from two, by computation of the definitions. Assumes nothing.
 use mathlib.Core.Path.{refl}
 use Rattle.component.specs.Component.{componentOf}
 use Rattle.improvement.specs.Improvement.{additionOf, componentsOf, projectedOf}
 use Rattle.improvement.specs.OneRounding.{OneRounding}
-use Rattle.improvement.specs.Answered.{Edges}
 
 pub one-rounding : OneRounding
 unfolding componentOf additionOf componentsOf projectedOf
 one-rounding = record { twoHalves = refl; twoHalvesBelowZero = refl }
-
-pub edges : Edges
-edges = record { stands = refl; goesUpAndStands = refl; goesUpAndBeyond = refl }
