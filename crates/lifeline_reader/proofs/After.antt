@@ -3,10 +3,22 @@ use mathlib.Core.Path.{_≡_, refl}
 use mathlib.Core.List.{List}
 use Prim.Native.Nat.{ℕ, suc}
 use denote.Ref.{RefT, now}
+use Rattle.basis.specs.Outcome.{finding}
 use Rattle.lifeline_reader.specs.declared.Lifeline.{Lifeline}
+use Rattle.lifeline_reader.specs.declared.Started.{Started}
+use Rattle.lifeline_reader.specs.declared.Stepped.{Stepped}
 use Rattle.lifeline.specs.declared.Stand.{Stand}
-use Rattle.lifeline.specs.Lifeline.{standAt, standAfter}
-use Rattle.lifeline_reader.specs.Reader.{lineAt, lineStarted, lineStepped}
+use Rattle.lifeline.specs.Said.{statusMeaning}
+use Rattle.lifeline.specs.Lifeline.{startAt, standAt, standAfter}
+use Rattle.lifeline_reader.specs.Reader.{lineAt, lineStarted, stepOf, lineStepped}
+
+-- what `start` promises of its result, and `step` of a line and its result
+abbrev pub Starting : RefT (List ℕ) → List ℕ → ℕ → ℕ → Started → Type 0
+Starting run history age year r =
+    (r .line ≡ lineStarted run history age year) × (finding (r .check) ≡ startAt (now run) history age year .check)
+
+abbrev pub Stepping : List ℕ → Lifeline → Stepped → Type 0
+Stepping history l r = (r .line ≡ lineStepped l history) × (statusMeaning (r .status) ≡ stepOf l history .says)
 
 abbrev pub lineOver : RefT (List ℕ) → Stand → Lifeline
 lineOver run s = lineAt run (s .age) (s .year) (s .survivors)

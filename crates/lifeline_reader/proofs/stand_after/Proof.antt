@@ -46,14 +46,11 @@ use denote.Triple.Table.{entered, cited}
 use denote.Triple.Walked.{says, Stays, stay-none, stay-none-slice, walkOf, goes-none, goes-none-slice, Walks, ends-at, walked, walk-meets}
 use denote.Exit.{yes}
 use denote.Triple.Clauses.{ensured, lasts}
-use Rattle.basis.specs.Outcome.{finding}
-use Rattle.lifeline.specs.Said.{statusMeaning}
-use Rattle.lifeline.specs.Lifeline.{startAt, standAfter}
-use Rattle.lifeline_reader.specs.Reader.{lineStarted, stepOf, lineStepped}
+use Rattle.lifeline.specs.Lifeline.{standAfter}
 use Rattle.lifeline_reader.specs.declared.Lifeline.{Lifeline}
 use Rattle.lifeline_reader.specs.declared.Started.{Started}
 use Rattle.lifeline_reader.specs.declared.Stepped.{Stepped}
-use Rattle.lifeline_reader.proofs.After.{lineAfter, standOf, stand-is, after-none, after-one}
+use Rattle.lifeline_reader.proofs.After.{Starting, Stepping, lineAfter, standOf, stand-is, after-none, after-one}
 use Rattle.arithmetic.proofs.Walk.{tests}
 use Rattle.lifeline_reader.proofs.Lifeline as L
 use Rattle.lifeline_reader.proofs.Lifeline.Laws as L′
@@ -176,12 +173,8 @@ module _ {M : Type 1} (𝓤 : URA M) (H : Heap 𝓤) (A : Atoms 𝓤) (W : Given
       move ! (3 ∷ 0 ∷ []) $ use2 W (raw (Start 𝓤 H A mem run .pre to-start))
       (qed W (Tok ∷ ‵ (owns (ShrSlice (named 0) κ₀ u8 ∷ ShrSlice (named 1) κ₁ u8 ∷ u32 ∷ u32 ∷ []) (s, (h, (x, (t, tt)))) (v ∷ [], (hv ∷ [], (vint w32 x ∷ [], (vint w32 t ∷ [], tt))))) ∷ []) ∵ join ! $ frame ! $ done !) $ frame ! $ frame ! $ done !
 
-  -- what `start` promises of its result
-  abbrev Starting : Started → Type 0
-  Starting r = (r .line ≡ lineStarted s (now h) x t) × (finding (r .check) ≡ startAt (now s) (now h) x t .check)
-
-  start-said : (r : Started) → ent 𝓤 (ensured 𝓤 H A start.ended (start.clauses 𝓤 H A mem run) (κ₀, (κ₁, tt)) (s, (h, (x, (t, tt)))) tt r) (fact 𝓤 (Starting r))
-  start-said r = exE 𝓤 _ (λ ws. snd∗ 𝓤 (sem 𝓤 H A (lasts start.ended (κ₀, (κ₁, tt)) (s, (h, (x, (t, tt)))) ws)) (fact 𝓤 (Starting r)))
+  start-said : (r : Started) → ent 𝓤 (ensured 𝓤 H A start.ended (start.clauses 𝓤 H A mem run) (κ₀, (κ₁, tt)) (s, (h, (x, (t, tt)))) tt r) (fact 𝓤 (Starting s (now h) x t r))
+  start-said r = exE 𝓤 _ (λ ws. snd∗ 𝓤 (sem 𝓤 H A (lasts start.ended (κ₀, (κ₁, tt)) (s, (h, (x, (t, tt)))) ws)) (fact 𝓤 (Starting s (now h) x t r)))
 
   abbrev to-step : Lifeline → Step 𝓤 H A mem run .Ghost
   to-step d = (((κ₀, (κ₁, tt)), (q₀, (q₁, tt)), tt, (d, (h, tt)), (L′.lowered d ∷ [], (hv ∷ [], tt))), tt)
@@ -192,12 +185,8 @@ module _ {M : Type 1} (𝓤 : URA M) (H : Heap 𝓤) (A : Atoms 𝓤) (W : Given
       nothing ! $ move ! (1 ∷ 0 ∷ []) $ fjoin ! $ move ! (2 ∷ 0 ∷ []) $ fjoin ! $ move ! (2 ∷ 0 ∷ []) $ use2 W (raw (Step 𝓤 H A mem run .pre (to-step d)))
       (qed W (Tok ∷ ‵ (owns (L.the-row α ∷ ShrSlice (named 1) κ₁ u8 ∷ []) (d, (h, tt)) (L′.lowered d ∷ [], (hv ∷ [], tt))) ∷ []) ∵ join ! $ frame ! $ done !) $ frame ! $ done !
 
-  -- what `step` promises of a line and its result
-  abbrev Stepping : Lifeline → Stepped → Type 0
-  Stepping d r = (r .line ≡ lineStepped d (now h)) × (statusMeaning (r .status) ≡ stepOf d (now h) .says)
-
-  step-said : (d : Lifeline) (r : Stepped) → ent 𝓤 (ensured 𝓤 H A step.ended (step.clauses 𝓤 H A mem run) (κ₀, (κ₁, tt)) (d, (h, tt)) tt r) (fact 𝓤 (Stepping d r))
-  step-said d r = exE 𝓤 _ (λ ws. snd∗ 𝓤 (sem 𝓤 H A (lasts step.ended (κ₀, (κ₁, tt)) (d, (h, tt)) ws)) (fact 𝓤 (Stepping d r)))
+  step-said : (d : Lifeline) (r : Stepped) → ent 𝓤 (ensured 𝓤 H A step.ended (step.clauses 𝓤 H A mem run) (κ₀, (κ₁, tt)) (d, (h, tt)) tt r) (fact 𝓤 (Stepping (now h) d r))
+  step-said d r = exE 𝓤 _ (λ ws. snd∗ 𝓤 (sem 𝓤 H A (lasts step.ended (κ₀, (κ₁, tt)) (d, (h, tt)) ws)) (fact 𝓤 (Stepping (now h) d r)))
 
   -- of what each result owns, what its line owns
   abbrev started-val : Started → Val
@@ -289,7 +278,7 @@ module _ {M : Type 1} (𝓤 : URA M) (H : Heap 𝓤) (A : Atoms 𝓤) (W : Given
         (and-then ! (load ! (from ! (stop !)) (look ! 27 refl)) (no-more !))) (λ u.
         use1 W (later (some (λ (r : Stepped). (Tok ⊛ ‵ (S.the-row α .own r (u ∷ []))) ⊛ raw (ensured 𝓤 H A step.ended (step.clauses 𝓤 H A mem run) (κ₀, (κ₁, tt)) (line (i .0), (h, tt)) tt r)))) (id⊢ 𝓤 _) $
         await ! tt $ pick ! (λ r.
-        split ! $ move ! (1 ∷ []) $ use1 W (raw (fact 𝓤 (Stepping (line (i .0)) r))) (step-said (line (i .0)) r) $ heard ! (Stepping (line (i .0)) r) (λ e. split ! $ move ! (1 ∷ []) $
+        split ! $ move ! (1 ∷ []) $ use1 W (raw (fact 𝓤 (Stepping (now h) (line (i .0)) r))) (step-said (line (i .0)) r) $ heard ! (Stepping (now h) (line (i .0)) r) (λ e. split ! $ move ! (1 ∷ []) $
         -- [what the result owns; the tokens; what the history owns; what the run owns; _14; …]
         peeks ! (S.the-row α) (Is (S.the-row α)) (shows 𝓤 H A (S.the-row α)) r (u ∷ []) (λ isu.
         let same = LL.tells (S.the-type α) (S′.the-laws α) r (u ∷ []) isu in
@@ -321,7 +310,7 @@ module _ {M : Type 1} (𝓤 : URA M) (H : Heap 𝓤) (A : Atoms 𝓤) (W : Given
         next : Holds (ltb (i .0) n) → Upto
         next less = (i .0 + 1, add-one-le (ltb→lt (i .0) n less))
 
-        one-more : (r : Stepped) → Stepping (line (i .0)) r → r .line ≡ line (i .0 + 1)
+        one-more : (r : Stepped) → Stepping (now h) (line (i .0)) r → r .line ≡ line (i .0 + 1)
         one-more r e = e .0 ∙ after-one s (now h) x t (i .0) ∙ ap line (sym (add-one (i .0)))
 
     looped : ent 𝓤 (⋆ 𝓤 H A (At (0, zero-le))) (Wp 𝓤 H C Λ En parts.t-4 (atReturn 𝓤 H En Post))
@@ -336,7 +325,7 @@ module _ {M : Type 1} (𝓤 : URA M) (H : Heap 𝓤) (A : Atoms 𝓤) (W : Given
         (and-then ! (load ! (from ! (stop !)) (look ! 25 refl)) (and-then ! (load ! (from ! (stop !)) (look ! 23 refl)) (no-more !))))) (λ u.
         use1 W (later (some (λ (r : Started). (Tok ⊛ ‵ (Z.the-row α .own r (u ∷ []))) ⊛ raw (ensured 𝓤 H A start.ended (start.clauses 𝓤 H A mem run) (κ₀, (κ₁, tt)) (s, (h, (x, (t, tt)))) tt r)))) (id⊢ 𝓤 _) $
         await ! tt $ pick ! (λ r.
-        split ! $ move ! (1 ∷ []) $ use1 W (raw (fact 𝓤 (Starting r))) (start-said r) $ heard ! (Starting r) (λ e. split ! $ move ! (1 ∷ []) $
+        split ! $ move ! (1 ∷ []) $ use1 W (raw (fact 𝓤 (Starting s (now h) x t r))) (start-said r) $ heard ! (Starting s (now h) x t r) (λ e. split ! $ move ! (1 ∷ []) $
         peeks ! (Z.the-row α) (Is (Z.the-row α)) (shows 𝓤 H A (Z.the-row α)) r (u ∷ []) (λ isu.
         let same = LL.tells (Z.the-type α) (Z′.the-laws α) r (u ∷ []) isu in
         land ! (from ! (stop !)) (init ! 20 refl (LL.lawful (Z.the-type αᵉ) (Z′.the-laws αᵉ) 𝓤 H A W .typed r _ isu .0)) $
@@ -349,7 +338,7 @@ module _ {M : Type 1} (𝓤 : URA M) (H : Heap 𝓤) (A : Atoms 𝓤) (W : Given
         rewrite ! 0 (λ (d : Lifeline). ‵ (LOwn d)) (at-first r e) refl $ rewrite ! 18 (λ (d : Lifeline). ‵ (fat fullShare line-ty l₇ 0 (L′.lowered d))) (at-first r e) refl $
         by ! looped))))
       where
-        at-first : (r : Started) → Starting r → r .line ≡ line 0
+        at-first : (r : Started) → Starting s (now h) x t r → r .line ≡ line 0
         at-first r e = e .0 ∙ sym (after-none s (now h) x t)
 
   -- ---- the entry
