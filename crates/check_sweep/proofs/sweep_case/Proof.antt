@@ -1,6 +1,5 @@
 -- What the check has passed is accepted.
-use mathlib.Core.Path.{_∙_, sym, ap}
-use Rattle.basis.specs.Outcome.{finding}
+use Rattle.basis.proofs.Outcome.{found}
 use Rattle.history.proofs.Acceptance.{accepted-workable}
 use borrow.Author.Needs.{needs}
 use Rattle.check_sweep.proofs.sweep_case.Statement.{statement}
@@ -16,7 +15,7 @@ sweep-years-requires : tie.Need-sweep-years-requires
 sweep-years-requires c κs =
     let k = c .before .before in
     let a = k .before .before .before .args in
-    accepted-workable (a .run .now) (a .history .now) (sym (k .check-basis .ensures) ∙ ap finding (c .enum-told .given .1))
+    accepted-workable (a .run .now) (a .history .now) (found (k .check-basis .ensures) (c .enum-told .given .1))
 
 enum-known-r : tie.Need-enum-known-r
 enum-known-r c = search needs

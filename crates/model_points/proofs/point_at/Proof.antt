@@ -1,9 +1,8 @@
 -- The checks decide first; what they let pass is all that the work asks for.
 use mathlib.Core.Path.{_∙_, sym, ap}
 use borrow.Author.Needs.{needs}
-use Rattle.basis.specs.Outcome.{finding}
 use Rattle.history.specs.History.{basisWith}
-use Rattle.basis.proofs.Outcome.{checked-passed, checked-refused}
+use Rattle.basis.proofs.Outcome.{found, checked-passed, checked-refused}
 use Rattle.model_points.specs.Point.{pointAnswerOf, pointOf}
 use Rattle.question.proofs.Passed.{question-passed}
 use Rattle.model_points.proofs.point_at.Statement.{statement}
@@ -19,7 +18,7 @@ results-at-requires : tie.Need-results-at-requires
 results-at-requires c κs =
     let s = c .before .before .before .before .before in
     let q = s .args .q in
-    let passed = sym (c .before .before .check-question .ensures) ∙ ap finding (c .enum-told .given .1) in
+    let passed = found (c .before .before .check-question .ensures) (c .enum-told .given .1) in
     let p = question-passed (basisWith (s .args .run .now) (s .args .history .now) .base) (q .age) (q .deferment) (q .year) passed in
     (s .pre, p .0, p .1, p .2, p .3)
 
@@ -34,13 +33,13 @@ unfolding pointOf
 returns c =
     let told = c .before in
     c .results-at .ensures
-    ∙ sym (ap pointAnswerOf (checked-passed _ _ (sym (told .before .before .check-question .ensures) ∙ ap finding (told .enum-told .given .1))))
+    ∙ sym (ap pointAnswerOf (checked-passed _ _ (found (told .before .before .check-question .ensures) (told .enum-told .given .1))))
 
 returns-2 : tie.Need-returns-2
 unfolding pointOf
 returns-2 c =
     let r = c .before .before in
-    c .refused-point .ensures ∙ sym (ap pointAnswerOf (checked-refused _ _ _ (sym (r .before .before .check-question .ensures) ∙ ap finding (r .r .given .1))))
+    c .refused-point .ensures ∙ sym (ap pointAnswerOf (checked-refused _ _ _ (found (r .before .before .check-question .ensures) (r .r .given .1))))
 
 pub point-at-spec : {M : Type 1} → statement M
 point-at-spec =

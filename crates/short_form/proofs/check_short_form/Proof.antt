@@ -4,6 +4,7 @@ use mir.Facts.{toZ-ofZ, sfits-widen}
 use mathlib.Core.Bool.{true, false}
 use mathlib.Core.Path.{sym, _∙_, ap}
 use Rattle.basis.specs.Outcome.{finding}
+use Rattle.basis.proofs.Outcome.{found}
 use Rattle.short_form.proofs.Checking.{run-refused, run-passed}
 use borrow.Author.Needs.{needs}
 use Rattle.short_form.proofs.check_short_form.Statement.{statement}
@@ -36,7 +37,7 @@ returns-2 c =
     let s = k .before .before in
     let f = s .fits .rate in
     let limits = rw (toZ-ofZ f, toZ-ofZ (sfits-widen {w = w32} {w′ = w64} tt f)) at (c .before .in-limits .ensures) in
-    run-passed (s .args .run .now) (s .args .rate) true (sym (k .check-run .ensures) ∙ ap finding (c .before .before .enum-told2 .given .1)) (sym (c .if1 .taken) ∙ limits)
+    run-passed (s .args .run .now) (s .args .rate) true (found (k .check-run .ensures) (c .before .before .enum-told2 .given .1)) (sym (c .if1 .taken) ∙ limits)
 
 returns-3 : tie.Need-returns-3
 returns-3 c =
@@ -44,7 +45,7 @@ returns-3 c =
     let s = k .before .before in
     let f = s .fits .rate in
     let limits = rw (toZ-ofZ f, toZ-ofZ (sfits-widen {w = w32} {w′ = w64} tt f)) at (c .before .in-limits .ensures) in
-    run-passed (s .args .run .now) (s .args .rate) false (sym (k .check-run .ensures) ∙ ap finding (c .before .before .enum-told2 .given .1)) (sym (c .if1 .left) ∙ limits)
+    run-passed (s .args .run .now) (s .args .rate) false (found (k .check-run .ensures) (c .before .before .enum-told2 .given .1)) (sym (c .if1 .left) ∙ limits)
 
 pub check-short-form-spec : {M : Type 1} → statement M
 check-short-form-spec =

@@ -3,6 +3,7 @@ use mathlib.Core.Path.{sym, _∙_, ap}
 use native.Mathlib.Omega.{arith}
 use mir.Facts.{toZ-ofZ}
 use Rattle.basis.specs.Outcome.{finding}
+use Rattle.basis.proofs.Outcome.{found}
 use Rattle.lent.proofs.Lent.{kept, put-in-front}
 use Rattle.short_form.proofs.Checking.{through}
 use Rattle.short_form.proofs.Placing.{short-form-placed}
@@ -29,7 +30,7 @@ put-ages-requires c κs =
     let s = k .before .before .before .before .before in
     let same = toZ-ofZ (s .fits .rate) in
     let e = rw (k .before .before .check-room .ensures, k .before .check-short-form .ensures, same) at (k .first-of .ensures) in
-    rw same (through (s .args .run .now) (s .args .rate) (s .args .out .now) (sym e ∙ ap finding (told .enum-told .given .1)))
+    rw same (through (s .args .run .now) (s .args .rate) (s .args .out .now) (found e (told .enum-told .given .1)))
 
 put-birth-years-requires : tie.Need-put-birth-years-requires
 put-birth-years-requires c κs =
@@ -38,7 +39,7 @@ put-birth-years-requires c κs =
     let s = k .before .before .before .before .before in
     let same = toZ-ofZ (s .fits .rate) in
     let e = rw (k .before .before .check-room .ensures, k .before .check-short-form .ensures, same) at (k .first-of .ensures) in
-    let p = through (s .args .run .now) (s .args .rate) (s .args .out .now) (sym e ∙ ap finding (told .enum-told .given .1)) in
+    let p = through (s .args .run .now) (s .args .rate) (s .args .out .now) (found e (told .enum-told .given .1)) in
     (p .0, omega arith)
 
 enum-told-2 : tie.Need-enum-told-2
@@ -55,7 +56,7 @@ returns c =
     let s = k .before .before .before .before .before in
     let same = toZ-ofZ (s .fits .rate) in
     let e = rw (k .before .before .check-room .ensures, k .before .check-short-form .ensures, same) at (k .first-of .ensures) in
-    let p = through (s .args .run .now) (s .args .rate) (s .args .out .now) (sym e ∙ ap finding (told .enum-told .given .1)) in (
+    let p = through (s .args .run .now) (s .args .rate) (s .args .out .now) (found e (told .enum-told .given .1)) in (
       e,
       short-form-placed (s .args .run .now) (s .args .rate) (p .0) (s .args .out .now) _ _ (p .2) (rw same at (ages .put-ages .ensures))
           (c .before .before .put-birth-years .ensures) ∙ put-in-front (finding (k .first-of .result)) _ _ (ap finding (told .enum-told .given .1)),

@@ -1,7 +1,6 @@
 -- The check of the run and its history decides; an accepted one is what the six answers ask for.
-use mathlib.Core.Path.{_∙_, sym, ap}
 use borrow.Author.Needs.{needs}
-use Rattle.basis.specs.Outcome.{finding}
+use Rattle.basis.proofs.Outcome.{found}
 use Rattle.history.proofs.Acceptance.{accepted-workable}
 use Rattle.small_set.specs.SmallSet.{smallSetOf}
 use Rattle.small_set.proofs.small_set.Statement.{statement}
@@ -17,7 +16,7 @@ six-requires : tie.Need-six-requires
 six-requires c κs =
     let told = c .before in
     let a = told .before .before .before .before .before .args in
-    accepted-workable (a .run .now) (a .history .now) (sym (told .before .before .check-basis .ensures) ∙ ap finding (told .enum-told .given .1))
+    accepted-workable (a .run .now) (a .history .now) (found (told .before .before .check-basis .ensures) (told .enum-told .given .1))
 
 enum-known-refusal : tie.Need-enum-known-refusal
 enum-known-refusal c = search needs
@@ -26,11 +25,11 @@ returns : tie.Need-returns
 unfolding smallSetOf
 returns c =
     let told = c .before .before in
-    simp (sym (told .before .before .check-basis .ensures) ∙ ap finding (told .enum-told .given .1), c .six .ensures)
+    simp (found (told .before .before .check-basis .ensures) (told .enum-told .given .1), c .six .ensures)
 
 returns-2 : tie.Need-returns-2
 unfolding smallSetOf
-returns-2 c = simp (sym (c .before .before .before .check-basis .ensures) ∙ ap finding (c .before .refusal .given .1))
+returns-2 c = simp (found (c .before .before .before .check-basis .ensures) (c .before .refusal .given .1))
 
 pub small-set-spec : {M : Type 1} → statement M
 small-set-spec =

@@ -6,7 +6,8 @@ use native.Mathlib.Nat.{zero-add}
 use native.Mathlib.Omega.{arith}
 use lib.ListN.{take, drop}
 use Rattle.basis.specs.declared.Refusal.{Refusal}
-use Rattle.basis.specs.Outcome.{Finding, passed, refusedBy, finding}
+use Rattle.basis.specs.Outcome.{Finding, passed, refusedBy}
+use Rattle.basis.proofs.Outcome.{found}
 use Rattle.run_check.specs.Run.{runCheck}
 use Rattle.run_check.proofs.Acceptance.{accepted}
 use Rattle.tables.specs.declared.Table.{Table}
@@ -54,7 +55,7 @@ returns : tie.Need-returns
 returns c =
     let k = c .before .before .before in
     let s = k .before .before .args in
-    let t = refused-table (s .run .now) (s .table) (sym (k .check-run .ensures) ∙ ap finding (c .before .enum-told .given .1)) in
+    let t = refused-table (s .run .now) (s .table) (found (k .check-run .ensures) (c .before .enum-told .given .1)) in
     (sym (t .0), rw (t .1, zero-add) refl)
 
 -- ---- a run that passed, and the table's stretch in it
@@ -72,7 +73,7 @@ passing : (c : tie.After-struct-known) → Passing c
 passing c =
     let t = c .before .before in
     record {
-      passed = sym (t .before .before .check-run .ensures) ∙ ap finding (t .enum-told2 .given .1);
+      passed = found (t .before .before .check-run .ensures) (t .enum-told2 .given .1);
       in-run = rw (c .before .stretch-of .ensures) (inside (t .before .before .before .before .args .table));
     }
 

@@ -2,8 +2,7 @@
 use mathlib.Core.Path.{_∙_, sym, ap}
 use Prim.Native.Nat.{ℕ}
 use borrow.Author.Needs.{needs}
-use Rattle.basis.specs.Outcome.{finding}
-use Rattle.basis.proofs.Outcome.{first-passed, first-refused}
+use Rattle.basis.proofs.Outcome.{found, first-passed, first-refused}
 use Rattle.history.proofs.Acceptance.{accepted-workable}
 use Rattle.improvement.proofs.Cases.{first-with}
 use Rattle.question.specs.Question.{cellCheck}
@@ -19,7 +18,7 @@ enum-told c = search needs
 first-year-requires : tie.Need-first-year-requires
 first-year-requires c κs =
     let a = c .before .before .before .before .before .args in
-    accepted-workable (a .run .now) (a .history .now) (sym (c .before .before .check-basis .ensures) ∙ ap finding (c .enum-told .given .1)) .basis
+    accepted-workable (a .run .now) (a .history .now) (found (c .before .before .check-basis .ensures) (c .enum-told .given .1)) .basis
 
 check-cell-requires : tie.Need-check-cell-requires
 check-cell-requires c κs = search needs
@@ -33,10 +32,10 @@ returns c =
     let a = told .before .before .before .before .before .args in
     c .check-cell .ensures
     ∙ ap (λ (first : ℕ). cellCheck first (a .age) (a .year)) (c .before .first-year .ensures ∙ first-with (a .run .now) (a .history .now))
-    ∙ sym (first-passed _ _ (sym (told .before .before .check-basis .ensures) ∙ ap finding (told .enum-told .given .1)))
+    ∙ sym (first-passed _ _ (found (told .before .before .check-basis .ensures) (told .enum-told .given .1)))
 
 returns-2 : tie.Need-returns-2
-returns-2 c = sym (first-refused _ _ _ (sym (c .before .before .before .check-basis .ensures) ∙ ap finding (c .before .r .given .1)))
+returns-2 c = sym (first-refused _ _ _ (found (c .before .before .before .check-basis .ensures) (c .before .r .given .1)))
 
 pub check-from-first-spec : {M : Type 1} → statement M
 check-from-first-spec =

@@ -1,9 +1,8 @@
 -- The checks decide first; what they let pass is all that the work asks for.
-use mathlib.Core.Path.{_∙_, sym, ap}
+use mathlib.Core.Path.{_∙_, sym}
 use borrow.Author.Needs.{needs}
-use Rattle.basis.specs.Outcome.{finding}
 use Rattle.history.specs.History.{basisWith}
-use Rattle.basis.proofs.Outcome.{checked-passed, checked-refused}
+use Rattle.basis.proofs.Outcome.{found, checked-passed, checked-refused}
 use Rattle.enquiry.specs.Enquiry.{factorEnquiry}
 use Rattle.enquiry.proofs.Passed.{cell-passed}
 use Rattle.enquiry.proofs.cells.factor.Statement.{statement}
@@ -18,7 +17,7 @@ enum-told c = search needs
 factor-at-requires : tie.Need-factor-at-requires
 factor-at-requires c κs =
     let a = c .before .before .before .before .before .args in
-    let passed = sym (c .before .before .check-from-base .ensures) ∙ ap finding (c .enum-told .given .1) in
+    let passed = found (c .before .before .check-from-base .ensures) (c .enum-told .given .1) in
     let p = cell-passed (a .run .now) (a .history .now) (basisWith (a .run .now) (a .history .now) .base) (a .age) (a .year) passed in
     (p .0, p .1, p .2, p .3)
 
@@ -29,11 +28,11 @@ returns : tie.Need-returns
 unfolding factorEnquiry
 returns c =
     let told = c .before in
-    c .factor-at .ensures ∙ sym (checked-passed _ _ (sym (told .before .before .check-from-base .ensures) ∙ ap finding (told .enum-told .given .1)))
+    c .factor-at .ensures ∙ sym (checked-passed _ _ (found (told .before .before .check-from-base .ensures) (told .enum-told .given .1)))
 
 returns-2 : tie.Need-returns-2
 unfolding factorEnquiry
-returns-2 c = sym (checked-refused _ _ _ (sym (c .before .before .before .check-from-base .ensures) ∙ ap finding (c .before .r .given .1)))
+returns-2 c = sym (checked-refused _ _ _ (found (c .before .before .before .check-from-base .ensures) (c .before .r .given .1)))
 
 pub factor-spec : {M : Type 1} → statement M
 factor-spec =

@@ -1,10 +1,9 @@
 -- The checks decide first; what they let pass is all that the work asks for.
-use mathlib.Core.Path.{_∙_, sym, ap}
+use mathlib.Core.Path.{_∙_, sym}
 use borrow.Author.Needs.{needs}
-use Rattle.basis.specs.Outcome.{finding}
 use Rattle.history.specs.History.{basisWith}
 use Rattle.improvement.specs.Improvement.{firstYear}
-use Rattle.basis.proofs.Outcome.{checked-passed, checked-refused}
+use Rattle.basis.proofs.Outcome.{found, checked-passed, checked-refused}
 use Rattle.enquiry.specs.Enquiry.{improvementEnquiry}
 use Rattle.enquiry.proofs.Passed.{cell-passed}
 use Rattle.enquiry.proofs.cells.improvement.Statement.{statement}
@@ -19,7 +18,7 @@ enum-told c = search needs
 improvement-needed-requires : tie.Need-improvement-needed-requires
 improvement-needed-requires c κs =
     let a = c .before .before .before .before .before .args in
-    let passed = sym (c .before .before .check-from-first .ensures) ∙ ap finding (c .enum-told .given .1) in
+    let passed = found (c .before .before .check-from-first .ensures) (c .enum-told .given .1) in
     let p = cell-passed (a .run .now) (a .history .now) (firstYear (basisWith (a .run .now) (a .history .now))) (a .age) (a .year) passed in
     p
 
@@ -30,11 +29,11 @@ returns : tie.Need-returns
 unfolding improvementEnquiry
 returns c =
     let told = c .before in
-    c .improvement-needed .ensures ∙ sym (checked-passed _ _ (sym (told .before .before .check-from-first .ensures) ∙ ap finding (told .enum-told .given .1)))
+    c .improvement-needed .ensures ∙ sym (checked-passed _ _ (found (told .before .before .check-from-first .ensures) (told .enum-told .given .1)))
 
 returns-2 : tie.Need-returns-2
 unfolding improvementEnquiry
-returns-2 c = sym (checked-refused _ _ _ (sym (c .before .before .before .check-from-first .ensures) ∙ ap finding (c .before .r .given .1)))
+returns-2 c = sym (checked-refused _ _ _ (found (c .before .before .before .check-from-first .ensures) (c .before .r .given .1)))
 
 pub improvement-spec : {M : Type 1} → statement M
 improvement-spec =

@@ -1,8 +1,7 @@
 -- The checks decide first; what they let pass is all that the work asks for.
-use mathlib.Core.Path.{_∙_, sym, ap}
+use mathlib.Core.Path.{_∙_, sym}
 use borrow.Author.Needs.{needs}
-use Rattle.basis.specs.Outcome.{finding}
-use Rattle.basis.proofs.Outcome.{checked-passed, checked-refused}
+use Rattle.basis.proofs.Outcome.{found, checked-passed, checked-refused}
 use Rattle.enquiry.specs.Enquiry.{survivorshipEnquiry}
 use Rattle.enquiry.proofs.Passed.{valuation-passed}
 use Rattle.enquiry.proofs.values.survivorship.Statement.{statement}
@@ -17,7 +16,7 @@ enum-told c = search needs
 survivors-at-requires : tie.Need-survivors-at-requires
 survivors-at-requires c κs =
     let a = c .before .before .before .before .before .args in
-    valuation-passed (a .run .now) (a .history .now) (a .age) (a .deferment) (a .year) (sym (c .before .before .check-valuation .ensures) ∙ ap finding (c .enum-told .given .1))
+    valuation-passed (a .run .now) (a .history .now) (a .age) (a .deferment) (a .year) (found (c .before .before .check-valuation .ensures) (c .enum-told .given .1))
 
 enum-known-r : tie.Need-enum-known-r
 enum-known-r c = search needs
@@ -26,11 +25,11 @@ returns : tie.Need-returns
 unfolding survivorshipEnquiry
 returns c =
     let told = c .before in
-    c .survivors-at .ensures ∙ sym (checked-passed _ _ (sym (told .before .before .check-valuation .ensures) ∙ ap finding (told .enum-told .given .1)))
+    c .survivors-at .ensures ∙ sym (checked-passed _ _ (found (told .before .before .check-valuation .ensures) (told .enum-told .given .1)))
 
 returns-2 : tie.Need-returns-2
 unfolding survivorshipEnquiry
-returns-2 c = sym (checked-refused _ _ _ (sym (c .before .before .before .check-valuation .ensures) ∙ ap finding (c .before .r .given .1)))
+returns-2 c = sym (checked-refused _ _ _ (found (c .before .before .before .check-valuation .ensures) (c .before .r .given .1)))
 
 pub survivorship-spec : {M : Type 1} → statement M
 survivorship-spec =

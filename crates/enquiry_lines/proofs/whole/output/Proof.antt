@@ -6,6 +6,7 @@ use native.Mathlib.Omega.{arith}
 use lib.ListN.{replicate, length-replicate}
 use Rattle.basis_file.specs.File.{runIn}
 use Rattle.basis.specs.Outcome.{passed, finding}
+use Rattle.basis.proofs.Outcome.{found}
 use Rattle.history.specs.History.{basisWith, Workable}
 use Rattle.reply_text.proofs.Puts.{being, then}
 use Rattle.enquiry_lines.specs.Lines.{linesOf, replies}
@@ -48,7 +49,7 @@ same-length c = search needs
 returns : tie.Need-returns
 returns c = let o = c .before .before .before .before .before in
     let a = o .before .before .before .before .before .before .before .before .args in
-    let e = sym (o .open-files .ensures .0) ∙ ap finding (c .enum-told2 .given .1) in
+    let e = found (o .open-files .ensures .0) (c .enum-told2 .given .1) in
     being (refused-output (a .file .now) (a .history .now) (a .text .now) _ e) refl (o .open-files .ensures .1 .1 .0)
 
 slice-aggregate-work-out : tie.Need-slice-aggregate-work-out
@@ -104,7 +105,7 @@ returns-2 c = let g = c .before .before in
     let n = f .feed-parts .result .pending .complete in
     let lines = being (last-reply b n (a .text .now) _ (held-kept _ _ _ d) (held-complete _ _ _ d)) refl (then (f .feed-parts .ensures .1 .0) (g .finish .ensures)) in
     let all = then (o .open-files .ensures .1 .1 .0) lines in
-    let e = sym (o .open-files .ensures .0) ∙ ap finding (t .enum-told .given .1) in
+    let e = found (o .open-files .ensures .0) (t .enum-told .given .1) in
     let same = ap (λ r. printed (filesCheck (a .file .now) (a .history .now)) [] ++ replies (basisWith r (a .history .now)) 1 (linesOf (a .text .now))) (run-is o (ap finding (t .enum-told .given .1))) in
     being (same ∙ accepted-output (a .file .now) (a .history .now) (a .text .now) e) refl all
 

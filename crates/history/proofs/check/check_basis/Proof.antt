@@ -1,8 +1,7 @@
 -- Once it has passed the run is accepted, so that its years are there to be read; then the history decides.
-use mathlib.Core.Path.{_∙_, sym, ap}
+use mathlib.Core.Path.{_∙_, sym}
 use borrow.Author.Needs.{needs}
-use Rattle.basis.specs.Outcome.{finding}
-use Rattle.basis.proofs.Outcome.{first-passed, first-refused}
+use Rattle.basis.proofs.Outcome.{found, first-passed, first-refused}
 use Rattle.run_check.proofs.Acceptance.{accepted}
 use Rattle.history.specs.History.{basisCheck}
 use Rattle.history.proofs.check.check_basis.Statement.{statement}
@@ -17,7 +16,7 @@ enum-told c = search needs
 check-history-requires : tie.Need-check-history-requires
 check-history-requires c κs =
     let a = c .before .before .before .before .before .args in
-    accepted (a .run .now) (sym (c .before .before .check-run .ensures) ∙ ap finding (c .enum-told .given .1))
+    accepted (a .run .now) (found (c .before .before .check-run .ensures) (c .enum-told .given .1))
 
 enum-known-r : tie.Need-enum-known-r
 enum-known-r c = search needs
@@ -26,11 +25,11 @@ returns : tie.Need-returns
 unfolding basisCheck
 returns c =
     let told = c .before in
-    c .check-history .ensures ∙ sym (first-passed _ _ (sym (told .before .before .check-run .ensures) ∙ ap finding (told .enum-told .given .1)))
+    c .check-history .ensures ∙ sym (first-passed _ _ (found (told .before .before .check-run .ensures) (told .enum-told .given .1)))
 
 returns-2 : tie.Need-returns-2
 unfolding basisCheck
-returns-2 c = sym (first-refused _ _ _ (sym (c .before .before .before .check-run .ensures) ∙ ap finding (c .before .r .given .1)))
+returns-2 c = sym (first-refused _ _ _ (found (c .before .before .before .check-run .ensures) (c .before .r .given .1)))
 
 pub check-basis-spec : {M : Type 1} → statement M
 check-basis-spec =

@@ -4,7 +4,7 @@ use Prim.Native.Nat.{_*_}
 use borrow.Author.Needs.{needs}
 use Rattle.basis.specs.Basis.{basisOf}
 use Rattle.basis.specs.Outcome.{Finding, firstOf, finding}
-use Rattle.basis.proofs.Outcome.{first-stands, first-passed}
+use Rattle.basis.proofs.Outcome.{found, first-stands, first-passed}
 use Rattle.field_check.specs.Field.{fieldsCheck}
 use Rattle.block.specs.Blocks.{blocksCheck}
 use Rattle.history.specs.History.{actualYears, historyData, historyFields}
@@ -66,7 +66,7 @@ returns-3 c =
     let e = rw y at (k .check-blocks .ensures) in
     let f = rw y at (c .check-fields .ensures) in
     f ∙ joined-fields b (a .history .now)
-    ∙ sym (first-passed (blocksCheck 0 (2 * actualYears b) (a .history .now)) _ (sym e ∙ ap finding (c .before .enum-told2 .given .1)))
+    ∙ sym (first-passed (blocksCheck 0 (2 * actualYears b) (a .history .now)) _ (found e (c .before .enum-told2 .given .1)))
     ∙ sym (right-length b (a .history .now) l)
 
 pub check-history-spec : {M : Type 1} → statement M

@@ -4,6 +4,7 @@ use Prim.Native.Nat.{_+_, _*_}
 use native.Mathlib.Omega.{arith}
 use borrow.Author.Needs.{needs}
 use Rattle.basis.specs.Outcome.{finding}
+use Rattle.basis.proofs.Outcome.{found}
 use Rattle.block.proofs.Joined.{part-is}
 use Rattle.history.specs.Inner.Part.{countedFrom}
 use Rattle.history.proofs.Window.{refused-in}
@@ -44,7 +45,7 @@ add-t15 : tie.Need-add-t15
 add-t15 c =
     let k = c .before .before .before .before in
     let s = c .before .before .before .before .before .before .before in
-    omega (arith, refused-in _ (s .args .f) _ (sym (k .check-field .ensures) ∙ ap finding (c .before .before .r .given .1)), s .pre .2)
+    omega (arith, refused-in _ (s .args .f) _ (found (k .check-field .ensures) (c .before .before .r .given .1)), s .pre .2)
 
 returns : tie.Need-returns
 returns c =

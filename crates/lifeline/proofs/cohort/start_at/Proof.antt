@@ -1,7 +1,7 @@
 -- The check's two outcomes are the two cases of the definition.
-use mathlib.Core.Path.{_∙_, sym, ap}
+use mathlib.Core.Path.{sym}
 use borrow.Author.Needs.{needs}
-use Rattle.basis.specs.Outcome.{finding}
+use Rattle.basis.proofs.Outcome.{found}
 use Rattle.lifeline.proofs.Standing.{start-passed, start-refused}
 use Rattle.lifeline.proofs.cohort.start_at.Statement.{statement}
 use Rattle.lifeline.proofs.cohort.start_at.Tie as tie
@@ -16,10 +16,10 @@ enum-known-r : tie.Need-enum-known-r
 enum-known-r c = search needs
 
 returns : tie.Need-returns
-returns c = sym (start-passed _ _ _ _ (sym (c .before .before .check-valuation .ensures) ∙ ap finding (c .enum-told .given .1)))
+returns c = sym (start-passed _ _ _ _ (found (c .before .before .check-valuation .ensures) (c .enum-told .given .1)))
 
 returns-2 : tie.Need-returns-2
-returns-2 c = sym (start-refused _ _ _ _ _ (sym (c .before .before .before .check-valuation .ensures) ∙ ap finding (c .before .r .given .1)))
+returns-2 c = sym (start-refused _ _ _ _ _ (found (c .before .before .before .check-valuation .ensures) (c .before .r .given .1)))
 
 pub start-at-spec : {M : Type 1} → statement M
 start-at-spec =

@@ -1,9 +1,9 @@
 -- What the checks refuse is left unchanged; at 150 it has ended; else what the checks let pass is all that the year asks for.
-use mathlib.Core.Path.{_∙_, sym, ap}
+use mathlib.Core.Path.{_∙_, sym}
 use native.Mathlib.Omega.{arith}
 use borrow.Author.Needs.{needs}
 use borrow.Author.Tests.{eq-eqb, ne-eqb}
-use Rattle.basis.specs.Outcome.{finding}
+use Rattle.basis.proofs.Outcome.{found}
 use Rattle.lifeline.proofs.Standing.{step-passed, step-refused, step-ended, step-lived}
 use Rattle.lifeline.proofs.cohort.step_at.Statement.{statement}
 use Rattle.lifeline.proofs.cohort.step_at.Tie as tie
@@ -17,22 +17,22 @@ enum-told c = search needs
 year-later-requires : tie.Need-year-later-requires
 year-later-requires c κs =
     let a = c .before .before .before .before .before .before .args in
-    let p = step-passed (a .run .now) (a .history .now) (a .age) (a .year) (a .survivors) (sym (c .before .before .before .check-step .ensures) ∙ ap finding (c .before .enum-told .given .1)) in
+    let p = step-passed (a .run .now) (a .history .now) (a .age) (a .year) (a .survivors) (found (c .before .before .before .check-step .ensures) (c .before .enum-told .given .1)) in
     (p .0, p .1, omega (arith, p .2), p .3, omega (arith, p .2, p .4), p .5)
 
 enum-known-x : tie.Need-enum-known-x
 enum-known-x c = search needs
 
 returns : tie.Need-returns
-returns c = sym (step-ended _ _ _ _ _ (sym (c .before .before .before .check-step .ensures) ∙ ap finding (c .before .enum-told .given .1)) (eq-eqb _ _ (c .if1 .taken)))
+returns c = sym (step-ended _ _ _ _ _ (found (c .before .before .before .check-step .ensures) (c .before .enum-told .given .1)) (eq-eqb _ _ (c .if1 .taken)))
 
 returns-2 : tie.Need-returns-2
 returns-2 c =
     let else = c .before in
-    c .year-later .ensures ∙ sym (step-lived _ _ _ _ _ (sym (else .before .before .before .check-step .ensures) ∙ ap finding (else .before .enum-told .given .1)) (ne-eqb _ _ (else .if1 .left)))
+    c .year-later .ensures ∙ sym (step-lived _ _ _ _ _ (found (else .before .before .before .check-step .ensures) (else .before .enum-told .given .1)) (ne-eqb _ _ (else .if1 .left)))
 
 returns-3 : tie.Need-returns-3
-returns-3 c = sym (step-refused _ _ _ _ _ _ (sym (c .before .before .before .check-step .ensures) ∙ ap finding (c .before .x .given .1)))
+returns-3 c = sym (step-refused _ _ _ _ _ _ (found (c .before .before .before .check-step .ensures) (c .before .x .given .1)))
 
 pub step-at-spec : {M : Type 1} → statement M
 step-at-spec =
