@@ -76,7 +76,8 @@ module _ (run history : List ℕ) where
   grid-unchanged points r h = rw (ap recordsOf h) (answers-none (basisWith run history) points)
 
   -- a refused step leaves a lifeline where it stands, whichever check or work refused it
-  line-unchanged : (age year survivors : ℕ) (r : Refusal) → stepAt run history age year survivors .says ≡ refused r → standMoved (stepAt run history age year survivors) ≡ standAt age year survivors
+  line-unchanged : (age year survivors : ℕ) (r : Refusal) → stepAt run history age year survivors .says ≡ refused r
+      → standMoved (stepAt run history age year survivors) ≡ standAt age year survivors
   unfolding stepAt lived
   line-unchanged age year survivors r h =
       by (stepCheck run history age year survivors) (eqb age 150) (survivorsAfterYear (basisWith run history) age year (pos survivors)) h

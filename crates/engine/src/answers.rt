@@ -1,4 +1,4 @@
-// Checks and answers as C takes them: structs in the place of enums, with refusal number 0 for none.
+// Checks and answers as C takes them: structs instead of enums, with refusal number 0 for none.
 ghost use mathlib.Core.Path.{_≡_};
 ghost use Rattle.basis.specs.Outcome.{finding, meaning, signedMeaning};
 ghost use Rattle.engine.specs.Enquiry.{refusalOf, answerOf, signedAnswerOf};

@@ -11,7 +11,8 @@ use basis::SignedAnswer;
 
 // The data run and its history afresh, the age, and the year from the first that has an improvement.
 fn check_from_first(run: &[u8], history: &[u8], age: u32, year: u32) -> Check
-    ensures { λ r. ⌜ finding r ≡ firstOf (basisCheck (now (run .entry)) (now (history .entry))) (cellCheck (firstYear (basisWith (now (run .entry)) (now (history .entry)))) age year) ⌝ }
+    ensures { λ r. ⌜ finding r
+        ≡ firstOf (basisCheck (now (run .entry)) (now (history .entry))) (cellCheck (firstYear (basisWith (now (run .entry)) (now (history .entry)))) age year) ⌝ }
 {
     match history::check::check_basis(run, history) {
         Check::Passed => question::check_cell(improvement::first_year(run), age, year),

@@ -5,7 +5,7 @@ ghost use mathlib.Core.List.{[]};
 ghost use Prim.Native.Nat.{_+_, _*_, _≤_, _<_};
 ghost use lib.ListN.{length};
 ghost use Rattle.history.specs.History.{basisWith, Workable};
-ghost use Rattle.workings.specs.Workings.{Workings};
+ghost use Rattle.workings.specs.Workings.{Workings, WorkedOut};
 ghost use Rattle.enquiry_text.specs.Line.{lineOf};
 ghost use Rattle.reply_text.specs.Inner.Put.{Put};
 ghost use Rattle.enquiry_lines.specs.Lines.{ended, unfinished, lastLine, replyTo, replies};
@@ -71,12 +71,14 @@ pub fn feed(
     out: &mut [u8],
     from: usize,
 ) -> Fed
-    requires { ⌜ Workable (now run) (now history) × Workings (basisWith (now run) (now history)) (now workings) ⌝ }
+    requires { ⌜ WorkedOut (now run) (now history) (now workings) ⌝ }
     requires { ⌜ from + 192 * length (now part) ≤ length (now out) ⌝ }
     requires { ⌜ Sound s ⌝ }
     requires { ⌜ s .complete + length (now part) < 18446744073709551616 ⌝ }
     ensures { λ r. ⌜ r .pending ≡ pendingOf (unfinished (kept s) (now (part .entry))) (s .complete + length (ended (kept s) (now (part .entry)))) ⌝ }
-    ensures { λ r. ⌜ Put (now (out .entry)) from (replies (basisWith (now (run .entry)) (now (history .entry))) (s .complete + 1) (ended (kept s) (now (part .entry)))) (now (out .exit)) (r .at) ⌝ }
+    ensures { λ r. ⌜ Put (now (out .entry)) from
+        (replies (basisWith (now (run .entry)) (now (history .entry))) (s .complete + 1) (ended (kept s) (now (part .entry)))) (now (out .exit))
+        (r .at) ⌝ }
     ensures { λ r. ⌜ r .at ≤ from + 192 * length (now (part .entry)) ⌝ }
 {
     let mut bytes = s.bytes;
@@ -119,7 +121,7 @@ pub fn finish(
     out: &mut [u8],
     from: usize,
 ) -> usize
-    requires { ⌜ Workable (now run) (now history) × Workings (basisWith (now run) (now history)) (now workings) ⌝ }
+    requires { ⌜ WorkedOut (now run) (now history) (now workings) ⌝ }
     requires { ⌜ from + 192 ≤ length (now out) ⌝ }
     requires { ⌜ Sound s ⌝ }
     requires { ⌜ s .complete + 1 < 18446744073709551616 ⌝ }

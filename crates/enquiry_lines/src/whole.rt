@@ -3,8 +3,8 @@ ghost use mathlib.Core.Path.{_≡_};
 ghost use mathlib.Core.List.{[]};
 ghost use Prim.Native.Nat.{_+_, _*_, _≤_, _<_};
 ghost use lib.ListN.{length};
-ghost use Rattle.history.specs.History.{basisWith, Workable};
-ghost use Rattle.workings.specs.Workings.{Workings};
+ghost use Rattle.history.specs.History.{basisWith};
+ghost use Rattle.workings.specs.Workings.{WorkedOut};
 ghost use Rattle.reply_text.specs.Inner.Put.{Put};
 ghost use Rattle.enquiry_lines.specs.Lines.{ended, unfinished, replies};
 ghost use Rattle.enquiry_lines.specs.Output.{outputOf};
@@ -30,7 +30,7 @@ fn feed_parts(
     out: &mut [u8],
     from: usize,
 ) -> Fed
-    requires { ⌜ Workable (now run) (now history) × Workings (basisWith (now run) (now history)) (now workings) ⌝ }
+    requires { ⌜ WorkedOut (now run) (now history) (now workings) ⌝ }
     requires { ⌜ from + 192 * length (now text) ≤ length (now out) ⌝ }
     requires { ⌜ (length (now text) < 18446744073709551615) × (length (now lengths) < 2305843009213693952) ⌝ }
     ensures { λ r. ⌜ r .pending ≡ pendingOf (unfinished [] (now (text .entry))) (length (ended [] (now (text .entry)))) ⌝ }

@@ -3,8 +3,8 @@ ghost use mathlib.Core.Path.{_≡_};
 ghost use Prim.Native.Nat.{_≤_, _<_};
 ghost use lib.ListN.{length};
 ghost use Rattle.basis.specs.Outcome.{finding};
-ghost use Rattle.history.specs.History.{basisWith, Workable};
-ghost use Rattle.workings.specs.Workings.{Workings};
+ghost use Rattle.history.specs.History.{basisWith};
+ghost use Rattle.workings.specs.Workings.{WorkedOut};
 ghost use Rattle.grid.specs.Grid.{gridCheck, gridStart, gridStartMeaning, answers, gridOf};
 use basis::Check;
 use grid_record::Point;
@@ -45,7 +45,7 @@ pub fn start_grid(run: &[u8], history: &[u8], count: usize) -> GridStart
 fn begin_grid(run: &[u8], history: &[u8], count: usize, workings: &mut [u32]) -> GridStart
     requires { ⌜ length (now workings) ≡ 18340 ⌝ }
     ensures { λ r. ⌜ gridStartMeaning r ≡ gridStart (gridCheck (now (run .entry)) (now (history .entry)) count) ⌝ }
-    ensures { λ r. ⌜ (0 < r .records → Workable (now (run .entry)) (now (history .entry)) × Workings (basisWith (now (run .entry)) (now (history .entry))) (now (workings .exit))) ⌝ }
+    ensures { λ r. ⌜ (0 < r .records → WorkedOut (now (run .entry)) (now (history .entry)) (now (workings .exit))) ⌝ }
 {
     let start = start_grid(run, history, count);
     let n = start.records;
@@ -57,7 +57,7 @@ fn begin_grid(run: &[u8], history: &[u8], count: usize, workings: &mut [u32]) ->
 
 // The first n records answered, each in its place.
 fn fill_records(run: &[u8], history: &[u8], workings: &[u32], n: usize, points: &mut [Point])
-    requires { ⌜ (n ≤ length (now points)) × (0 < n → Workable (now run) (now history) × Workings (basisWith (now run) (now history)) (now workings)) ⌝ }
+    requires { ⌜ (n ≤ length (now points)) × (0 < n → WorkedOut (now run) (now history) (now workings)) ⌝ }
     ensures { λ _. ⌜ now (points .exit) ≡ answers (basisWith (now (run .entry)) (now (history .entry))) n (now (points .entry)) ⌝ }
 {
     let mut i: usize = 0;

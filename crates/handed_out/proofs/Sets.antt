@@ -124,6 +124,8 @@ module _ (run history : List ℕ) where
   unfolding smallSetOf
   set-near questions filled i l noQuestion noAnswer none =
       let b = basisWith run history in
-      let accepted = zero-is-none .check (basisCheck run history) (numbered-refusals run history .withHistory) (sym (ap (λ r. r .number) (numbered-refusals run history .smallSet questions)) ∙ filled) in
-      let is : getD (smallSetOf run history questions .points) i noAnswer ≡ pointOf b (getD (questions .points) i noQuestion) = rw accepted (getD-map (pointOf b) (questions .points) i noQuestion noAnswer l) in
+      let accepted = zero-is-none .check (basisCheck run history) (numbered-refusals run history .withHistory)
+      (sym (ap (λ r. r .number) (numbered-refusals run history .smallSet questions)) ∙ filled) in
+      let is : getD (smallSetOf run history questions .points) i noAnswer ≡ pointOf b (getD (questions .points) i noQuestion) =
+      rw accepted (getD-map (pointOf b) (questions .points) i noQuestion noAnswer l) in
       rw is (point-near run history accepted (getD (questions .points) i noQuestion) (sym (ap (λ (a : PointAnswer). a .refusal .number) is) ∙ none))

@@ -21,7 +21,8 @@ use Rattle.field_check.proofs.Holds.{Holds, field-holds, field-passes}
 use Rattle.run_check.specs.Run.{runCheck}
 use Rattle.run_check.proofs.Acceptance as runs
 use Rattle.block.specs.Blocks.{blocksCheck}
-use Rattle.history.specs.History.{actualYears, lengthNeeded, historyData, placeOf, actualOf, movedTo, yearlyFields, youngerAges, firstRemaining, olderAges, secondRemaining, historyFields, historyCheck, basisCheck, Workable}
+use Rattle.history.specs.History.{actualYears, lengthNeeded, historyData, placeOf, actualOf, movedTo, yearlyFields, historyFields}
+use Rattle.history.specs.History.{youngerAges, firstRemaining, olderAges, secondRemaining, historyCheck, basisCheck, Workable}
 use Rattle.history.specs.Accepted.{AcceptedHistory, HistoryAcceptance}
 use Rattle.history.proofs.RightBlocks.{blocks-right, blocks-pass}
 use Rattle.history.proofs.Yearly.{each-year, years-pass}
@@ -45,7 +46,8 @@ module _ (b : Basis) (history : List ℕ) where
         let q = both-passed (blocksCheck 0 (2 * actualYears b) history) _ (p .1) in
         (eqb-true _ _ (unless-passed _ _ (p .0)), q .0, q .1)
 
-    tables : (fieldsCheck Data (yearlyFields firstRemaining secondRemaining 0 (actualYears b)) ≡ passed) × (fieldsCheck Data (yearlyFields youngerAges olderAges 0 (actualYears b)) ≡ passed)
+    tables : (fieldsCheck Data (yearlyFields firstRemaining secondRemaining 0 (actualYears b)) ≡ passed)
+        × (fieldsCheck Data (yearlyFields youngerAges olderAges 0 (actualYears b)) ≡ passed)
     tables =
         both-passed (fieldsCheck Data (yearlyFields firstRemaining secondRemaining 0 (actualYears b))) _
         (sym (fields-parts Data (actualYears b)) ∙ parts .2)

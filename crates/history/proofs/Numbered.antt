@@ -12,7 +12,8 @@ use Rattle.field_check.specs.Field.{fieldsCheck}
 use Rattle.field_check.proofs.Numbered.{field-by}
 use Rattle.run_check.proofs.Numbered.{run-numbered}
 use Rattle.block.proofs.Numbered.{blocks-numbered}
-use Rattle.history.specs.History.{actualYears, lengthNeeded, historyData, movedTo, yearlyFields, youngerAges, olderAges, firstRemaining, secondRemaining, historyFields, historyCheck, basisCheck}
+use Rattle.history.specs.History.{actualYears, lengthNeeded, historyData, movedTo, yearlyFields, historyFields, historyCheck, basisCheck}
+use Rattle.history.specs.History.{youngerAges, olderAges, firstRemaining, secondRemaining}
 use Rattle.history.proofs.Ways.{fields-parts}
 
 yearly-numbered : (s : List ℕ) (first second : Field) (at n : ℕ) → Listed numbers (first .0) → Listed numbers (second .0) → RefusesBy numbers (fieldsCheck s (yearlyFields first second at n))

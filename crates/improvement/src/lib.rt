@@ -65,7 +65,8 @@ fn is_actual(run: &[u8], year: u32) -> bool
 
 // The improvement at an age, whose terms the caller has read, in a year up to 2130 that has one.
 pub fn improvement_at(run: &[u8], history: &[u8], terms: Convergence, age: u32, year: u32) -> i64
-    requires { ⌜ Workable (now run) (now history) × (20 ≤ age) × (age ≤ 150) × (terms ≡ basisOf (now run) .byAge age) × (firstYear (basisWith (now run) (now history)) ≤ year) × (year ≤ 2130) ⌝ }
+    requires { ⌜ Workable (now run) (now history) × (20 ≤ age) × (age ≤ 150)
+        × (terms ≡ basisOf (now run) .byAge age) × (firstYear (basisWith (now run) (now history)) ≤ year) × (year ≤ 2130) ⌝ }
     ensures { λ r. ⌜ r ≡ improvementOf (basisWith (now (run .entry)) (now (history .entry))) age year ⌝ }
 {
     if is_actual(run, year) {

@@ -130,7 +130,8 @@ module _ (run history : List ℕ) (age year : ℕ) where
       moves-on age year s h = by (stepCheck run history age year s) (eqb age 150) (survivorsAfterYear (basisWith run history) age year (pos s)) h
         where
           by : (c : Finding) (e : Bool) (o : Outcome ℤ) → unlessRefused age year s c (cond e (moved age year s (value ended)) (yearLater age year s o)) .says ≡ value advanced
-              → (t : ℤ) × (o ≡ value t) × (unlessRefused age year s c (cond e (moved age year s (value ended)) (yearLater age year s o)) ≡ moved (age + 1) (year + 1) (natAbs t) (value advanced))
+              → (t : ℤ) × (o ≡ value t)
+              × (unlessRefused age year s c (cond e (moved age year s (value ended)) (yearLater age year s o)) ≡ moved (age + 1) (year + 1) (natAbs t) (value advanced))
           by passed false (value t) g = (t, refl, refl)
           by passed false (refused r) g = let z : _≡_ {A = ℕ} 0 1 = cc in absurd (omega arith)
           by passed true o g = let z : _≡_ {A = ℕ} 0 1 = cc in absurd (omega arith)

@@ -31,7 +31,8 @@ pub struct Stepped<'a> {
 }
 
 pub fn start<'a>(run: &'a [u8], history: &[u8], age: u32, year: u32) -> Started<'a>
-    ensures { λ r. ⌜ (r .line ≡ lineStarted (run .entry) (now (history .entry)) age year) × (finding (r .check) ≡ startAt (now (run .entry)) (now (history .entry)) age year .check) ⌝ }
+    ensures { λ r. ⌜ (r .line ≡ lineStarted (run .entry) (now (history .entry)) age year)
+        × (finding (r .check) ≡ startAt (now (run .entry)) (now (history .entry)) age year .check) ⌝ }
 {
     let b = cohort::start_at(run, history, age, year);
     Started {

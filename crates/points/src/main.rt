@@ -3,8 +3,8 @@
 ghost use mathlib.Core.Path.{_≡_};
 ghost use Prim.Native.Nat.{_+_, _*_, _≤_};
 ghost use lib.ListN.{length};
-ghost use Rattle.history.specs.History.{basisWith, Workable};
-ghost use Rattle.workings.specs.Workings.{Workings};
+ghost use Rattle.history.specs.History.{Workable};
+ghost use Rattle.workings.specs.Workings.{WorkedOut};
 ghost use Rattle.io.specs.Counts.{Counts};
 ghost use Rattle.enquiry_lines.specs.Inner.State.{Sound};
 use basis::Check;
@@ -116,7 +116,7 @@ fn answer_block(
     out: &mut [u8],
     blocks: u64,
 ) -> Turn
-    requires { ⌜ Workable (now run) (now history) × Workings (basisWith (now run) (now history)) (now workings) ⌝ }
+    requires { ⌜ WorkedOut (now run) (now history) (now workings) ⌝ }
     requires { ⌜ (length (now part) ≤ 1024) × (196608 ≤ length (now out)) ⌝ }
     requires { ⌜ (Sound s) × (s .complete + 1024 * (blocks + 1) ≤ 1024000000000000000) ⌝ }
     ensures { λ r. ⌜ (Sound (r .pending)) × (r .pending .complete + 1024 * blocks ≤ 1024000000000000000) ⌝ }
@@ -150,7 +150,7 @@ fn answer_blocks(
     part: &mut [u8],
     out: &mut [u8],
 ) -> Turn
-    requires { ⌜ Workable (now run) (now history) × Workings (basisWith (now run) (now history)) (now workings) ⌝ }
+    requires { ⌜ WorkedOut (now run) (now history) (now workings) ⌝ }
     requires { ⌜ (length (now part) ≤ 1024) × (196608 ≤ length (now out)) ⌝ }
     ensures { λ r. ⌜ (Sound (r .pending)) × (r .pending .complete ≤ 1024000000000000000) ⌝ }
 {

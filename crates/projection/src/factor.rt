@@ -53,7 +53,8 @@ pub fn factor_in(
     year: u32,
     factor: u64,
 ) -> Answer
-    requires { ⌜ Workable (now run) (now history) × (20 ≤ age) × (age ≤ 150) × (terms ≡ basisWith (now run) (now history) .byAge age) × (firstYear (basisWith (now run) (now history)) ≤ year) × (year ≤ 2130) × (factor ≤ 4_000_000_000) ⌝ }
+    requires { ⌜ Workable (now run) (now history) × (20 ≤ age) × (age ≤ 150) × (terms ≡ basisWith (now run) (now history) .byAge age)
+        × (firstYear (basisWith (now run) (now history)) ≤ year) × (year ≤ 2130) × (factor ≤ 4_000_000_000) ⌝ }
     ensures { λ r. ⌜ meaning r ≡ factorFrom age year (improvementOf (basisWith (now (run .entry)) (now (history .entry))) age year) (pos factor) ⌝ }
 {
     factor_from(

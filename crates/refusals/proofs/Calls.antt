@@ -65,7 +65,8 @@ module _ (run history : List ℕ) where
   step-numbered age year survivors =
       record {
         listed = by (stepCheck run history age year survivors) (first-by (basis-numbered run history) (standing-numbered (basisWith run history .base) age year survivors))
-            (eqb age 150) (survivorsAfterYear (basisWith run history) age year (pos survivors)) (work-among record-numbers (year-numbered (basisWith run history) age year (pos survivors)));
+            (eqb age 150) (survivorsAfterYear (basisWith run history) age year (pos survivors))
+            (work-among record-numbers (year-numbered (basisWith run history) age year (pos survivors)));
       }
     where
       by : (c : Finding) → RefusesBy numbers c → (t : Bool) (o : Outcome ℤ) → RefusedBy numbers o → (r : Refusal)

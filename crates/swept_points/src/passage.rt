@@ -32,7 +32,8 @@ fn survivors_after_year(
     year: u32,
     s: u64,
 ) -> Answer
-    requires { ⌜ Workable (now run) (now history) × Workings (basisWith (now run) (now history)) (now workings) × (20 ≤ age) × (age ≤ 150) × (basisWith (now run) (now history) .base ≤ year) × (s ≤ 1_000_000_000) ⌝ }
+    requires { ⌜ Workable (now run) (now history) × Workings (basisWith (now run) (now history)) (now workings) × (20 ≤ age) × (age ≤ 150)
+        × (basisWith (now run) (now history) .base ≤ year) × (s ≤ 1_000_000_000) ⌝ }
     ensures { λ r. ⌜ meaning r ≡ survivorsAfterYear (basisWith (now (run .entry)) (now (history .entry))) age year (pos s) ⌝ }
 {
     let factor = workings::factors::factor(run, history, workings, age, year);
@@ -61,7 +62,8 @@ pub fn passage_from(
     year: u32,
     deferment: u32,
 ) -> Passage
-    requires { ⌜ Workable (now run) (now history) × Workings (basisWith (now run) (now history)) (now workings) × (20 ≤ age) × (age + deferment ≤ 150) × (basisWith (now run) (now history) .base ≤ year) × (year ≤ 2260) ⌝ }
+    requires { ⌜ Workable (now run) (now history) × Workings (basisWith (now run) (now history)) (now workings) × (20 ≤ age) × (age + deferment ≤ 150)
+        × (basisWith (now run) (now history) .base ≤ year) × (year ≤ 2260) ⌝ }
     ensures { λ r. ⌜ expectationIn r ≡ expectationOf (basisWith (now (run .entry)) (now (history .entry))) kind age year 0 ⌝ }
     ensures { λ r. ⌜ annuityIn r ≡ annuityOf (basisWith (now (run .entry)) (now (history .entry))) kind age year deferment ⌝ }
 {

@@ -4,7 +4,7 @@ ghost use Prim.Native.Nat.{_+_, _≤_};
 ghost use Rattle.basis.specs.Outcome.{meaning};
 ghost use Rattle.history.specs.History.{basisWith, Workable};
 ghost use Rattle.valuation.specs.Valuation.{expectationOf};
-ghost use Rattle.workings.specs.Workings.{Workings};
+ghost use Rattle.workings.specs.Workings.{Workings, WorkedOut};
 ghost use Rattle.model_points.specs.Point.{resultsOf, pointAnswerOf, pointOf};
 ghost use Rattle.grid_record.specs.Record.{answeredOf};
 ghost use Rattle.swept_points.specs.Passage.{expectationIn, annuityIn};
@@ -45,7 +45,9 @@ fn expectation(
     q: Question,
     known: Passage,
 ) -> Answer
-    requires { ⌜ Workable (now run) (now history) × Workings (basisWith (now run) (now history)) (now workings) × (20 ≤ q .age) × (q .age + q .deferment ≤ 150) × (basisWith (now run) (now history) .base ≤ q .year) × (q .year ≤ 2130) × (expectationIn known ≡ expectationOf (basisWith (now run) (now history)) kind (q .age) (q .year) 0) ⌝ }
+    requires { ⌜ Workable (now run) (now history) × Workings (basisWith (now run) (now history)) (now workings) × (20 ≤ q .age)
+        × (q .age + q .deferment ≤ 150) × (basisWith (now run) (now history) .base ≤ q .year) × (q .year ≤ 2130)
+        × (expectationIn known ≡ expectationOf (basisWith (now run) (now history)) kind (q .age) (q .year) 0) ⌝ }
     ensures { λ r. ⌜ meaning r ≡ expectationOf (basisWith (now (run .entry)) (now (history .entry))) kind (q .age) (q .year) (q .deferment) ⌝ }
 {
     if q.deferment == 0 {
@@ -58,7 +60,8 @@ fn expectation(
 
 // The results of a question that has been checked.
 fn results_at(run: &[u8], history: &[u8], workings: &[u32], q: Question) -> PointAnswer
-    requires { ⌜ Workable (now run) (now history) × Workings (basisWith (now run) (now history)) (now workings) × (20 ≤ q .age) × (q .age + q .deferment ≤ 150) × (basisWith (now run) (now history) .base ≤ q .year) × (q .year ≤ 2130) ⌝ }
+    requires { ⌜ Workable (now run) (now history) × Workings (basisWith (now run) (now history)) (now workings) × (20 ≤ q .age)
+        × (q .age + q .deferment ≤ 150) × (basisWith (now run) (now history) .base ≤ q .year) × (q .year ≤ 2130) ⌝ }
     ensures { λ r. ⌜ r ≡ pointAnswerOf (resultsOf (basisWith (now (run .entry)) (now (history .entry))) (q .age) (q .deferment) (q .year)) ⌝ }
 {
     let age = q.age;
@@ -76,7 +79,7 @@ fn results_at(run: &[u8], history: &[u8], workings: &[u32], q: Question) -> Poin
 
 // The answer of a point.
 pub fn point_at(run: &[u8], history: &[u8], workings: &[u32], q: Question) -> PointAnswer
-    requires { ⌜ Workable (now run) (now history) × Workings (basisWith (now run) (now history)) (now workings) ⌝ }
+    requires { ⌜ WorkedOut (now run) (now history) (now workings) ⌝ }
     ensures { λ r. ⌜ r ≡ pointOf (basisWith (now (run .entry)) (now (history .entry))) q ⌝ }
 {
     match question::check_question(run, q.age, q.deferment, q.year) {
@@ -87,7 +90,7 @@ pub fn point_at(run: &[u8], history: &[u8], workings: &[u32], q: Question) -> Po
 
 // A record of the grid with its answer in place of what it held.
 pub fn answered(run: &[u8], history: &[u8], workings: &[u32], p: Point) -> Point
-    requires { ⌜ Workable (now run) (now history) × Workings (basisWith (now run) (now history)) (now workings) ⌝ }
+    requires { ⌜ WorkedOut (now run) (now history) (now workings) ⌝ }
     ensures { λ r. ⌜ r ≡ answeredOf (basisWith (now (run .entry)) (now (history .entry))) p ⌝ }
 {
     let a = point_at(

@@ -53,7 +53,8 @@ fn annuity_from(
     deferment: u32,
     first: u64,
 ) -> Answer
-    requires { ⌜ Workable (now run) (now history) × (20 ≤ age) × (age + deferment ≤ 150) × (basisWith (now run) (now history) .base ≤ year) × (year ≤ 2130) × (first ≤ 1_000_000_000) × (survivorsOf (basisWith (now run) (now history)) kind age year deferment ≡ value (pos first)) ⌝ }
+    requires { ⌜ Workable (now run) (now history) × (20 ≤ age) × (age + deferment ≤ 150) × (basisWith (now run) (now history) .base ≤ year)
+        × (year ≤ 2130) × (first ≤ 1_000_000_000) × (survivorsOf (basisWith (now run) (now history)) kind age year deferment ≡ value (pos first)) ⌝ }
     ensures { λ r. ⌜ meaning r ≡ annuityOf (basisWith (now (run .entry)) (now (history .entry))) kind age year deferment ⌝ }
 {
     let accumulation = basis::fields::accumulation(run);

@@ -5,6 +5,7 @@ use Prim.Native.Nat.{ℕ, _+_, _*_, _-_, _≤_, _<_}
 use lib.IntN.{pos}
 use lib.ListN.{length, getD}
 use Rattle.basis.specs.Basis.{Basis}
+use Rattle.history.specs.History.{basisWith, Workable}
 use Rattle.sweep.specs.Sweep.{sweepAfter}
 use Rattle.sweep.specs.Held.{heldIn}
 use Rattle.valuation.specs.Valuation.{discountAfter}
@@ -27,3 +28,7 @@ pub record Workings (b : Basis) (numbers : List ℕ) : Type 0 where
   pub years : YearsNoted b numbers (2131 - b .base)
   pub rest : RestIsZero b numbers
   pub discounts : DiscountsNoted b numbers 131
+
+-- a data run and its history that can be worked with, and what was worked out of them
+abbrev pub WorkedOut : List ℕ → List ℕ → List ℕ → Type 0
+WorkedOut run history numbers = Workable run history × Workings (basisWith run history) numbers

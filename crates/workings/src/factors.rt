@@ -54,7 +54,8 @@ pub(crate) fn clear_rest(run: &[u8], history: &[u8], numbers: &mut [u32])
 
 // The factor at an age in a year from B on.
 pub fn factor(run: &[u8], history: &[u8], numbers: &[u32], age: u32, year: u32) -> Answer
-    requires { ⌜ Workable (now run) (now history) × Workings (basisWith (now run) (now history)) (now numbers) × (20 ≤ age) × (age ≤ 150) × (basisWith (now run) (now history) .base ≤ year) ⌝ }
+    requires { ⌜ Workable (now run) (now history) × Workings (basisWith (now run) (now history)) (now numbers) × (20 ≤ age) × (age ≤ 150)
+        × (basisWith (now run) (now history) .base ≤ year) ⌝ }
     ensures { λ r. ⌜ meaning r ≡ factorOf (basisWith (now (run .entry)) (now (history .entry))) age year ⌝ }
 {
     let k = projection::factor::held_year(year) - basis::fields::base_year(run);

@@ -55,7 +55,7 @@ use Rattle.arithmetic.proofs.Walk.{tests}
 use Rattle.history.specs.History.{basisWith, Workable}
 use Rattle.grid_record.specs.declared.Point.{Point}
 use Rattle.grid_record.specs.Record.{answeredOf}
-use Rattle.workings.specs.Workings.{Workings}
+use Rattle.workings.specs.Workings.{Workings, WorkedOut}
 use Rattle.grid.specs.Grid.{answers}
 use Rattle.grid.proofs.Filled.{answers-none, answers-length, answers-set}
 use Rattle.grid_record.proofs.Point as P
@@ -178,7 +178,7 @@ module _ {M : Type 1} (𝓤 : URA M) (H : Heap 𝓤) (A : Atoms 𝓤) (W : Given
   abbrev to-answered : Point → Answered 𝓤 H A mem run .Ghost
   to-answered p = (((κ₀, (κ₁, (κ₂, tt))), (q₀, (q₁, (q₂, tt))), tt, (s₀, (s₁, (s₂, (p, tt)))), (v₀ ∷ [], (v₁ ∷ [], (v₂ ∷ [], (point-val p ∷ [], tt))))), tt)
 
-  goes-answered : Workable (now s₀) (now s₁) × Workings (basisWith (now s₀) (now s₁)) (now s₂) → (p : Point)
+  goes-answered : WorkedOut (now s₀) (now s₁) (now s₂) → (p : Point)
       → ent 𝓤 (⋆ 𝓤 H A (Tokens ∷ Owned ∷ ‵ (P.the-row .own p (point-val p ∷ [])) ∷ [])) (⋆ 𝓤 H A (raw (Answered 𝓤 H A mem run .pre (to-answered p)) ∷ Owned ∷ []))
   goes-answered ok p =
       qed W (Tokens ∷ Owned ∷ ‵ (P.the-row .own p (point-val p ∷ [])) ∷ []) ∵ move ! (1 ∷ []) $ use1 W (‵ Own₀ ⊛ ‵ Own₁ ⊛ ‵ Own₂ ⊛ Owned) copied $
@@ -211,7 +211,7 @@ module _ {M : Type 1} (𝓤 : URA M) (H : Heap 𝓤) (A : Atoms 𝓤) (W : Given
 
   -- ---- what the contract asks: the count of records to answer, and the sweep where there is any
   module _ (𝓣 : Tables 𝓤 H) (fm : FmC 𝓤 H (W .laws) (𝓣 .C)) (known : Triple 𝓤 (𝓣 .C #swept-points·points·answered) (Answered 𝓤 H A mem run)) (n-fits : n < 2 ^ 64) (room : Room P.the-row (length xs))
-      (n-few : n ≤ length xs) (ready : 0 < n → Workable (now s₀) (now s₁) × Workings (basisWith (now s₀) (now s₁)) (now s₂)) (l₀ l₁ l₂ l₃ l₄ l₅ l₆ l₇ l₈ l₉ l₁₀ l₁₁ l₁₂ l₁₃ : ℕ) where
+      (n-few : n ≤ length xs) (ready : 0 < n → WorkedOut (now s₀) (now s₁) (now s₂)) (l₀ l₁ l₂ l₃ l₄ l₅ l₆ l₇ l₈ l₉ l₁₀ l₁₁ l₁₂ l₁₃ : ℕ) where
     abbrev C : Calls 𝓤 H
     C = 𝓣 .C
 
@@ -307,7 +307,7 @@ module _ {M : Type 1} (𝓤 : URA M) (H : Heap 𝓤) (A : Atoms 𝓤) (W : Given
         before : Holds (ltb (i .0) n) → i .0 < length xs
         before less = lt-of-lt-of-le (ltb→lt (i .0) n less) n-few
 
-        ok : Holds (ltb (i .0) n) → Workable (now s₀) (now s₁) × Workings (basisWith (now s₀) (now s₁)) (now s₂)
+        ok : Holds (ltb (i .0) n) → WorkedOut (now s₀) (now s₁) (now s₂)
         ok less = ready (lt-of-le-of-lt zero-le (ltb→lt (i .0) n less))
 
         within : Holds (ltb (i .0) n) → i .0 < length (zs (i .0))
@@ -335,7 +335,7 @@ module _ {M : Type 1} (𝓤 : URA M) (H : Heap 𝓤) (A : Atoms 𝓤) (W : Given
   -- ---- the entry
   walk : (𝓣 : Tables 𝓤 H) → FmC 𝓤 H (W .laws) (𝓣 .C) → Triple 𝓤 (𝓣 .C #swept-points·points·answered) (Answered 𝓤 H A mem run)
       → Room u8 (length (s₀ .now)) → Room u8 (length (s₁ .now)) → Room u32 (length (s₂ .now)) → n < 2 ^ 64 → Room P.the-row (length xs)
-      → (n ≤ length xs) × (0 < n → Workable (now s₀) (now s₁) × Workings (basisWith (now s₀) (now s₁)) (now s₂))
+      → (n ≤ length xs) × (0 < n → WorkedOut (now s₀) (now s₁) (now s₂))
       → ent 𝓤 (onEntry 𝓤 H A fill.signature (κ₀, (κ₁, (κ₂, (κ₃, tt)))) (q₀, (q₁, (q₂, (q₃, tt)))) (s₀, (s₁, (s₂, (n, (x xs, tt)))))
       (v₀ ∷ [], (v₁ ∷ [], (v₂ ∷ [], (vint w64 n ∷ [], (u ∷ [], tt)))))) (WpFn 𝓤 H (𝓣 .C) (𝓣 .Λ) function (v₀ ∷ v₁ ∷ v₂ ∷ vint w64 n ∷ u ∷ []) Post)
   walk 𝓣 fm known room₀ room₁ room₂ n-fits room asked =

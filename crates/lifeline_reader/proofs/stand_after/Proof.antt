@@ -278,7 +278,8 @@ module _ {M : Type 1} (𝓤 : URA M) (H : Heap 𝓤) (A : Atoms 𝓤) (W : Given
         (and-then ! (load ! (from ! (stop !)) (look ! 27 refl)) (no-more !))) (λ u.
         use1 W (later (some (λ (r : Stepped). (Tok ⊛ ‵ (S.the-row α .own r (u ∷ []))) ⊛ raw (ensured 𝓤 H A step.ended (step.clauses 𝓤 H A mem run) (κ₀, (κ₁, tt)) (line (i .0), (h, tt)) tt r)))) (id⊢ 𝓤 _) $
         await ! tt $ pick ! (λ r.
-        split ! $ move ! (1 ∷ []) $ use1 W (raw (fact 𝓤 (Stepping (now h) (line (i .0)) r))) (step-said (line (i .0)) r) $ heard ! (Stepping (now h) (line (i .0)) r) (λ e. split ! $ move ! (1 ∷ []) $
+        split ! $ move ! (1 ∷ []) $ use1 W (raw (fact 𝓤 (Stepping (now h) (line (i .0)) r))) (step-said (line (i .0)) r) $
+        heard ! (Stepping (now h) (line (i .0)) r) (λ e. split ! $ move ! (1 ∷ []) $
         -- [what the result owns; the tokens; what the history owns; what the run owns; _14; …]
         peeks ! (S.the-row α) (Is (S.the-row α)) (shows 𝓤 H A (S.the-row α)) r (u ∷ []) (λ isu.
         let same = LL.tells (S.the-type α) (S′.the-laws α) r (u ∷ []) isu in

@@ -115,8 +115,10 @@ answer-input-requires c κs = let w = c .before .before .before .before .before 
     let t = w .before .before .before in
     let o = t .before .before .before .before .before .before in
     let r = o .before .before .before .before .before .before .before .before .before .before .before .before .before .before .before in
-    let e = found (o .open-files .ensures .0) (t .enum-told .given .1) in (
-      (rw (o .open-files .ensures .1 .0 ∙ opened-run _ _ (r .before .run-room .result) (sym (r .before .run-room .ensures)) _ (o .open-files .ensures .0) (ap finding (t .enum-told .given .1))) (opened-with _ _ e), sym (w .workings-room .ensures)),
+    let e = found (o .open-files .ensures .0) (t .enum-told .given .1) in
+    let room = sym (r .before .run-room .ensures) in
+    let run = o .open-files .ensures .1 .0 ∙ opened-run _ _ (r .before .run-room .result) room _ (o .open-files .ensures .0) (ap finding (t .enum-told .given .1)) in (
+      (rw run (opened-with _ _ e), sym (w .workings-room .ensures)),
       (omega (arith, w .before .block-room .ensures), omega (arith, o .open-files .ensures .1 .1 .0 .same, r .reply-room .ensures)),
     )
 

@@ -24,7 +24,9 @@ decides k = read-check _ (replicate 4554 0) (length-replicate {A = ℕ} 4554 0) 
 holds : (k : tie.After-read-file) → finding (k .read-file .result) ≡ passed → k .read-file .last .1 .0 ≡ runIn (k .before .before .before .before .before .args .file .now)
 holds k h = k .read-file .ensures .1 ∙ run-fills _ (decides k ∙ h) (replicate 4554 0) (length-replicate {A = ℕ} 4554 0) _ h
 
-judged : (h : tie.After-check-history) → finding (h .check-history .result) ≡ filesCheck (h .before .before .before .before .before .before .before .before .before .before .args .file .now) (h .before .before .before .before .before .before .before .before .before .before .args .history .now)
+judged : (h : tie.After-check-history) →
+    let a = h .before .before .before .before .before .before .before .before .before .before .args in
+    finding (h .check-history .result) ≡ filesCheck (a .file .now) (a .history .now)
 judged h =
     let k = h .before .before .before .before .before in
     let a = k .before .before .before .before .before .args in

@@ -20,13 +20,15 @@ use Rattle.enquiry_lines.proofs.whole.output.Statement.{statement}
 use Rattle.enquiry_lines.proofs.whole.output.Tie as tie
 
 -- the run of files that are accepted
-run-is : (o : tie.After-open-files) → finding (o .open-files .result .check) ≡ passed → o .open-files .last .1 .1 .0 ≡ runIn (o .before .before .before .before .before .before .before .before .args .file .now)
+run-is : (o : tie.After-open-files) → finding (o .open-files .result .check) ≡ passed
+    → o .open-files .last .1 .1 .0 ≡ runIn (o .before .before .before .before .before .before .before .before .args .file .now)
 run-is o h =
     let a = o .before .before .before .before .before .before .before .before .args in
     o .open-files .ensures .1 .0
     ∙ opened-run (a .file .now) (a .history .now) (replicate 4554 0) (length-replicate {A = ℕ} 4554 0) _ (o .open-files .ensures .0) h
 
-accepted : (o : tie.After-open-files) → finding (o .open-files .result .check) ≡ passed → Workable (o .open-files .last .1 .1 .0) (o .before .before .before .before .before .before .before .before .args .history .now)
+accepted : (o : tie.After-open-files) → finding (o .open-files .result .check) ≡ passed
+    → Workable (o .open-files .last .1 .1 .0) (o .before .before .before .before .before .before .before .before .args .history .now)
 accepted o h =
     let a = o .before .before .before .before .before .before .before .before .args in
     rw (run-is o h) (opened-with (a .file .now) (a .history .now) (sym (o .open-files .ensures .0) ∙ h))
@@ -74,7 +76,8 @@ feed-parts-requires c κs = let w = c .before .before .before .before in
     let t = w .before .before .before in
     let o = t .before .before .before .before .before in
     let s = o .before .before .before .before .before .before .before .before in
-    ((accepted o (ap finding (t .enum-told .given .1)), w .work-out .ensures), (omega (arith, o .open-files .ensures .1 .1 .0 .same, o .open-files .ensures .1 .1 .1, s .pre .0), s .pre .1))
+    let opened = o .open-files .ensures .1 .1 in
+    ((accepted o (ap finding (t .enum-told .given .1)), w .work-out .ensures), (omega (arith, opened .0 .same, opened .1, s .pre .0), s .pre .1))
 
 slice-aggregate-finish : tie.Need-slice-aggregate-finish
 slice-aggregate-finish c = search needs
@@ -89,7 +92,13 @@ finish-requires c κs = let f = c .before .before .before .before .before in
     let o = t .before .before .before .before .before in
     let s = o .before .before .before .before .before .before .before .before in
     let e = f .feed-parts .ensures in
-    ((accepted o (ap finding (t .enum-told .given .1)), w .work-out .ensures), (omega (arith, o .open-files .ensures .1 .1 .0 .same, o .open-files .ensures .1 .1 .1, e .1 .0 .same, e .1 .1, s .pre .0), (held-sound _ _ _ (e .0), omega (arith, held-complete _ _ _ (e .0), ended-few [] (s .args .text .now), s .pre .1 .0))))
+    let opened = o .open-files .ensures .1 .1 in (
+      (accepted o (ap finding (t .enum-told .given .1)), w .work-out .ensures),
+      (
+        omega (arith, opened .0 .same, opened .1, e .1 .0 .same, e .1 .1, s .pre .0),
+        (held-sound _ _ _ (e .0), omega (arith, held-complete _ _ _ (e .0), ended-few [] (s .args .text .now), s .pre .1 .0)),
+      ),
+    )
 
 same-length-2 : tie.Need-same-length-2
 same-length-2 c = search needs
@@ -106,7 +115,8 @@ returns-2 c = let g = c .before .before in
     let lines = being (last-reply b n (a .text .now) _ (held-kept _ _ _ d) (held-complete _ _ _ d)) refl (then (f .feed-parts .ensures .1 .0) (g .finish .ensures)) in
     let all = then (o .open-files .ensures .1 .1 .0) lines in
     let e = found (o .open-files .ensures .0) (t .enum-told .given .1) in
-    let same = ap (λ r. printed (filesCheck (a .file .now) (a .history .now)) [] ++ replies (basisWith r (a .history .now)) 1 (linesOf (a .text .now))) (run-is o (ap finding (t .enum-told .given .1))) in
+    let run = run-is o (ap finding (t .enum-told .given .1)) in
+    let same = ap (λ r. printed (filesCheck (a .file .now) (a .history .now)) [] ++ replies (basisWith r (a .history .now)) 1 (linesOf (a .text .now))) run in
     being (same ∙ accepted-output (a .file .now) (a .history .now) (a .text .now) e) refl all
 
 pub output-spec : {M : Type 1} → statement M
