@@ -249,7 +249,8 @@ module _ {M : Type 1} (𝓤 : URA M) (H : Heap 𝓤) (A : Atoms 𝓤) (W : Given
           use1 W (‵ (froom array-ty c 0)) (row-room 𝓤 H A W 18340 l c long) $ at-once ! $ move ! (1 ∷ 0 ∷ []) $ done !
 
   -- ---- the exit
-  exits : (r : Check) (w : Val) (zs : List Point) → Is F.the-row r (w ∷ []) → finding r ≡ gridCheck (now s₀) (now s₁) (length xs) → zs ≡ gridOf (now s₀) (now s₁) xs → length zs ≡ length xs
+  exits : (r : Check) (w : Val) (zs : List Point) → Is F.the-row r (w ∷ []) → finding r ≡ gridCheck (now s₀) (now s₁) (length xs)
+      → zs ≡ gridOf (now s₀) (now s₁) xs → length zs ≡ length xs
       → ent 𝓤 (⋆ 𝓤 H A (Tokens Last ∷ Owned ∷ ‵ (finally P.the-row γ zs) ∷ [])) (Post w)
   exits r w zs is e f same =
       qed W (Tokens Last ∷ Owned ∷ ‵ (finally P.the-row γ zs) ∷ []) ∵
@@ -290,7 +291,8 @@ module _ {M : Type 1} (𝓤 : URA M) (H : Heap 𝓤) (A : Atoms 𝓤) (W : Given
           by ! (exits (f .check) _ zs known (ap (λ (p : Finding × ℕ). p .0) f-is) e same)
 
       -- ---- `fill_records`, once `begin_grid` has left the row l
-      fills : Triple 𝓤 (C #grid·fill-records) (Records 𝓤 H A at-mem run) → Room P.the-row (length xs) → (l : List ℕ) → length l ≡ 18340 → (0 < f .records → WorkedOut (now s₀) (now s₁) l)
+      fills : Triple 𝓤 (C #grid·fill-records) (Records 𝓤 H A at-mem run) → Room P.the-row (length xs) → (l : List ℕ) → length l ≡ 18340
+          → (0 < f .records → WorkedOut (now s₀) (now s₁) l)
           → ent 𝓤 (⋆ 𝓤 H A (‵ (Row l l₄) ∷ Listed ∷ Two ∷ Owned ∷ Locals (fat fullShare G′.mir l₅ 0 (start-val f)))) (Wp 𝓤 H C Λ En parts.t-6 (atReturn 𝓤 H En Post))
       fills known room l long ready =
           let fits = LL.owed G.the-type G′.the-laws f _ is .1 .0 .1 in

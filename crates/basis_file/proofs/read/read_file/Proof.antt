@@ -81,7 +81,8 @@ returns-2 c =
     let s = k .before .before .before .before .before .args in
     let e = rw (k .before .before .check-room .ensures, k .before .check-outer .ensures) at (k .first-of .ensures) in (
       run .check-run .ensures ∙ ap runCheck (join .join-parts .ensures) ∙ outer-lets (s .file .now) (s .run .now) _ e (ap finding (outer .enum-told2 .given .1)) .2,
-      at .put .ensures ∙ ap (placed (s .run .now) 0) (join .join-parts .ensures) ∙ put-in-front (finding (run .check-run .result)) _ _ (ap finding (told .enum-told3 .given .1)),
+      at .put .ensures ∙ ap (placed (s .run .now) 0) (join .join-parts .ensures)
+          ∙ put-in-front (finding (run .check-run .result)) _ _ (ap finding (told .enum-told3 .given .1)),
     )
 
 returns-3 : tie.Need-returns-3

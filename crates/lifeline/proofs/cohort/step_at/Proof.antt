@@ -17,7 +17,8 @@ enum-told c = search needs
 year-later-requires : tie.Need-year-later-requires
 year-later-requires c κs =
     let a = c .before .before .before .before .before .before .args in
-    let p = step-passed (a .run .now) (a .history .now) (a .age) (a .year) (a .survivors) (found (c .before .before .before .check-step .ensures) (c .before .enum-told .given .1)) in
+    let passed = found (c .before .before .before .check-step .ensures) (c .before .enum-told .given .1) in
+    let p = step-passed (a .run .now) (a .history .now) (a .age) (a .year) (a .survivors) passed in
     (p .0, p .1, omega (arith, p .2), p .3, omega (arith, p .2, p .4), p .5)
 
 enum-known-x : tie.Need-enum-known-x
@@ -29,7 +30,8 @@ returns c = sym (step-ended _ _ _ _ _ (found (c .before .before .before .check-s
 returns-2 : tie.Need-returns-2
 returns-2 c =
     let else = c .before in
-    c .year-later .ensures ∙ sym (step-lived _ _ _ _ _ (found (else .before .before .before .check-step .ensures) (else .before .enum-told .given .1)) (ne-eqb _ _ (else .if1 .left)))
+    let passed = found (else .before .before .before .check-step .ensures) (else .before .enum-told .given .1) in
+    c .year-later .ensures ∙ sym (step-lived _ _ _ _ _ passed (ne-eqb _ _ (else .if1 .left)))
 
 returns-3 : tie.Need-returns-3
 returns-3 c = sym (step-refused _ _ _ _ _ _ (found (c .before .before .before .check-step .ensures) (c .before .x .given .1)))
