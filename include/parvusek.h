@@ -11,7 +11,7 @@
    actual improvements of each year from B + 1 to F. It has 1,024 bytes for each of these years, two blocks of the basis
    file's kind, numbered from 0: ages 20 to 85, then 86 to 150, signed 4 bytes each, -500,000,000 to 500,000,000 units,
    the remaining data bytes zero. With B at F or later none is needed: its length is then 0, with any pointer.
-   Every call but parvusek_version and the four that follow it is lent the history directly after its data run, and
+   Every call that is lent a data run, but the four directly after parvusek_version, is lent the history after it, and
    checks it afresh after the run's own 1, 4, 5: 13 (any other length: the length needed), blocks ascending 2 (check)
    before 3 (number), then 4 (a byte that must be zero), then 5 (an improvement beyond its limits). Offsets are counted
    in its joined data, of which block i has the 506 bytes from 506 x i on. A refused history counts as a refused basis:
@@ -30,13 +30,15 @@
 extern "C" {
 #endif
 
-#define PARVUSEK_VERSION 400u        /* of this header, 0.4.0: 10,000 x major + 100 x minor + patch */
+#define PARVUSEK_VERSION 500u        /* of this header, 0.5.0: 10,000 x major + 100 x minor + patch */
 #define PARVUSEK_UNIT 1000000000u    /* U, units to one */
 #define PARVUSEK_FILE_LENGTH 4608u   /* bytes of a basis file */
 #define PARVUSEK_RUN_LENGTH 4554u    /* bytes of a data run */
 #define PARVUSEK_HISTORY_YEAR 1024u  /* bytes of a history file for each year from B + 1 to F */
 #define PARVUSEK_SMALL_SET 6u        /* points of the small set */
 #define PARVUSEK_GRID 119u           /* records of the grid */
+#define PARVUSEK_ROLL_MEMBERS 500u   /* members that a roll holds */
+#define PARVUSEK_ROLL_LENGTH 2002u   /* 8-byte numbers of a roll */
 
 typedef struct { uint32_t number; uint64_t first, second; } parvusek_refusal_t;      /* number 0: none, places 0 */
 typedef struct { parvusek_refusal_t refusal; uint64_t value; } parvusek_answer_t;    /* refused: value 0 */
@@ -134,6 +136,29 @@ parvusek_lifeline_t parvusek_lifeline_start(const uint8_t *run, size_t run_len, 
    hands back the age, year and survivors that it was given. */
 parvusek_lifeline_t parvusek_lifeline_step(const uint8_t *run, size_t run_len, const uint8_t *history,
                                            size_t history_len, uint32_t age, uint32_t year, uint64_t survivors);
+
+/* ---- a roll of pensions in payment: up to 500 members for one valuation year, and what their pensions come to. The
+   host keeps its numbers and hands them on unchanged from call to call: roll[0] is the valuation year, roll[1] how many
+   are on it; then in the order of joining, from place 2 on their member numbers, from 502 on their ages, from 1,002 on
+   their yearly pensions and from 1,502 on their liabilities, both in pence. Further numbers are kept.
+   A member's liability is pension x cohort annuity (deferment 0) / U, rounded to whole pence, ties up. It is set at the
+   join from the basis and the history lent there, and not worked out again.
+   Any numbers of this length are a roll, so that every call ends: of roll[0] the last 32 bits count, of roll[1] at most
+   500, and a sum is taken modulo 2^64. What the total is in pence is promised of a roll that was opened here and changed
+   by these calls alone: the sum for those who joined and have not left, at most 2,620,000,000,000. */
+
+/* Empty, for one valuation year, which is not checked here. Refused: 11 (roll too short: 16,016 bytes). */
+parvusek_refusal_t parvusek_roll_open(uint32_t year, uint64_t *roll, size_t roll_len);
+/* A member joins, with a yearly pension of 0 to 10,000,000 pence. The value is the total after the call.
+   Refused: 11; 16 (the number is on the roll), 14 (the roll is full), 5 (a pension above its limit), these three with the
+   member number and 0; then as a cohort annuity with deferment 0 in the roll's year, also for a pension of 0. */
+parvusek_answer_t parvusek_roll_join(const uint8_t *run, size_t run_len, const uint8_t *history, size_t history_len,
+                                     uint64_t *roll, size_t roll_len, uint32_t number, uint32_t age, uint32_t pension);
+/* A member leaves, and those who joined later move up a place. The value is the total after the call.
+   Refused: 11, 15 (the number is not on the roll: member number and 0). */
+parvusek_answer_t parvusek_roll_leave(uint64_t *roll, size_t roll_len, uint32_t number);
+/* The total, in pence. Refused: 11. */
+parvusek_answer_t parvusek_roll_total(const uint64_t *roll, size_t roll_len);
 
 #ifdef __cplusplus
 }

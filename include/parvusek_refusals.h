@@ -8,7 +8,7 @@
 
 #include "parvusek.h"
 
-/* What a refusal says. A number that no refusal has (0, or above 13) gives "not refused" or "no such refusal". */
+/* What a refusal says. A number that no refusal has (0, or above 16) gives "not refused" or "no such refusal". */
 static inline const char *parvusek_refusal_sentence(uint32_t number) {
     switch (number) {
     case 0: return "not refused";
@@ -25,6 +25,9 @@ static inline const char *parvusek_refusal_sentence(uint32_t number) {
     case 11: return "lent output too short";
     case 12: return "a line is not of the form asked";
     case 13: return "history not 1,024 bytes for each year from B + 1 to F";
+    case 14: return "the roll is full";
+    case 15: return "the member number is not on the roll";
+    case 16: return "the member number is on the roll already";
     default: return "no such refusal";
     }
 }
@@ -38,6 +41,7 @@ static inline const char *parvusek_refusal_first(uint32_t number) {
     case 7: return "year";
     case 11: case 13: return "needed";
     case 12: return "line";
+    case 14: case 15: case 16: return "member";
     default: return NULL;
     }
 }

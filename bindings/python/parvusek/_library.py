@@ -136,7 +136,7 @@ def version_text(number: int) -> str:
     """The version that parvusek_version tells as one number.
 
     >>> version_text(400), version_text(1_02_03)
-    ('0.4.0', '1.2.3')
+    ('0.5.0', '1.2.3')
     """
     return f"{number // 10_000}.{number // 100 % 100}.{number % 100}"
 
