@@ -1,0 +1,3 @@
+pub mod Roll
+pub mod Kept
+pub mod Totals
