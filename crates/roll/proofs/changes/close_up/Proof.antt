@@ -1,0 +1,62 @@
+-- Closing what is left of the gap gives the same.
+use Prim.Native.Nat.{_<_, _-_}
+use mathlib.Core.Path.{_≡_, _∙_, sym, refl}
+use native.Mathlib.Numerals.{add-one}
+use native.Mathlib.Omega.{arith}
+use lib.ListN.{length, length-set}
+use borrow.Author.Needs.{needs}
+use Rattle.roll.specs.Kept.{closedUp}
+use Rattle.roll.proofs.Places.{closed-moved, closed-last}
+use Rattle.roll.proofs.changes.close_up.Statement.{statement}
+use Rattle.roll.proofs.changes.close_up.Tie as tie
+
+abbrev Inv-loop : tie.InvT-loop
+Inv-loop list₀ i n at₀ list at = (at < n) × (length list ≡ length list₀) × (closedUp at n list ≡ closedUp i n list₀)
+
+abbrev μ-loop : tie.MeasureT-loop
+μ-loop list₀ i n at₀ list at = n - at
+
+loop-holds : tie.Need-loop-holds Inv-loop μ-loop
+loop-holds c = (search needs, refl, refl)
+
+add-loop : tie.Need-add-loop Inv-loop μ-loop
+add-loop c = search needs
+
+add-list : tie.Need-add-list Inv-loop μ-loop
+add-list c = search needs
+
+mul-list : tie.Need-mul-list Inv-loop μ-loop
+mul-list c = search needs
+
+slice-read-list : tie.Need-slice-read-list Inv-loop μ-loop
+slice-read-list c = search needs
+
+mul-list-2 : tie.Need-mul-list-2 Inv-loop μ-loop
+mul-list-2 c = search needs
+
+slice-write-list : tie.Need-slice-write-list Inv-loop μ-loop
+slice-write-list c = search needs
+
+add-at : tie.Need-add-at Inv-loop μ-loop
+add-at c = search needs
+
+loop-less : tie.Need-loop-less Inv-loop μ-loop
+loop-less c = search needs
+
+loop-again : tie.Need-loop-again Inv-loop μ-loop
+loop-again c =
+    let l = c .before .before in
+    let s = l .before .args in
+    let e = l .loop .inv .1 in
+    (omega arith, rw length-set e, rw add-one (closed-moved (l .loop .at) (s .n) (l .loop .list) (omega arith) (omega arith) ∙ l .loop .inv .2))
+
+same-length : tie.Need-same-length Inv-loop μ-loop
+same-length c = search needs
+
+returns : tie.Need-returns Inv-loop μ-loop
+returns c =
+    let l = c .before in
+    sym (closed-last (l .loop .at) (l .before .args .n) (l .loop .list) (omega arith)) ∙ l .loop .inv .2
+
+pub close-up-spec : {M : Type 1} → statement M
+close-up-spec = tie.close (tie.spec Inv-loop μ-loop loop-holds add-loop add-list mul-list slice-read-list mul-list-2 slice-write-list add-at loop-less loop-again same-length returns)

@@ -1,0 +1,47 @@
+-- The roll's own checks first, then the liability.
+use mathlib.Core.Path.{_∙_, sym, ap}
+use Rattle.basis.proofs.Outcome.{found, checked-passed, checked-refused}
+use Rattle.roll.specs.Roll.{liabilityOn, liabilityJoining}
+use Rattle.roll.proofs.Cases.{join-passed}
+use borrow.Author.Needs.{needs}
+use Rattle.roll.proofs.joins.liability_joining.Statement.{statement}
+use Rattle.roll.proofs.joins.liability_joining.Tie as tie
+
+check-join-requires : tie.Need-check-join-requires
+check-join-requires c κs = search needs
+
+enum-told : tie.Need-enum-told
+enum-told c = search needs
+
+year-in-requires : tie.Need-year-in-requires
+year-in-requires c κs = search needs
+
+liability-on-requires : tie.Need-liability-on-requires
+liability-on-requires c κs =
+    let t = c .before in
+    join-passed _ _ _ (found (t .before .before .check-join .ensures) (t .enum-told .given .1)) .1
+
+enum-known-r : tie.Need-enum-known-r
+enum-known-r c = search needs
+
+returns : tie.Need-returns
+unfolding liabilityJoining
+returns c =
+    let t = c .before .before in
+    rw (c .before .year-in .ensures) at (c .liability-on .ensures) ∙ sym (checked-passed _ _ (found (t .before .before .check-join .ensures) (t .enum-told .given .1)))
+
+returns-2 : tie.Need-returns-2
+unfolding liabilityJoining
+returns-2 c = sym (checked-refused _ _ _ (found (c .before .before .before .check-join .ensures) (c .before .r .given .1)))
+
+pub liability-joining-spec : {M : Type 1} → statement M
+liability-joining-spec =
+    tie.close
+    (tie.spec
+    check-join-requires
+    enum-told
+    year-in-requires
+    liability-on-requires
+    enum-known-r
+    returns
+    returns-2)
