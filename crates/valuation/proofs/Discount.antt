@@ -38,8 +38,11 @@ module _ (b : Basis) (limits : Limited b) where
             (omega (arith, grown-share j (p .0) 1 d low (omega (arith, p .2)))),
       )
 
+  pub discount-natural : (j : ℕ) → j ≤ 130 → (v : ℕ) × (discountAfter b j ≡ pos v) × (v < 4 * U)
+  discount-natural j l = let p = natural j in (p .0, p .1, omega (arith, p .2, grown-small j l))
+
   pub discount-small : (j v : ℕ) → j ≤ 130 → discountAfter b j ≡ pos v → v < 4 * U
-  discount-small j v l h = let p = natural j in let e : v ≡ p .0 = cc in omega (arith, p .2, grown-small j l)
+  discount-small j v l h = let p = discount-natural j l in let e : v ≡ p .0 = cc in omega (arith, p .2)
 
   -- what the work of one year more asks for
   pub discount-ranges : (j v : ℕ) {accumulation : ℕ} → j ≤ 130 → discountAfter b j ≡ pos v → accumulation ≡ accumulationOf b →
