@@ -1,5 +1,5 @@
 -- The definitions of the calls case by case. Assumes nothing.
-use mathlib.Core.Path.{_≡_, refl, ap, sym}
+use mathlib.Core.Path.{_≡_, _∙_, refl, sym}
 use mathlib.Core.Bool.{Bool, true, false, not, cond, _||_}
 use mathlib.Core.List.{List, [], _∷_}
 use Prim.Native.Nat.{ℕ, zero, suc, _+_, _-_, _≤_, _<_, compare·suc-suc}
@@ -45,7 +45,7 @@ place-listed x (y ∷ l) = by (eqb y x) refl (place-listed x l)
   where
     by : (t : Bool) → eqb y x ≡ t → isListed l x ≡ ltb (placeOf x l) (length l) →
         (eqb x y || isListed l x) ≡ ltb (cond t zero (suc (placeOf x l))) (suc (length l))
-    by true e h = rw (eq-eqb x y (sym (eqb-true y x e))) refl
+    by true e h = rw (eq-eqb x y (sym (eqb-true y x e))) (sym (lt-ltb 0 (suc (length l)) (omega arith)))
     by false e h = rw (ne-eqb x y (λ k. eqb-false y x e (sym k)), compare·suc-suc (suc (placeOf x l)) (length l)) h
 
 -- ---- 16, 14, 5 and 15
@@ -93,7 +93,9 @@ module _ (numbers : List ℕ) (number : ℕ) where
 
   pub leave-passed : leaveCheck numbers number ≡ passed → placeOf number numbers < length numbers
   unfolding leaveCheck
-  leave-passed h = ltb-true _ _ (rw (place-listed number numbers) at (unless-passed _ (refusal 15 number 0) h))
+  leave-passed h =
+      let on : isListed numbers number ≡ true = unless-passed (isListed numbers number) (refusal 15 number 0) h in
+      ltb-true _ _ (sym (place-listed number numbers) ∙ on)
 
 -- ---- what an answered call says of the list: it has room, and a place more or the place that is named
 pub joining-value : (roll run history : List ℕ) (number age pension : ℕ) (l : ℤ) → joining roll run history number age pension ≡ value l

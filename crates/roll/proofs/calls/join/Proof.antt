@@ -1,47 +1,49 @@
+-- What is decided says whether a member is added; the total is read afterwards.
+use mathlib.Core.Path.{_≡_, _∙_, sym, ap, refl}
+use lib.IntN.{pos}
+use Rattle.basis.specs.Outcome.{value, meaning}
+use Rattle.roll.specs.Kept.{totalIn}
+use Rattle.roll.proofs.Cases.{joining-value}
 use borrow.Author.Needs.{needs}
 use Rattle.roll.proofs.calls.join.Statement.{statement}
 use Rattle.roll.proofs.calls.join.Tie as tie
-use Rattle.roll.proofs.calls.join.Reads as reads
-use Rattle.roll.proofs.calls.join.Lts as lts
-use Rattle.roll.proofs.calls.joining.Reads as joining-reads
-use Rattle.roll.proofs.changes.with_member.Reads as with-member-reads
-use Rattle.roll.proofs.kept.total_in.Reads as total-in-reads
 
--- src/calls.rt:50:11
 joining-requires : tie.Need-joining-requires
 joining-requires c κs = search needs
 
--- src/calls.rt:51:23
 enum-known-liability : tie.Need-enum-known-liability
 enum-known-liability c = search needs
 
--- src/calls.rt:52:13
 with-member-requires : tie.Need-with-member-requires
-with-member-requires c κs = ?
+with-member-requires c κs =
+    let l = c .before .before in
+    joining-value _ _ _ _ _ _ _ (sym (l .before .before .joining .ensures) ∙ ap meaning (l .liability .given .1))
 
--- src/calls.rt:53:27
 total-in-requires : tie.Need-total-in-requires
-total-in-requires c κs = ?
+total-in-requires c κs =
+    let w = c .before .before .before in
+    let l = w .before .before .before in
+    let v = joining-value _ _ _ _ _ _ _ (sym (l .before .before .joining .ensures) ∙ ap meaning (l .liability .given .1)) in
+    rw (w .with-member .kept .0) (v .0)
 
--- src/calls.rt:55:25
 enum-known-r : tie.Need-enum-known-r
 enum-known-r c = search needs
 
--- src/calls.rt:38:1
 same-length : tie.Need-same-length
 same-length c = search needs
 
--- src/calls.rt:38:1
 returns : tie.Need-returns
-returns c = ?
+returns c =
+    let w = c .before .before .before .before in
+    let l = w .before .before .before in
+    let e = sym (l .before .before .joining .ensures) ∙ ap meaning (l .liability .given .1) in
+    (rw e (ap (λ n. value (pos n)) (c .total-in .ensures ∙ ap totalIn (w .with-member .ensures))), rw e (w .with-member .ensures))
 
--- src/calls.rt:38:1
 same-length-2 : tie.Need-same-length-2
 same-length-2 c = search needs
 
--- src/calls.rt:38:1
 returns-2 : tie.Need-returns-2
-returns-2 c = ?
+returns-2 c = let e = sym (c .before .before .before .joining .ensures) ∙ ap meaning (c .before .r .given .1) in (rw e refl, rw e refl)
 
 pub join-spec : {M : Type 1} → statement M
 join-spec =

@@ -1,52 +1,58 @@
+-- What is decided says whether a member is taken out; the total is read afterwards.
+use mathlib.Core.Path.{_≡_, _∙_, sym, ap, refl}
+use lib.IntN.{pos}
+use Rattle.basis.specs.Outcome.{value}
+use Rattle.basis.proofs.Outcome.{found}
+use Rattle.roll.specs.Kept.{totalIn, withoutMember}
+use Rattle.roll.proofs.Cases.{leaving-passed}
 use borrow.Author.Needs.{needs}
 use Rattle.roll.proofs.calls.leave.Statement.{statement}
 use Rattle.roll.proofs.calls.leave.Tie as tie
-use Rattle.roll.proofs.calls.leave.Reads as reads
-use Rattle.roll.proofs.calls.leave.Lts as lts
-use Rattle.roll.proofs.calls.leaving.Reads as leaving-reads
-use Rattle.roll.proofs.changes.without_member.Reads as without-member-reads
-use Rattle.roll.proofs.kept.place_in.Reads as place-in-reads
-use Rattle.roll.proofs.kept.total_in.Reads as total-in-reads
 
--- src/calls.rt:74:11
 leaving-requires : tie.Need-leaving-requires
 leaving-requires c κs = search needs
 
--- src/calls.rt:76:36
 enum-told : tie.Need-enum-told
 enum-told c = search needs
 
--- src/calls.rt:76:17
 place-in-requires : tie.Need-place-in-requires
-place-in-requires c κs = ?
+place-in-requires c κs =
+    let t = c .before in
+    leaving-passed _ _ (found (t .before .before .leaving .ensures) (t .enum-told .given .1)) .0
 
--- src/calls.rt:77:13
 without-member-requires : tie.Need-without-member-requires
-without-member-requires c κs = ?
+without-member-requires c κs =
+    let t = c .before .before .before in
+    let v = leaving-passed _ _ (found (t .before .before .leaving .ensures) (t .enum-told .given .1)) in
+    (v .0, rw (c .before .place-in .ensures) (v .1))
 
--- src/calls.rt:78:27
 total-in-requires : tie.Need-total-in-requires
-total-in-requires c κs = ?
+total-in-requires c κs =
+    let w = c .before .before .before in
+    let t = w .before .before .before .before in
+    let v = leaving-passed _ _ (found (t .before .before .leaving .ensures) (t .enum-told .given .1)) in
+    rw (w .without-member .kept .0) (v .0)
 
--- src/calls.rt:80:24
 enum-known-r : tie.Need-enum-known-r
 enum-known-r c = search needs
 
--- src/calls.rt:70:1
 same-length : tie.Need-same-length
 same-length c = search needs
 
--- src/calls.rt:70:1
 returns : tie.Need-returns
-returns c = ?
+returns c =
+    let w = c .before .before .before .before in
+    let t = w .before .before .before .before in
+    let e = found (t .before .before .leaving .ensures) (t .enum-told .given .1) in
+    let roll = t .before .before .before .before .before .args .roll .now in
+    let after = w .without-member .ensures ∙ ap (λ i. withoutMember i roll) (w .before .before .place-in .ensures) in
+    (rw e (ap (λ n. value (pos n)) (c .total-in .ensures ∙ ap totalIn after)), rw e after)
 
--- src/calls.rt:70:1
 same-length-2 : tie.Need-same-length-2
 same-length-2 c = search needs
 
--- src/calls.rt:70:1
 returns-2 : tie.Need-returns-2
-returns-2 c = ?
+returns-2 c = let e = found (c .before .before .before .leaving .ensures) (c .before .r .given .1) in (rw e refl, rw e refl)
 
 pub leave-spec : {M : Type 1} → statement M
 leave-spec =
