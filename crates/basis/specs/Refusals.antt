@@ -8,9 +8,9 @@ use Rattle.basis.specs.declared.Refusal.{Refusal}
 use Rattle.basis.specs.Outcome.{Finding, refusedBy, Outcome, refused}
 
 -- ---- the numbers
--- 1 to 12 are 01's, 13 is that of 02, change 2; a later change adds its number here and nowhere else
+-- 1 to 12 are 01's, 13 is that of 02, change 2, and 14 to 16 are those of its change 6; a later change adds its number here and nowhere else
 unfoldable pub numbers : List ℕ
-numbers = 1 ∷ 2 ∷ 3 ∷ 4 ∷ 5 ∷ 6 ∷ 7 ∷ 8 ∷ 9 ∷ 10 ∷ 11 ∷ 12 ∷ 13 ∷ []
+numbers = 1 ∷ 2 ∷ 3 ∷ 4 ∷ 5 ∷ 6 ∷ 7 ∷ 8 ∷ 9 ∷ 10 ∷ 11 ∷ 12 ∷ 13 ∷ 14 ∷ 15 ∷ 16 ∷ []
 
 -- those that a question can be answered on an accepted basis, and so those of a record of the grid and of a point of the small set
 unfoldable pub recordNumbers : List ℕ

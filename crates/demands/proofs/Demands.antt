@@ -10,8 +10,8 @@ use lib.ListN.{length}
 use borrow.Author.Tests.{le-leb}
 use Rattle.lent.specs.Lent.{countCheck, written}
 use Rattle.basis.specs.declared.Refusal.{Refusal}
-use Rattle.basis.specs.Outcome.{Finding, passed, refusedBy, Outcome, value, refused, firstOf}
-use Rattle.basis.proofs.Outcome.{checked-passed, first-refused}
+use Rattle.basis.specs.Outcome.{Finding, passed, refusedBy, Outcome, value, refused, firstOf, andThen}
+use Rattle.basis.proofs.Outcome.{both-passed, checked-passed, first-refused}
 use Rattle.run_check.proofs.Acceptance.{accepted, passes}
 use Rattle.basis_file.specs.File.{runIn, fileOf}
 use Rattle.arithmetic.proofs.Rounding.{ties-go-up}
@@ -39,6 +39,9 @@ use Rattle.grid.proofs.Filled.{answers-none}
 use Rattle.lifeline.specs.Lifeline.{stepCheck, moved, yearLater, lived, unlessRefused, stepAt, standAt, standMoved}
 use Rattle.lifeline.proofs.Standing.{start-refused, step-refused}
 use Rattle.lifeline.specs.Said.{Start, ended, Step}
+use Rattle.roll.specs.Roll.{joinCheck, liabilityOf, liabilityOn, liabilityJoining, afterCall}
+use Rattle.roll.specs.Kept.{rollCheck, numbersIn, openedRoll, joining, joinedRoll, leftRoll}
+use Rattle.roll.proofs.RunningTotal.{running-total}
 use Rattle.engine.specs.Enquiry.{refusalOf, readCheck, writeCheck, shortCheck}
 use Rattle.refusals.proofs.Calls.{numbered-refusals, zero-is-none}
 use Rattle.exact.proofs.Demands.{demand-3}
@@ -49,10 +52,20 @@ use Rattle.demands.specs.Demands.{RefusedThroughout, Demand1, Demand2, D
 unchanged : (check : Finding) (new out : List ℕ) (r : Refusal) → check ≡ refusedBy r → written check new out ≡ out
 unchanged check new out r h = rw h refl
 
+-- and so is a roll
+left-alone : (roll : List ℕ) (call : Outcome (List ℕ)) (r : Refusal) → call ≡ refused r → afterCall roll call ≡ roll
+left-alone roll call r h = rw h refl
+
 module _ (run history : List ℕ) where
   grid-refused : (r : Refusal) → basisCheck run history ≡ refusedBy r → (count : ℕ) → 119 ≤ count → gridCheck run history count ≡ refusedBy r
   unfolding gridCheck countCheck
   grid-refused r h count l = rw (le-leb 119 count l, h) refl
+
+  join-refused : (r : Refusal) → basisCheck run history ≡ refusedBy r → (roll : List ℕ) (number age pension : ℕ)
+      → firstOf (rollCheck roll) (joinCheck (numbersIn roll) number pension) ≡ passed → joinedRoll roll run history number age pension ≡ refused r
+  unfolding joining liabilityJoining liabilityOn annuityEnquiry
+  join-refused r h roll number age pension k =
+      let own = both-passed (rollCheck roll) (joinCheck (numbersIn roll) number pension) k in rw (own .0, own .1, h) refl
 
   refused-by : (r : Refusal) → basisCheck run history ≡ refusedBy r → RefusedThroughout run history r
   unfolding improvementEnquiry factorEnquiry rateEnquiry survivorshipEnquiry expectationEnquiry annuityEnquiry
@@ -69,6 +82,7 @@ module _ (run history : List ℕ) where
         grid = grid-refused r h;
         start = λ age year. ap (λ (b : Start). b .check) (start-refused run history age year r (first _));
         step = λ age year survivors. ap (λ (s : Step). s .says) (step-refused run history age year survivors r (first _));
+        join = join-refused r h;
       }
 
   grid-unchanged : (points : List Point) (r : Refusal) → gridCheck run history (length points) ≡ refusedBy r → gridOf run history points ≡ points
@@ -102,11 +116,14 @@ module _ (run history : List ℕ) where
         shortFormUnchanged = λ rate out r h. unchanged (shortCheck run rate out) (shortFormOf run rate) out r h;
         gridUnchanged = grid-unchanged;
         lifelineUnchanged = line-unchanged;
+        openUnchanged = λ year roll r h. left-alone roll (openedRoll year roll) r h;
+        joinUnchanged = λ roll number age pension r h. left-alone roll (joinedRoll roll run history number age pension) r h;
+        leaveUnchanged = λ roll number r h. left-alone roll (leftRoll roll number) r h;
         ownRefusal = λ p r h. ap (λ (o : Outcome (List ℕ)). recordOf p (pointAnswerOf o)) h;
       }
 
   demand-2 : Demand2 run history
-  unfolding improvementEnquiry factorEnquiry rateEnquiry survivorshipEnquiry expectationEnquiry annuityEnquiry pointOf
+  unfolding improvementEnquiry factorEnquiry rateEnquiry survivorshipEnquiry expectationEnquiry annuityEnquiry liabilityOn pointOf
   demand-2 =
       record {
         runAccepted = accepted run;
@@ -118,6 +135,8 @@ module _ (run history : List ℕ) where
         expectation = λ kind age deferment year h. checked-passed _ _ h;
         annuity = λ kind age deferment year h. checked-passed _ _ h;
         point = λ q h. ap pointAnswerOf (checked-passed _ _ h);
+        liability = λ year age pension h. ap (λ (o : Outcome ℤ). andThen o (λ a. value (liabilityOf pension a))) (checked-passed _ _ h);
+        runningTotal = running-total;
         sweep = each-step run history;
         heldIsFixed = held-is-fixed;
         workingsAreFixed = workings-are-fixed;

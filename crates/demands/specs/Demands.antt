@@ -10,7 +10,7 @@ use Rattle.arithmetic.specs.Rounding.{TiesGoUp}
 use Rattle.lent.specs.Lent.{written}
 use Rattle.basis.specs.declared.Refusal.{Refusal}
 use Rattle.basis.specs.Basis.{Accepted}
-use Rattle.basis.specs.Outcome.{passed, refusedBy, refused, firstOf}
+use Rattle.basis.specs.Outcome.{passed, refusedBy, value, refused, firstOf, andThen}
 use Rattle.run_check.specs.Run.{runCheck}
 use Rattle.basis_file.specs.File.{runIn, fileOf}
 use Rattle.basis_file.specs.RoundTrips.{RoundTrips}
@@ -24,6 +24,7 @@ use Rattle.projection.specs.Projection.{factorOf, rateOf}
 use Rattle.sweep.specs.EachStep.{EachStep}
 use Rattle.sweep.specs.Fixed.{HeldIsFixed}
 use Rattle.survivorship.specs.declared.Kind.{Kind}
+use Rattle.survivorship.specs.declared.Kind.the-variants.{Cohort}
 use Rattle.survivorship.specs.Survivorship.{survivorsOf}
 use Rattle.valuation.specs.Valuation.{expectationOf, annuityOf}
 use Rattle.workings.specs.Fixed.{WorkingsAreFixed}
@@ -38,6 +39,9 @@ use Rattle.grid_record.specs.Record.{questionOf, recordOf, answeredOf}
 use Rattle.grid.specs.Grid.{gridCheck, gridOf}
 use Rattle.lifeline.specs.Lifeline.{startAt, stepAt, standAt, standMoved}
 use Rattle.lifeline.specs.Survivorship.{IsCohortSurvivorship}
+use Rattle.roll.specs.Roll.{joinCheck, liabilityOf, liabilityOn, afterCall}
+use Rattle.roll.specs.Kept.{rollCheck, numbersIn, openedRoll, joinedRoll, leftRoll}
+use Rattle.roll.specs.Totals.{RunningTotal}
 use Rattle.enquiry_text.specs.Said.{LineSays}
 use Rattle.figures.specs.Figures.{FiguresHold}
 use Rattle.engine.specs.Enquiry.{readCheck, writeCheck, shortCheck}
@@ -58,6 +62,9 @@ pub record RefusedThroughout (run history : List ℕ) (r : Refusal) : Type 0 whe
   pub grid : (count : ℕ) → 119 ≤ count → gridCheck run history count ≡ refusedBy r
   pub start : (age year : ℕ) → startAt run history age year .check ≡ refusedBy r
   pub step : (age year survivors : ℕ) → stepAt run history age year survivors .says ≡ refused r
+  -- a join comes to its basis once the list's room and the roll's own refusals are passed (02, change 6)
+  pub join : (roll : List ℕ) (number age pension : ℕ) → firstOf (rollCheck roll) (joinCheck (numbersIn roll) number pension) ≡ passed →
+      joinedRoll roll run history number age pension ≡ refused r
 
 pub record Demand1 (run history : List ℕ) : Type 0 where
   -- "Every call ends with a value or a numbered refusal"
@@ -73,6 +80,11 @@ pub record Demand1 (run history : List ℕ) : Type 0 where
   pub gridUnchanged : (points : List Point) (r : Refusal) → gridCheck run history (length points) ≡ refusedBy r → gridOf run history points ≡ points
   pub lifelineUnchanged : (age year survivors : ℕ) (r : Refusal) → stepAt run history age year survivors .says ≡ refused r →
       standMoved (stepAt run history age year survivors) ≡ standAt age year survivors
+  -- "A refused call leaves the roll unchanged" (02, change 6), whatever stands in the list
+  pub openUnchanged : (year : ℕ) (roll : List ℕ) (r : Refusal) → openedRoll year roll ≡ refused r → afterCall roll (openedRoll year roll) ≡ roll
+  pub joinUnchanged : (roll : List ℕ) (number age pension : ℕ) (r : Refusal) → joinedRoll roll run history number age pension ≡ refused r →
+      afterCall roll (joinedRoll roll run history number age pension) ≡ roll
+  pub leaveUnchanged : (roll : List ℕ) (number : ℕ) (r : Refusal) → leftRoll roll number ≡ refused r → afterCall roll (leftRoll roll number) ≡ roll
   -- "A grid point that cannot be worked out carries its own refusal": with all four results 0, and its question unchanged
   pub ownRefusal : (p : Point) (r : Refusal) → workOn (basisWith run history) (questionOf p) ≡ refused r →
       answeredOf (basisWith run history) p ≡ recordOf p (record { results = noResults; refusal = r })
@@ -105,6 +117,10 @@ pub record Demand2 (run history : List ℕ) : Type 0 where
       annuityEnquiry run history kind age deferment year ≡ annuityOf (basisWith run history) kind age year deferment
   pub point : (q : Question) → questionCheck (basisWith run history .base) (q .age) (q .deferment) (q .year) ≡ passed →
       pointOf (basisWith run history) q ≡ pointAnswerOf (resultsOf (basisWith run history) (q .age) (q .deferment) (q .year))
+  -- a liability is worked out from the model's annuity, and the running total is the sum for those who joined and have not left (02, change 6)
+  pub liability : (year age pension : ℕ) → valuationCheck run history age 0 year ≡ passed →
+      liabilityOn run history year age pension ≡ andThen (annuityOf (basisWith run history) Cohort age year 0) (λ a. value (liabilityOf pension a))
+  pub runningTotal : RunningTotal
   -- ties go up, and the two components are rounded once (02, change 3)
   pub ties : TiesGoUp
   pub oneRounding : OneRounding

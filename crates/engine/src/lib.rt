@@ -5,6 +5,7 @@ pub mod cells;
 pub mod files;
 pub mod lifelines;
 pub mod points;
+pub mod rolls;
 pub mod values;
 pub mod version;
 

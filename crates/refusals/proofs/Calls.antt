@@ -5,13 +5,13 @@ use mathlib.Core.List.{List}
 use Prim.Native.Nat.{ℕ}
 use native.Mathlib.Omega.{arith}
 use lib.Dec.{eqb}
-use lib.IntN.{ℤ, pos}
+use lib.IntN.{ℤ, pos, natAbs}
 use borrow.Author.Tests.{ne-eqb}
 use Rattle.basis.specs.declared.Refusal.{Refusal}
 use Rattle.basis.specs.Basis.{basisOf}
 use Rattle.basis.specs.Outcome.{Finding, passed, refusedBy, Outcome, value, refused, firstOf}
 use Rattle.basis.specs.Refusals.{numbers, recordNumbers, isListed, Listed, RefusesBy, RefusedBy}
-use Rattle.basis.proofs.Refusals.{first-by, checked-by, check-among, work-among, record-numbers, never-zero}
+use Rattle.basis.proofs.Refusals.{first-by, value-by, checked-by, then-by, check-among, work-among, record-numbers, never-zero}
 use Rattle.lent.proofs.Numbered.{count-numbered}
 use Rattle.run_check.proofs.Numbered.{run-numbered}
 use Rattle.basis_file.specs.File.{runIn}
@@ -22,6 +22,7 @@ use Rattle.short_form.proofs.Numbered.{short-form-numbered}
 use Rattle.improvement.specs.Improvement.{firstYear, improvementOf}
 use Rattle.improvement.proofs.Numbered.{needed-numbered}
 use Rattle.projection.proofs.Numbered.{factor-numbered, rate-numbered}
+use Rattle.survivorship.specs.declared.Kind.the-variants.{Cohort}
 use Rattle.survivorship.specs.Survivorship.{survivorsAfterYear}
 use Rattle.question.specs.Question.{cellCheck}
 use Rattle.question.proofs.Numbered.{cell-numbered, question-numbered}
@@ -36,6 +37,9 @@ use Rattle.grid.specs.Grid.{gridCheck}
 use Rattle.lifeline.specs.Said.{Said, ended}
 use Rattle.lifeline.specs.Lifeline.{begunAt, startAt, stepCheck, moved, yearLater, lived, unlessRefused, stepAt}
 use Rattle.lifeline.proofs.Numbered.{standing-numbered}
+use Rattle.roll.specs.Roll.{liabilityOf, liabilityOn, liabilityJoining}
+use Rattle.roll.specs.Kept.{yearIn, numbersIn, totalIn, withMember, joining, joinedRoll, leaving, leftRoll, totalSaid, totalAnswer}
+use Rattle.roll.proofs.Numbered.{room-numbered, join-numbered, leave-numbered}
 use Rattle.engine.specs.Enquiry.{refusalOf, answerOf, signedAnswerOf}
 use Rattle.engine.specs.Lifelines.{stepRefusal}
 use Rattle.reply_text.specs.Reply.{replyOf}
@@ -76,6 +80,23 @@ module _ (run history : List ℕ) where
       by passed p false (value s) w r g = let z : _≡_ {A = ℕ} 0 1 = cc in absurd (omega arith)
       by passed p false (refused q) w r g = let e : q ≡ r = cc in rw (← e) (w .listed q refl)
 
+  -- ---- a roll: its own refusals, then those of an annuity
+  join-refusals : (roll : List ℕ) (number age pension : ℕ) → RefusedBy numbers (totalSaid (joinedRoll roll run history number age pension))
+  unfolding joining liabilityJoining liabilityOn annuityEnquiry
+  join-refusals roll number age pension =
+      let annuity = checked-by (valuation-checked age 0 (yearIn roll)) (work-among record-numbers (annuity-numbered (basisWith run history) Cohort age (yearIn roll) 0)) in
+      let liability = checked-by (room-numbered roll) (checked-by (join-numbered (numbersIn roll) number pension) (then-by annuity (λ a. value-by (liabilityOf pension a)))) in
+      then-by (then-by liability (λ l. value-by (withMember number age pension (natAbs l) roll))) (λ after. value-by (pos (totalIn after)))
+
+-- ---- a leave, and the total
+leave-refusals : (roll : List ℕ) (number : ℕ) → RefusedBy numbers (totalSaid (leftRoll roll number))
+unfolding leaving
+leave-refusals roll number =
+    then-by (checked-by (first-by (room-numbered roll) (leave-numbered (numbersIn roll) number)) (value-by _)) (λ after. value-by (pos (totalIn after)))
+
+total-refusals : (roll : List ℕ) → RefusedBy numbers (totalAnswer roll)
+total-refusals roll = then-by (checked-by (room-numbered roll) (value-by roll)) (λ after. value-by (pos (totalIn after)))
+
 -- ---- the small set as a whole
 set-refusal : (run history : List ℕ) (questions : Questions) → smallSetOf run history questions .refusal ≡ refusalOf (basisCheck run history)
 unfolding smallSetOf
@@ -112,6 +133,10 @@ numbered-refusals run history =
       gridRecord = λ p. refl;
       start = start-numbered run history;
       step = step-numbered run history;
+      rollOpen = room-numbered;
+      rollJoin = join-refusals run history;
+      rollLeave = leave-refusals;
+      rollTotal = total-refusals;
       files = λ file. first-by (file-numbered file) (history-numbered (basisOf (runIn file)) history);
       line = line-numbered;
     }

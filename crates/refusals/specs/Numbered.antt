@@ -26,6 +26,7 @@ use Rattle.grid_record.specs.Record.{questionOf, answeredOf}
 use Rattle.grid.specs.Grid.{gridCheck}
 use Rattle.lifeline.specs.Said.{Said}
 use Rattle.lifeline.specs.Lifeline.{startAt, stepAt}
+use Rattle.roll.specs.Kept.{rollCheck, joinedRoll, leftRoll, totalSaid, totalAnswer}
 use Rattle.engine.specs.Enquiry.{refusalOf, answerOf, signedAnswerOf, readCheck, writeCheck, shortCheck}
 use Rattle.engine.specs.Lifelines.{stepRefusal}
 use Rattle.reply_text.specs.Ascii.{ascii}
@@ -66,6 +67,11 @@ pub record NumberedRefusals (run history : List ℕ) : Type 0 where
   -- a lifeline's start and step
   pub start : (age year : ℕ) → RefusesBy numbers (startAt run history age year .check)
   pub step : (age year survivors : ℕ) → RefusedBy numbers (stepAt run history age year survivors .says)
+  -- a roll opened, a join, a leave, and its total
+  pub rollOpen : (roll : List ℕ) → RefusesBy numbers (rollCheck roll)
+  pub rollJoin : (roll : List ℕ) (number age pension : ℕ) → RefusedBy numbers (totalSaid (joinedRoll roll run history number age pension))
+  pub rollLeave : (roll : List ℕ) (number : ℕ) → RefusedBy numbers (totalSaid (leftRoll roll number))
+  pub rollTotal : (roll : List ℕ) → RefusedBy numbers (totalAnswer roll)
   -- the points program: its files as a whole, and a line (one that is an enquiry is answered as a point)
   pub files : (file : List ℕ) → RefusesBy numbers (filesCheck file history)
   pub line : (number : ℕ) (text : List ℕ) → RefusedBy numbers (lineOf number text)

@@ -1,3 +1,4 @@
 pub mod Places
 pub mod Areas
 pub mod Cases
+pub mod Numbered
