@@ -1,2 +1,4 @@
 pub mod Places
 pub mod Areas
+pub mod EachArea
+pub mod OneMember
