@@ -2,3 +2,5 @@ pub mod Places
 pub mod Areas
 pub mod EachArea
 pub mod OneMember
+pub mod Numbers
+pub mod Checks
