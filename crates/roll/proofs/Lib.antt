@@ -4,3 +4,5 @@ pub mod EachArea
 pub mod OneMember
 pub mod Numbers
 pub mod Checks
+pub mod Holds
+pub mod RunningTotal
