@@ -1,6 +1,6 @@
 // A roll of pensions in payment, in a list of numbers that the host keeps.
 ghost use mathlib.Core.Path.{_≡_};
-ghost use Rattle.roll.specs.Roll.{unlessRefused};
+ghost use Rattle.roll.specs.Roll.{afterCall};
 ghost use Rattle.roll.specs.Kept.{rollCheck, openedRoll, joinedRoll, leftRoll, totalSaid, totalAnswer};
 ghost use Rattle.engine.specs.Enquiry.{refusalOf, answerOf};
 use crate::CAnswer;
@@ -11,7 +11,7 @@ use roll::calls;
 #[no_mangle]
 pub extern "C" fn parvusek_roll_open(year: u32, roll: &mut [u64]) -> Refusal
     ensures { λ r. ⌜ r ≡ refusalOf (rollCheck (now (roll .entry))) ⌝ }
-    ensures { λ _. ⌜ now (roll .exit) ≡ unlessRefused (now (roll .entry)) (openedRoll year (now (roll .entry))) ⌝ }
+    ensures { λ _. ⌜ now (roll .exit) ≡ afterCall (now (roll .entry)) (openedRoll year (now (roll .entry))) ⌝ }
 {
     answers::refusal_of(calls::open_roll(year, roll))
 }
@@ -26,7 +26,7 @@ pub extern "C" fn parvusek_roll_join(
     pension: u32,
 ) -> CAnswer
     ensures { λ r. ⌜ r ≡ answerOf (totalSaid (joinedRoll (now (roll .entry)) (now (run .entry)) (now (history .entry)) number age pension)) ⌝ }
-    ensures { λ _. ⌜ now (roll .exit) ≡ unlessRefused (now (roll .entry))
+    ensures { λ _. ⌜ now (roll .exit) ≡ afterCall (now (roll .entry))
         (joinedRoll (now (roll .entry)) (now (run .entry)) (now (history .entry)) number age pension) ⌝ }
 {
     answers::answer_of(calls::join(run, history, roll, number, age, pension))
@@ -35,7 +35,7 @@ pub extern "C" fn parvusek_roll_join(
 #[no_mangle]
 pub extern "C" fn parvusek_roll_leave(roll: &mut [u64], number: u32) -> CAnswer
     ensures { λ r. ⌜ r ≡ answerOf (totalSaid (leftRoll (now (roll .entry)) number)) ⌝ }
-    ensures { λ _. ⌜ now (roll .exit) ≡ unlessRefused (now (roll .entry)) (leftRoll (now (roll .entry)) number) ⌝ }
+    ensures { λ _. ⌜ now (roll .exit) ≡ afterCall (now (roll .entry)) (leftRoll (now (roll .entry)) number) ⌝ }
 {
     answers::answer_of(calls::leave(roll, number))
 }

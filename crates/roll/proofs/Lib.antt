@@ -1,4 +1,10 @@
 pub mod Places
+pub mod Numbers
 pub mod Areas
+pub mod EachArea
+pub mod OneMember
 pub mod Cases
+pub mod Liability
+pub mod Holds
+pub mod RunningTotal
 pub mod Numbered

@@ -7,7 +7,7 @@ use lib.Dec.{eqb, leb}
 use lib.IntN.{ℤ, pos, natAbs}
 use lib.ListN.{length, getD, take, drop, set}
 use Rattle.basis.specs.Outcome.{Finding, Outcome, value, refusal, unless, firstOf, checked, andThen}
-use Rattle.roll.specs.Roll.{added, leaveCheck, liabilityJoining, Call, joins, leaves, unlessRefused}
+use Rattle.roll.specs.Roll.{added, leaveCheck, liabilityJoining, Call, joins, leaves, afterCall}
 
 -- ---- what a list holds
 -- a list that is too short (11), in bytes
@@ -115,4 +115,4 @@ rollBy roll (leaves number) = leftRoll roll number
 
 unfoldable pub rollAfter : List ℕ → List Call → List ℕ
 rollAfter roll [] = roll
-rollAfter roll (call ∷ calls) = rollAfter (unlessRefused roll (rollBy roll call)) calls
+rollAfter roll (call ∷ calls) = rollAfter (afterCall roll (rollBy roll call)) calls

@@ -79,11 +79,11 @@ membersBy year members (joins run history number age pension) =
 membersBy year members (leaves number) = checked (leaveCheck (numbersOf members) number) (value (others number members))
 
 -- a refused call leaves the roll unchanged
-abbrev pub unlessRefused : {A : Type 0} → A → Outcome A → A
-unlessRefused old (value new) = new
-unlessRefused old (refused r) = old
+abbrev pub afterCall : {A : Type 0} → A → Outcome A → A
+afterCall old (value new) = new
+afterCall old (refused r) = old
 
 -- those who joined and have not left, the first call first
 unfoldable pub membersAfter : ℕ → List Member → List Call → List Member
 membersAfter year members [] = members
-membersAfter year members (call ∷ calls) = membersAfter year (unlessRefused members (membersBy year members call)) calls
+membersAfter year members (call ∷ calls) = membersAfter year (afterCall members (membersBy year members call)) calls

@@ -1,7 +1,7 @@
 // The four calls. Each decides first and writes afterwards, so that a refused one changes nothing.
 ghost use mathlib.Core.Path.{_≡_};
 ghost use Rattle.basis.specs.Outcome.{finding, meaning};
-ghost use Rattle.roll.specs.Roll.{unlessRefused};
+ghost use Rattle.roll.specs.Roll.{afterCall};
 ghost use Rattle.roll.specs.Kept.{rollCheck, openedRoll, joining, joinedRoll, leaving, leftRoll, totalSaid, totalAnswer};
 use crate::changes;
 use crate::joins;
@@ -12,7 +12,7 @@ use basis::Check;
 // An empty roll for one valuation year, which is not checked here.
 pub fn open_roll(year: u32, roll: &mut [u64]) -> Check
     ensures { λ r. ⌜ finding r ≡ rollCheck (now (roll .entry)) ⌝ }
-    ensures { λ _. ⌜ now (roll .exit) ≡ unlessRefused (now (roll .entry)) (openedRoll year (now (roll .entry))) ⌝ }
+    ensures { λ _. ⌜ now (roll .exit) ≡ afterCall (now (roll .entry)) (openedRoll year (now (roll .entry))) ⌝ }
 {
     match kept::check_roll(roll) {
         Check::Passed => {
@@ -44,7 +44,7 @@ pub fn join(
     pension: u32,
 ) -> Answer
     ensures { λ r. ⌜ meaning r ≡ totalSaid (joinedRoll (now (roll .entry)) (now (run .entry)) (now (history .entry)) number age pension) ⌝ }
-    ensures { λ _. ⌜ now (roll .exit) ≡ unlessRefused (now (roll .entry))
+    ensures { λ _. ⌜ now (roll .exit) ≡ afterCall (now (roll .entry))
         (joinedRoll (now (roll .entry)) (now (run .entry)) (now (history .entry)) number age pension) ⌝ }
 {
     match joining(roll, run, history, number, age, pension) {
@@ -69,7 +69,7 @@ fn leaving(roll: &[u64], number: u32) -> Check
 // A member leaves: the answer is the total afterwards.
 pub fn leave(roll: &mut [u64], number: u32) -> Answer
     ensures { λ r. ⌜ meaning r ≡ totalSaid (leftRoll (now (roll .entry)) number) ⌝ }
-    ensures { λ _. ⌜ now (roll .exit) ≡ unlessRefused (now (roll .entry)) (leftRoll (now (roll .entry)) number) ⌝ }
+    ensures { λ _. ⌜ now (roll .exit) ≡ afterCall (now (roll .entry)) (leftRoll (now (roll .entry)) number) ⌝ }
 {
     match leaving(roll, number) {
         Check::Passed => {

@@ -6,7 +6,7 @@ ghost use Rattle.roll.specs.Kept.{countIn, withMember, closedUp, without
 use crate::kept;
 
 // A member in the next place of each area.
-pub fn with_member(roll: &mut [u64], number: u32, age: u32, pension: u32, liability: u64)
+pub(crate) fn with_member(roll: &mut [u64], number: u32, age: u32, pension: u32, liability: u64)
     requires { ⌜ (2002 ≤ length (now roll)) × (countIn (now roll) < 500) ⌝ }
     ensures { λ _. ⌜ now (roll .exit) ≡ withMember number age pension liability (now (roll .entry)) ⌝ }
 {
@@ -31,7 +31,7 @@ fn close_up(list: &mut [u64], i: usize, n: usize)
 }
 
 // The member at place i goes from each area.
-pub fn without_member(roll: &mut [u64], i: usize)
+pub(crate) fn without_member(roll: &mut [u64], i: usize)
     requires { ⌜ (2002 ≤ length (now roll)) × (i < countIn (now roll)) ⌝ }
     ensures { λ _. ⌜ now (roll .exit) ≡ withoutMember i (now (roll .entry)) ⌝ }
 {

@@ -26,7 +26,7 @@ fn refused(number: u32, member: u32) -> Check
 }
 
 // 16, then 14, then 5.
-pub fn check_join(roll: &[u64], number: u32, pension: u32) -> Check
+pub(crate) fn check_join(roll: &[u64], number: u32, pension: u32) -> Check
     requires { ⌜ 2002 ≤ length (now roll) ⌝ }
     ensures { λ r. ⌜ finding r ≡ joinCheck (numbersIn (now (roll .entry))) number pension ⌝ }
 {
@@ -45,7 +45,7 @@ pub fn check_join(roll: &[u64], number: u32, pension: u32) -> Check
 }
 
 // 15.
-pub fn check_leave(roll: &[u64], number: u32) -> Check
+pub(crate) fn check_leave(roll: &[u64], number: u32) -> Check
     requires { ⌜ 2002 ≤ length (now roll) ⌝ }
     ensures { λ r. ⌜ finding r ≡ leaveCheck (numbersIn (now (roll .entry))) number ⌝ }
 {
@@ -76,7 +76,7 @@ fn liability_on(run: &[u8], history: &[u8], year: u32, age: u32, pension: u32) -
 }
 
 // The roll's own refusals before any of the engine's.
-pub fn liability_joining(
+pub(crate) fn liability_joining(
     roll: &[u64],
     run: &[u8],
     history: &[u8],

@@ -9,7 +9,7 @@ use basis::Check;
 use basis::Refusal;
 
 // 11: the list is too short.
-pub fn check_roll(roll: &[u64]) -> Check
+pub(crate) fn check_roll(roll: &[u64]) -> Check
     ensures { λ r. ⌜ finding r ≡ rollCheck (now (roll .entry)) ⌝ }
 {
     if 2002 <= roll.len() {
@@ -23,7 +23,7 @@ pub fn check_roll(roll: &[u64]) -> Check
     }
 }
 
-pub fn year_in(roll: &[u64]) -> u32
+pub(crate) fn year_in(roll: &[u64]) -> u32
     requires { ⌜ 2002 ≤ length (now roll) ⌝ }
     ensures { λ r. ⌜ r ≡ yearIn (now (roll .entry)) ⌝ }
 {
@@ -31,7 +31,7 @@ pub fn year_in(roll: &[u64]) -> u32
 }
 
 // How many are on the roll, at most 500.
-pub fn count_in(roll: &[u64]) -> usize
+pub(crate) fn count_in(roll: &[u64]) -> usize
     requires { ⌜ 2002 ≤ length (now roll) ⌝ }
     ensures { λ r. ⌜ (r ≡ countIn (now (roll .entry))) × (r ≤ 500) ⌝ }
 {
@@ -54,7 +54,7 @@ fn place_of(x: u64, list: &[u64]) -> usize
 }
 
 // The place of a member, or the count where the number is not on the roll.
-pub fn place_in(roll: &[u64], number: u32) -> usize
+pub(crate) fn place_in(roll: &[u64], number: u32) -> usize
     requires { ⌜ 2002 ≤ length (now roll) ⌝ }
     ensures { λ r. ⌜ r ≡ placeOf number (numbersIn (now (roll .entry))) ⌝ }
 {
@@ -76,7 +76,7 @@ fn add_up(list: &[u64]) -> u64
 }
 
 // The total of the liabilities.
-pub fn total_in(roll: &[u64]) -> u64
+pub(crate) fn total_in(roll: &[u64]) -> u64
     requires { ⌜ 2002 ≤ length (now roll) ⌝ }
     ensures { λ r. ⌜ r ≡ totalIn (now (roll .entry)) ⌝ }
 {

@@ -2,7 +2,7 @@
 use mathlib.Core.Path.{_∙_, sym, ap}
 use Rattle.basis.proofs.Outcome.{found, checked-passed, checked-refused}
 use Rattle.roll.specs.Roll.{liabilityOn, liabilityJoining}
-use Rattle.roll.proofs.Cases.{join-passed}
+use Rattle.roll.proofs.Cases.{may-join}
 use borrow.Author.Needs.{needs}
 use Rattle.roll.proofs.joins.liability_joining.Statement.{statement}
 use Rattle.roll.proofs.joins.liability_joining.Tie as tie
@@ -19,7 +19,7 @@ year-in-requires c κs = search needs
 liability-on-requires : tie.Need-liability-on-requires
 liability-on-requires c κs =
     let t = c .before in
-    join-passed _ _ _ (found (t .before .before .check-join .ensures) (t .enum-told .given .1)) .1
+    may-join _ _ _ (found (t .before .before .check-join .ensures) (t .enum-told .given .1)) .limited
 
 enum-known-r : tie.Need-enum-known-r
 enum-known-r c = search needs

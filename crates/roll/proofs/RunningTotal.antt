@@ -1,0 +1,37 @@
+-- The running total: after each call on a roll that was opened and changed by its calls alone, it is the sum for those who joined and have
+-- not left. Assumes nothing.
+use mathlib.Core.Path.{ap}
+use mathlib.Core.List.{List, []}
+use Prim.Native.Nat.{ℕ}
+use native.Mathlib.Omega.{arith}
+use lib.IntN.{pos}
+use Rattle.basis.specs.Outcome.{value}
+use Rattle.roll.specs.Roll.{Member, membersAfter}
+use Rattle.roll.specs.Kept.{opened, rollAfter}
+use Rattle.roll.specs.Totals.{Stands, RunningTotal}
+use Rattle.roll.proofs.Cases.{room-passes}
+use Rattle.roll.proofs.Holds.{Holds, total-small, holds-opened, holds-count, holds-total, agree-by, agree-says, holds-after}
+
+stands-so : (year : ℕ) (lent roll : List ℕ) (members : List Member) → Holds year lent roll members → Stands year lent roll members
+stands-so year lent roll members h =
+    let c = holds-count year lent roll members h in
+    record {
+      total = rw (room-passes roll (h .room)) (ap (λ n. value (pos n)) (holds-total year lent roll members h));
+      says = λ call. agree-says year lent (agree-by year lent roll members h call);
+      valuationYear = h .in-year;
+      numbers = h .areas 0 (omega arith);
+      ages = h .areas 1 (omega arith);
+      pensions = h .areas 2 (omega arith);
+      liabilities = h .areas 3 (omega arith);
+      count = omega arith;
+      fits = total-small members (h .small);
+      further = h .further;
+    }
+
+pub running-total : RunningTotal
+running-total =
+    record {
+      stands = λ year lent calls small room.
+          stands-so year lent (rollAfter (opened year lent) calls) (membersAfter year [] calls)
+          (holds-after year lent (opened year lent) [] calls (holds-opened year lent small room));
+    }
