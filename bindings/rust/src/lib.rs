@@ -35,7 +35,7 @@ pub use basis::{Basis, OpenError, FILE_LENGTH, HISTORY_YEAR, RUN_LENGTH};
 pub use lifeline::{Lifeline, Standing};
 pub use points::{Question, Record, Results, GRID, SMALL_SET};
 pub use refusal::{JoinRefusal, Refusal};
-pub use roll::{Member, NotARoll, Roll, HIGHEST_PENSION, ROLL_LENGTH, ROLL_MEMBERS};
+pub use roll::{Member, NotARoll, Roll, GREATEST_PENSION, ROLL_LENGTH, ROLL_MEMBERS};
 pub use units::{decimal, Decimal, UNIT};
 pub use version::{linked_version, Version, VERSION};
 

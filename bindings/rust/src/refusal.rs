@@ -3,7 +3,7 @@
 use std::error::Error;
 use std::fmt;
 
-use crate::HIGHEST_PENSION;
+use crate::GREATEST_PENSION;
 
 /// Why the engine gives no value: a number and two places.
 ///
@@ -94,7 +94,7 @@ impl Error for Refusal {}
 /// let refusal = Refusal { number: 5, first: 1004, second: 0 };
 /// assert_eq!(refusal.to_string(), "refused 5: a field outside its limits (offset 1004)");
 /// let refusal = JoinRefusal { refusal, is_of_pension: true };
-/// assert_eq!(refusal.to_string(), "refused 5: a field outside its limits (member 1004)");
+/// assert_eq!(refusal.to_string(), "refused 5: a field outside its limits: the pension is above 10,000,000 pence (member 1004)");
 /// ```
 #[derive(Clone, Copy, Debug, PartialEq, Eq, Hash)]
 pub struct JoinRefusal {
@@ -107,7 +107,7 @@ pub struct JoinRefusal {
 impl JoinRefusal {
     /// The pension's 5 comes before every other 5, so that it is the one wherever the pension is above its limit.
     pub(crate) fn of(refusal: Refusal, pension: u32) -> JoinRefusal {
-        JoinRefusal { refusal, is_of_pension: refusal.number == 5 && pension > HIGHEST_PENSION }
+        JoinRefusal { refusal, is_of_pension: refusal.number == 5 && pension > GREATEST_PENSION }
     }
 }
 
@@ -115,7 +115,10 @@ impl fmt::Display for JoinRefusal {
     fn fmt(&self, f: &mut fmt::Formatter<'_>) -> fmt::Result {
         let Refusal { number, first, .. } = self.refusal;
         match self.is_of_pension {
-            true => write!(f, "refused {number}: {} (member {first})", self.refusal.sentence()),
+            true => {
+                let sentence = self.refusal.sentence();
+                write!(f, "refused {number}: {sentence}: the pension is above 10,000,000 pence (member {first})")
+            }
             false => self.refusal.fmt(f),
         }
     }

@@ -14,8 +14,8 @@ pub const ROLL_MEMBERS: usize = 500;
 /// The 8-byte numbers of a roll.
 pub const ROLL_LENGTH: usize = 2_002;
 
-/// The highest yearly pension of a member, in pence.
-pub const HIGHEST_PENSION: u32 = 10_000_000;
+/// The greatest yearly pension of a member, in pence.
+pub const GREATEST_PENSION: u32 = 10_000_000;
 
 // Where the parts of a roll begin, after its year and its count.
 const NUMBERS: usize = 2;
@@ -82,7 +82,7 @@ impl Roll {
     /// # let basis = Basis::open("../../samples/basis.bin")?;
     /// let mut roll = Roll::open(2010);
     /// let refused = roll.join(&basis, 1004, 65, 10_000_001).unwrap_err();
-    /// assert_eq!(refused.to_string(), "refused 5: a field outside its limits (member 1004)");
+    /// assert_eq!(refused.to_string(), "refused 5: a field outside its limits: the pension is above 10,000,000 pence (member 1004)");
     /// assert_eq!(roll.join(&basis, 1004, 19, 100).unwrap_err().refusal.number, 6);
     /// assert_eq!(roll.join(&basis, 1004, 65, 10_000_000)?, 156_989_278);
     /// # Ok::<(), Box<dyn std::error::Error>>(())
@@ -226,7 +226,7 @@ fn check_member(numbers: &[u64; ROLL_LENGTH], place: usize) -> Result<(), NotARo
     if !(20..=150).contains(&age) {
         return Err(NotARoll::Age(place));
     }
-    if pension > HIGHEST_PENSION.into() {
+    if pension > GREATEST_PENSION.into() {
         return Err(NotARoll::Pension(place));
     }
     if !(pension..=131 * 4 * pension).contains(&liability) {
@@ -266,7 +266,7 @@ impl fmt::Display for NotARoll {
             NotARoll::Number(place) => write!(f, "the member number in place {place} has more than 32 bits"),
             NotARoll::Repeated(place) => write!(f, "the member number in place {place} is an earlier one's"),
             NotARoll::Age(place) => write!(f, "the age in place {place} is outside 20 to 150"),
-            NotARoll::Pension(place) => write!(f, "the pension in place {place} is above {HIGHEST_PENSION}"),
+            NotARoll::Pension(place) => write!(f, "the pension in place {place} is above {GREATEST_PENSION}"),
             NotARoll::Liability(place) => write!(f, "no pension such as that in place {place} has its liability"),
         }
     }

@@ -1,6 +1,6 @@
 //! Rolls of pensions in payment. Totals are compared with sums that are worked out here from the annuities, in 128 bits.
 
-use parvusek::{Basis, Kind, Member, NotARoll, Refusal, Roll, HIGHEST_PENSION, ROLL_LENGTH, ROLL_MEMBERS, UNIT};
+use parvusek::{Basis, Kind, Member, NotARoll, Refusal, Roll, GREATEST_PENSION, ROLL_LENGTH, ROLL_MEMBERS, UNIT};
 
 const SAMPLES: &str = concat!(env!("CARGO_MANIFEST_DIR"), "/../../samples");
 
@@ -41,7 +41,7 @@ fn refuses(roll: &mut Roll, basis: &Basis, (number, age, pension): (u32, u32, u3
 fn members_are_listed_in_the_order_in_which_they_joined() {
     let (basis, mut roll) = (sample(), Roll::open(2010));
     assert_eq!((roll.year(), roll.len(), roll.total(), roll.is_empty()), (2010, 0, 0, true));
-    let asked = [(7, 65, 1_200_000), (0, 20, HIGHEST_PENSION), (u32::MAX, 150, 0), (8, 90, 1)];
+    let asked = [(7, 65, 1_200_000), (0, 20, GREATEST_PENSION), (u32::MAX, 150, 0), (8, 90, 1)];
     let mut expected = Vec::new();
     for (number, age, pension) in asked {
         expected.push(Member { number, age, pension, liability: liability(&basis, age, pension, 2010) });
@@ -146,9 +146,9 @@ fn after_each_of_many_calls_the_total_is_the_sum_of_those_on_the_roll() {
 fn joins_are_refused_in_their_order() {
     let (basis, mut roll) = (sample(), Roll::open(2007));
     let without_history = Basis::from_run(older().run()).expect("the run is accepted");
-    refuses(&mut roll, &without_history, (7, 19, HIGHEST_PENSION + 1), refusal(5, 7));
+    refuses(&mut roll, &without_history, (7, 19, GREATEST_PENSION + 1), refusal(5, 7));
     refuses(&mut roll, &without_history, (u32::MAX, 19, u32::MAX), refusal(5, u32::MAX.into()));
-    refuses(&mut roll, &without_history, (7, 19, HIGHEST_PENSION), refusal(13, 6_144));
+    refuses(&mut roll, &without_history, (7, 19, GREATEST_PENSION), refusal(13, 6_144));
     refuses(&mut roll, &basis, (7, 19, 0), refusal(6, 19));
     // The year is not checked when the roll is opened, and a pension of 0 needs its annuity, too.
     refuses(&mut roll, &basis, (7, 20, 0), refusal(7, 2007));
@@ -183,10 +183,13 @@ fn what_the_work_refuses_is_the_joins_refusal() {
 #[test]
 fn the_fives_of_a_join_are_told_apart() {
     let (basis, mut roll) = (sample(), Roll::open(2010));
-    let refused = roll.join(&basis, 12, 65, HIGHEST_PENSION + 1).expect_err("the pension is above its limit");
-    assert_eq!(refused.to_string(), "refused 5: a field outside its limits (member 12)");
+    let refused = roll.join(&basis, 12, 65, GREATEST_PENSION + 1).expect_err("the pension is above its limit");
+    assert_eq!(
+        refused.to_string(),
+        "refused 5: a field outside its limits: the pension is above 10,000,000 pence (member 12)"
+    );
     assert_eq!(refused.refusal.to_string(), "refused 5: a field outside its limits (offset 12)");
-    let refused = roll.join(&basis, 12, 151, HIGHEST_PENSION).expect_err("the age is above its limit");
+    let refused = roll.join(&basis, 12, 151, GREATEST_PENSION).expect_err("the age is above its limit");
     assert_eq!(refused.to_string(), "refused 6: age outside 20 to 150 (age 151)");
     let sentences = [(14, "the roll is full"), (15, "the member number is not on the roll")];
     for (number, sentence) in sentences {
