@@ -72,4 +72,14 @@ static inline int parvusek_refusal_line(char *line, size_t size, parvusek_refusa
                     first, refusal.first, second, refusal.second);
 }
 
+/* The same for a refused parvusek_roll_join of this pension. The 5 of a pension above 10,000,000 comes before every
+   other 5 and has the member number where those have an offset; the refusal alone does not say which it is. */
+static inline int parvusek_join_refusal_line(char *line, size_t size, parvusek_refusal_t refusal, uint32_t pension) {
+    if (refusal.number == 5 && pension > 10000000) {
+        return snprintf(line, size, "refused 5: %s: the pension is above 10,000,000 pence (member %" PRIu64 ")",
+                        parvusek_refusal_sentence(5), refusal.first);
+    }
+    return parvusek_refusal_line(line, size, refusal);
+}
+
 #endif

@@ -1,6 +1,7 @@
 /* Checks the boundary that nothing proves: C sees the engine's structs where the engine puts them, and each function
    answers and refuses as the definitions say on a few cases worked by hand. Prints one line, and each check that failed.
-   The sets and the lifeline are in check_sets.c, bases older than their foundation year in check_histories.c. */
+   The sets and the lifeline are in check_sets.c, bases older than their foundation year in check_histories.c, rolls of
+   pensions in payment in check_rolls.c. */
 #include <stddef.h>
 #include <stdio.h>
 #include <string.h>
@@ -334,6 +335,7 @@ int main(void) {
     check_grids();
     check_lifelines();
     check_histories();
+    check_rolls();
     printf("boundary, C: %d checks, %d failed\n", checks, failures);
     return failures != 0;
 }

@@ -41,4 +41,7 @@ void check_lifelines(void);
 /* the checks of check_histories.c */
 void check_histories(void);
 
+/* the checks of check_rolls.c */
+void check_rolls(void);
+
 #endif

@@ -127,6 +127,20 @@ static void check_actual_lives(void) {
     HOLDS(refused(l.refusal, 7, 2001, 0) && l.age == 61 && l.year == 2001 && l.survivors == 900000000);
 }
 
+/* a join is lent the history as an annuity is: 2.7109 a year by the one, 2.71 by the other */
+static void check_actual_joins(void) {
+    static uint64_t roll[PARVUSEK_ROLL_LENGTH];
+    uint8_t run[RUN], history[HISTORY], other[HISTORY];
+    sample_older(run);
+    level(history, 10000000);
+    level(other, 0);
+    HOLDS(passed(parvusek_roll_open(2002, roll, PARVUSEK_ROLL_LENGTH)));
+    HOLDS(is(parvusek_roll_join(run, RUN, history, HISTORY, roll, PARVUSEK_ROLL_LENGTH, 1, 148, 10000), 27109));
+    HOLDS(is(parvusek_roll_join(run, RUN, other, HISTORY, roll, PARVUSEK_ROLL_LENGTH, 2, 148, 10000), 27109 + 27100));
+    HOLDS(declined(parvusek_roll_join(run, RUN, NO_HISTORY, roll, PARVUSEK_ROLL_LENGTH, 2, 148, 10000), 16, 2, 0));
+    HOLDS(is(parvusek_roll_leave(roll, PARVUSEK_ROLL_LENGTH, 1), 27100));
+}
+
 /* ---- refusals */
 
 /* whether a call is so refused; says which is not */
@@ -141,6 +155,17 @@ typedef parvusek_answer_t enquiry_t(const uint8_t *run, size_t run_len, const ui
 static enquiry_t *const values[6] = {parvusek_period_survivorship, parvusek_cohort_survivorship,
                                      parvusek_period_expectation,  parvusek_cohort_expectation,
                                      parvusek_period_annuity,      parvusek_cohort_annuity};
+
+/* a join is so refused, and no number of its roll is touched */
+static int refuses_join(const uint8_t *run, size_t run_len, const uint8_t *history, size_t history_len, uint32_t number,
+                        uint64_t first) {
+    static uint64_t roll[PARVUSEK_ROLL_LENGTH], before[PARVUSEK_ROLL_LENGTH];
+    memset(roll, KEPT, sizeof roll);
+    HOLDS(passed(parvusek_roll_open(0, roll, PARVUSEK_ROLL_LENGTH)));
+    memcpy(before, roll, sizeof roll);
+    parvusek_answer_t join = parvusek_roll_join(run, run_len, history, history_len, roll, PARVUSEK_ROLL_LENGTH, 7, 19, 0);
+    return declined(join, number, first, 0) && memcmp(roll, before, sizeof roll) == 0;
+}
 
 /* Every call that is lent this basis is so refused, though age, deferment and year are wrong too: no value is answered,
    no point of the small set and no record of the grid is touched, and a step hands back what it was given. */
@@ -175,6 +200,7 @@ static int refuses(const uint8_t *run, size_t run_len, const uint8_t *history, s
     l = parvusek_lifeline_step(run, run_len, history, history_len, 19, 7, UINT64_MAX);
     all &= so("lifeline's step", refused(l.refusal, number, first, 0) && !l.ended);
     all &= so("lifeline's step", l.age == 19 && l.year == 7 && l.survivors == UINT64_MAX);
+    all &= so("join", refuses_join(run, run_len, history, history_len, number, first));
     return all;
 }
 
@@ -275,6 +301,7 @@ void check_histories(void) {
     check_actual_cells();
     check_actual_values();
     check_actual_lives();
+    check_actual_joins();
     check_lengths();
     check_blocks();
     check_fields();

@@ -4,7 +4,7 @@ import ctypes
 import struct
 from ctypes import POINTER, Structure, c_int32, c_int64, c_size_t, c_uint8, c_uint32, c_uint64, sizeof
 
-RUN, FILE, GRID, FURTHER, KEPT = 4554, 4608, 119, 16, 0xA5
+RUN, FILE, GRID, ROLL, FURTHER, KEPT = 4554, 4608, 119, 2002, 16, 0xA5
 UNIT = 1_000_000_000
 
 
@@ -81,6 +81,14 @@ OF_A_BASIS = {
     "grid": (Refusal, [POINTER(Point), c_size_t]),
     "lifeline_start": (Lifeline, [c_uint32] * 2),
     "lifeline_step": (Lifeline, [c_uint32, c_uint32, c_uint64]),
+    "roll_join": (Answer, [POINTER(c_uint64), c_size_t] + [c_uint32] * 3),
+}
+
+# Those of a roll that are lent no basis: what each gives, and all that it takes.
+OF_A_ROLL = {
+    "roll_open": (Refusal, [c_uint32, POINTER(c_uint64), c_size_t]),
+    "roll_leave": (Answer, [POINTER(c_uint64), c_size_t, c_uint32]),
+    "roll_total": (Answer, [POINTER(c_uint64), c_size_t]),
 }
 
 checks = 0
@@ -118,6 +126,8 @@ class Engine:
         for name, (gives, takes) in OF_A_BASIS.items():
             f = self.declared(library, name, gives, lent + lent + takes)
             setattr(self, name, lambda basis, *rest, f=f: f(*self.pair(basis), *rest))
+        for name, (gives, takes) in OF_A_ROLL.items():
+            setattr(self, name, self.declared(library, name, gives, takes))
 
     @staticmethod
     def declared(library, name, gives, takes):
@@ -174,6 +184,13 @@ def asked_of_grid(questions):
 
 def answers_of_grid(records, count):
     return [(list(p.results), (p.refusal, p.first, p.second)) for p in records[:count]]
+
+
+def opened(e, year):
+    """A roll of this year, and two further numbers."""
+    numbers = (c_uint64 * (ROLL + 2))(*[KEPT] * (ROLL + 2))
+    same("a roll opened", (places(e.roll_open(year, numbers, ROLL)), numbers[0], numbers[1]), ((0, 0, 0), year, 0))
+    return numbers
 
 
 def stand(line):

@@ -10,8 +10,8 @@ from ctypes import sizeof
 from pathlib import Path
 
 import boundary
-from boundary import (FILE, FURTHER, GRID, KEPT, LAYOUTS, RUN, UNIT, Engine, Point, Question, Questions, answers_of_grid,
-                      asked_of_grid, beyond, file_of, lent, places, same, sample, stand, worsening)
+from boundary import (FILE, FURTHER, GRID, KEPT, LAYOUTS, ROLL, RUN, UNIT, Engine, Point, Question, Questions,
+                      answers_of_grid, asked_of_grid, beyond, file_of, lent, opened, places, same, sample, stand, worsening)
 from check_histories import check_histories
 
 
@@ -249,6 +249,27 @@ def check_lifelines(e):
     check_whole_lives(e)
 
 
+def check_roll(e):
+    """The four calls take and give what is declared; an age of 148 is worth 2.71 a year, one of 149 1.9."""
+    def answer(what, a, value, refusal=(0, 0, 0)):
+        same(what, (a.value, places(a.refusal)), (value, refusal))
+
+    most, run, roll = 2**32 - 1, sample(), opened(e, 2010)
+    answer("a join", e.roll_join(run, roll, ROLL, 1001, 148, 100), 271)
+    answer("another", e.roll_join(run, roll, ROLL, most, 149, 5), 281)
+    answer("the same number", e.roll_join(b"", roll, ROLL, most, 19, most), 0, (16, most, 0))
+    answer("a pension above its limit", e.roll_join(b"", roll, ROLL, 7, 19, 10_000_001), 0, (5, 7, 0))
+    answer("no run", e.roll_join(b"", roll, ROLL, 7, 19, 10_000_000), 0, (1, 0, 0))
+    answer("the total", e.roll_total(roll, ROLL), 281)
+    same("its numbers", [roll[i] for i in (0, 1, 2, 3, 502, 503, 1002, 1003, 1502, 1503)],
+         [2010, 2, 1001, most, 148, 149, 100, 5, 271, 10])
+    answer("a leave", e.roll_leave(roll, ROLL, 1001), 10)
+    answer("a leave of nobody", e.roll_leave(roll, ROLL, 1001), 0, (15, 1001, 0))
+    answer("a short roll", e.roll_total(roll, ROLL - 1), 0, (11, 8 * ROLL, 0))
+    same("what is behind it", roll[ROLL:], [KEPT, KEPT])
+    same("its numbers after a leave", [roll[i] for i in (0, 1, 2, 502, 1002, 1502)], [2010, 1, most, 149, 5, 10])
+
+
 def main():
     engine = Engine(sys.argv[1])
     check_version(engine)
@@ -258,6 +279,7 @@ def main():
     check_small_sets(engine)
     check_grids(engine)
     check_lifelines(engine)
+    check_roll(engine)
     check_histories(engine)
     print(f"boundary, Python: {boundary.checks} checks, {boundary.failures} failed")
     return boundary.failures != 0

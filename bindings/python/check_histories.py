@@ -2,8 +2,8 @@
 The numbers are worked by hand; check_boundary.py runs these checks with its own."""
 import struct
 
-from boundary import (GRID, OF_A_BASIS, UNIT, Question, Questions, answers_of_grid, asked_of_grid, file_of, places, same,
-                      sample, stand)
+from boundary import (GRID, OF_A_BASIS, ROLL, UNIT, Question, Questions, answers_of_grid, asked_of_grid, file_of, opened,
+                      places, same, sample, stand)
 
 
 def history_data(*years):
@@ -96,7 +96,7 @@ def refused_histories():
 def check_refused_histories(e):
     for basis, refusal in refused_histories():
         for name, (_, takes) in OF_A_BASIS.items():
-            if name not in ("small_set", "grid"):
+            if name not in ("small_set", "grid", "roll_join"):
                 a = getattr(e, name)(basis, *[0] * len(takes))
                 same(f"{name} with a refused history", places(a.refusal), refusal)
         found = e.small_set(basis, Questions())
@@ -108,6 +108,10 @@ def check_refused_histories(e):
         same("a grid with it", places(e.grid(basis, records, GRID)), refusal)
         same("a short list with it", places(e.grid(basis, records, GRID - 1)), (11, GRID, 0))
         same("unchanged by refusals", bytes(records), before)
+        roll = opened(e, 2003)
+        before = bytes(roll)
+        join = e.roll_join(basis, roll, ROLL, 7, 151, 0)
+        same("a join with it", (join.value, places(join.refusal), bytes(roll)), (0, refusal, before))
         step = e.lifeline_step(basis, 151, 2003, UNIT + 1)
         same("a step with it", (stand(step), places(step.refusal)), ((151, 2003, UNIT + 1, 0), refusal))
 

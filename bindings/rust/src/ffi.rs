@@ -1,7 +1,7 @@
 //! The functions of `include/parvusek.h`, as C declares them.
 //!
-//! Each takes any stretch of bytes with its true length and any number, keeps no pointer, and writes only to the output
-//! that it is lent, which must not overlap its input. Rust's borrows see to both. A history of length 0 is none.
+//! Each takes any stretch of bytes or numbers with its true length and any number, keeps no pointer, and writes only to the
+//! output that it is lent, which must not overlap its input. Rust's borrows see to both. A history of length 0 is none.
 
 use crate::{Question, Record, Refusal};
 
@@ -52,6 +52,9 @@ extern "C" {
     pub fn parvusek_read_basis(file: *const u8, file_len: usize, run: *mut u8, run_len: usize) -> Refusal;
     pub fn parvusek_write_basis(run: *const u8, run_len: usize, file: *mut u8, file_len: usize) -> Refusal;
     pub fn parvusek_short_form(run: *const u8, run_len: usize, rate: i32, out: *mut u8, out_len: usize) -> Refusal;
+    pub fn parvusek_roll_open(year: u32, roll: *mut u64, roll_len: usize) -> Refusal;
+    pub fn parvusek_roll_leave(roll: *mut u64, roll_len: usize, number: u32) -> Answer;
+    pub fn parvusek_roll_total(roll: *const u64, roll_len: usize) -> Answer;
 }
 
 /// Every other function is lent a history directly after the data run: declares what each takes after both.
@@ -86,4 +89,6 @@ lent_a_history! {
 
     parvusek_lifeline_start(age: u32, year: u32) -> Lifeline;
     parvusek_lifeline_step(age: u32, year: u32, survivors: u64) -> Lifeline;
+
+    parvusek_roll_join(roll: *mut u64, roll_len: usize, number: u32, age: u32, pension: u32) -> Answer;
 }

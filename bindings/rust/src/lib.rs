@@ -14,11 +14,12 @@
 //!
 //! Values are whole units, [`UNIT`] of them to one. What is refused is a [`Refusal`]: a number and two places. The
 //! engine has no state and allocates nothing: a [`Basis`] may be shared by any number of threads. A basis whose base
-//! year is before its foundation year is opened with its history, [`Basis::open_with_history`].
+//! year is before its foundation year is opened with its history, [`Basis::open_with_history`]. A [`Roll`] holds pensions
+//! in payment and their total.
 //!
 //! The archive is linked from the folder that `PARVUSEK_LIB_DIR` names when this crate is built, or else from the
 //! repository's `target/staticlib`. An archive of another minor version may answer otherwise: where [`linked_version`]
-//! differs from [`VERSION`] in more than the patch, making a [`Basis`] panics and says so.
+//! differs from [`VERSION`] in more than the patch, making a [`Basis`] or a [`Roll`] panics and says so.
 
 mod basis;
 mod enquiries;
@@ -26,13 +27,15 @@ mod ffi;
 mod lifeline;
 mod points;
 mod refusal;
+mod roll;
 mod units;
 mod version;
 
 pub use basis::{Basis, OpenError, FILE_LENGTH, HISTORY_YEAR, RUN_LENGTH};
 pub use lifeline::{Lifeline, Standing};
 pub use points::{Question, Record, Results, GRID, SMALL_SET};
-pub use refusal::Refusal;
+pub use refusal::{JoinRefusal, Refusal};
+pub use roll::{Member, NotARoll, Roll, GREATEST_PENSION, ROLL_LENGTH, ROLL_MEMBERS};
 pub use units::{decimal, Decimal, UNIT};
 pub use version::{linked_version, Version, VERSION};
 

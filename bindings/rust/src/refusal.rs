@@ -3,6 +3,8 @@
 use std::error::Error;
 use std::fmt;
 
+use crate::GREATEST_PENSION;
+
 /// Why the engine gives no value: a number and two places.
 ///
 /// ```
@@ -13,9 +15,9 @@ use std::fmt;
 #[repr(C)]
 #[derive(Clone, Copy, Debug, PartialEq, Eq, Hash)]
 pub struct Refusal {
-    /// 1 to 13; what each says is in docs/REFUSALS.md.
+    /// 1 to 16; what each says is in docs/REFUSALS.md.
     pub number: u32,
-    /// The first place: a block, an offset, an age, a year, as the number has it.
+    /// The first place: a block, an offset, an age, a year, a member number, as the number has it.
     pub first: u64,
     /// The second place; 0 where the number has none.
     pub second: u64,
@@ -38,6 +40,9 @@ impl Refusal {
             11 => "lent output too short",
             12 => "a line is not of the form asked",
             13 => "history not 1,024 bytes for each year from B + 1 to F",
+            14 => "the roll is full",
+            15 => "the member number is not on the roll",
+            16 => "the member number is on the roll already",
             _ => "no such refusal",
         }
     }
@@ -53,6 +58,7 @@ impl Refusal {
             9 | 10 => (Some("age"), Some("year")),
             11 | 13 => (Some("needed"), None),
             12 => (Some("line"), None),
+            14..=16 => (Some("member"), None),
             _ => (None, None),
         }
     }
@@ -78,3 +84,50 @@ impl fmt::Display for Refusal {
 }
 
 impl Error for Refusal {}
+
+/// Why a member does not join a [`Roll`](crate::Roll). The 5 of a pension above its limit has the member number for its
+/// first place, where every other 5 has an offset; a [`Refusal`] alone does not say which it is.
+///
+/// ```
+/// use parvusek::{JoinRefusal, Refusal};
+///
+/// let refusal = Refusal { number: 5, first: 1004, second: 0 };
+/// assert_eq!(refusal.to_string(), "refused 5: a field outside its limits (offset 1004)");
+/// let refusal = JoinRefusal { refusal, is_of_pension: true };
+/// assert_eq!(refusal.to_string(), "refused 5: a field outside its limits: the pension is above 10,000,000 pence (member 1004)");
+/// ```
+#[derive(Clone, Copy, Debug, PartialEq, Eq, Hash)]
+pub struct JoinRefusal {
+    /// The number and the two places.
+    pub refusal: Refusal,
+    /// Whether it is the 5 of the pension, and its first place the member number.
+    pub is_of_pension: bool,
+}
+
+impl JoinRefusal {
+    /// The pension's 5 comes before every other 5, so that it is the one wherever the pension is above its limit.
+    pub(crate) fn of(refusal: Refusal, pension: u32) -> JoinRefusal {
+        JoinRefusal { refusal, is_of_pension: refusal.number == 5 && pension > GREATEST_PENSION }
+    }
+}
+
+impl fmt::Display for JoinRefusal {
+    fn fmt(&self, f: &mut fmt::Formatter<'_>) -> fmt::Result {
+        let Refusal { number, first, .. } = self.refusal;
+        match self.is_of_pension {
+            true => {
+                let sentence = self.refusal.sentence();
+                write!(f, "refused {number}: {sentence}: the pension is above 10,000,000 pence (member {first})")
+            }
+            false => self.refusal.fmt(f),
+        }
+    }
+}
+
+impl Error for JoinRefusal {}
+
+impl From<JoinRefusal> for Refusal {
+    fn from(refused: JoinRefusal) -> Refusal {
+        refused.refusal
+    }
+}

@@ -16,7 +16,7 @@ pub struct Version {
 }
 
 /// The version of this crate.
-pub const VERSION: Version = Version { major: 0, minor: 4, patch: 0 };
+pub const VERSION: Version = Version { major: 0, minor: 5, patch: 0 };
 
 /// The version of the archive that is linked.
 ///
@@ -30,7 +30,7 @@ pub fn linked_version() -> Version {
     Version { major: number / 10_000, minor: number / 100 % 100, patch: number % 100 }
 }
 
-/// Called wherever a basis is made, so that no enquiry reaches an archive with other declarations or answers. Linking
+/// Called wherever a basis or a roll is made, so that no enquiry reaches an archive with other declarations or answers. Linking
 /// another archive is a fault of the build and no answer, so it is a panic.
 pub(crate) fn check_linked_version() {
     let linked = linked_version();

@@ -133,7 +133,7 @@ fn the_rate_of_discount_may_be_below_zero() {
 fn sentences_are_those_of_the_document() {
     let document = fs::read_to_string(concat!(env!("CARGO_MANIFEST_DIR"), "/../../docs/REFUSALS.md"))
         .expect("the document is there");
-    for number in 1..=13 {
+    for number in 1..=16 {
         let refusal = Refusal { number, first: 0, second: 0 };
         let row = format!("\n| {number} | {} |", refusal.sentence());
         assert!(document.contains(&row), "docs/REFUSALS.md has no row {row:?}");
