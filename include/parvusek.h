@@ -4,7 +4,7 @@
    There is no shared state: any number of threads may call at once, also on the same data run and history.
    Units: 1,000,000,000 to one.
 
-   A basis comes as a file; parvusek_read_basis makes of it, once, the data run that every other call is lent. Every
+   A basis comes as a file; parvusek_read_basis makes of it, once, the data run that the other calls are lent. Every
    call checks its data run afresh (1, 4, 5), so nothing depends on where the host keeps it.
 
    A basis whose base year B is before its foundation year F needs a history: a second file, lent as it is, with the
