@@ -10,7 +10,7 @@ use lib.IntN.{ℤ}
 use lib.ListN.{length, take, drop, length-drop}
 use lib.Seq.{length-take-le}
 use borrow.Author.Tests.{le-leb, lt-leb, lt-ltb, le-ltb, leb-true, ltb-true, not-true}
-use Rattle.basis.specs.Outcome.{passed, refusedBy, value, refusal, unless, firstOf, checked}
+use Rattle.basis.specs.Outcome.{passed, refusedBy, value, refusal, checked}
 use Rattle.basis.specs.Refusals.{isListed}
 use Rattle.basis.proofs.Outcome.{unless-passed, both-passed, checked-value}
 use Rattle.roll.specs.Roll.{joinCheck, leaveCheck, liabilityOn, liabilityJoining}
@@ -29,7 +29,7 @@ module _ (roll : List ℕ) where
 
   pub room-passed : rollCheck roll ≡ passed → 2002 ≤ length roll
   unfolding rollCheck
-  room-passed h = leb-true _ _ (unless-passed (leb 2002 (length roll)) (refusal 11 16_016 0) h)
+  room-passed h = leb-true _ _ (unless-passed (leb 2002 (length roll)) _ h)
 
   -- ---- the numbers, as the code names their part of the list
   pub length-numbers : 2002 ≤ length roll → length (numbersIn roll) ≡ countIn roll
@@ -73,15 +73,12 @@ module _ (numbers : List ℕ) (number : ℕ) where
     pub may-join : joinCheck numbers number pension ≡ passed → MayJoin numbers number pension
     unfolding joinCheck
     may-join h =
-        let on = unless (not (isListed numbers number)) (refusal 16 number 0) in
-        let full = unless (ltb (length numbers) 500) (refusal 14 number 0) in
-        let large = unless (leb pension 10_000_000) (refusal 5 number 0) in
-        let p = both-passed on (firstOf full large) h in
-        let q = both-passed full large (p .1) in
+        let p = both-passed _ _ h in
+        let q = both-passed _ _ (p .1) in
         record {
-          unlisted = not-true (isListed numbers number) (unless-passed (not (isListed numbers number)) (refusal 16 number 0) (p .0));
-          space = ltb-true _ _ (unless-passed (ltb (length numbers) 500) (refusal 14 number 0) (q .0));
-          limited = leb-true _ _ (unless-passed (leb pension 10_000_000) (refusal 5 number 0) (q .1));
+          unlisted = not-true (isListed numbers number) (unless-passed (not (isListed numbers number)) _ (p .0));
+          space = ltb-true _ _ (unless-passed (ltb (length numbers) 500) _ (q .0));
+          limited = leb-true _ _ (unless-passed (leb pension 10_000_000) _ (q .1));
         }
 
   pub leave-passes : placeOf number numbers < length numbers → leaveCheck numbers number ≡ passed
@@ -94,7 +91,7 @@ module _ (numbers : List ℕ) (number : ℕ) where
 
   pub leave-passed : leaveCheck numbers number ≡ passed → placeOf number numbers < length numbers
   unfolding leaveCheck
-  leave-passed h = listed-place number numbers (unless-passed (isListed numbers number) (refusal 15 number 0) h)
+  leave-passed h = listed-place number numbers (unless-passed (isListed numbers number) _ h)
 
 -- ---- what an answered call says of the list: it has room, and a place more or the place that is named
 pub joining-value : (roll run history : List ℕ) (number age pension : ℕ) (l : ℤ) → joining roll run history number age pension ≡ value l
