@@ -14,7 +14,7 @@ from .refusals import GREATEST_PENSION, PensionRefusal, Refusal
 
 # The roll's numbers as include/parvusek.h has them: the year, how many are on it, then four columns of 500.
 _NUMBERS = struct.Struct(f"<{ROLL_LENGTH}Q")
-_FIRST = 2
+_STARTS = range(2, ROLL_LENGTH, ROLL_MEMBERS)
 
 # A roll's file: the mark with the form's number, the numbers, and the SHA-256 of both.
 _KIND = b"parvusek roll "
@@ -109,19 +109,18 @@ class Roll:
         """The one with a number; 15 where it is not on the roll."""
         wanted = fits("number", number)
         with self._lock:
-            columns = self._columns()
-        try:
-            place = columns[0].index(wanted)
-        except ValueError:
-            raise Refusal(15, wanted) from None
-        return Member(*(column[place] for column in columns))
+            try:
+                place = self._on_it().index(wanted)
+            except ValueError:
+                raise Refusal(15, wanted) from None
+            return Member(*(self._numbers[start + place] for start in _STARTS))
 
     def __len__(self) -> int:
         return int(self._numbers[1])
 
     def __contains__(self, number: object) -> bool:
         with self._lock:
-            return number in self._columns()[0]
+            return number in self._on_it()
 
     def __repr__(self) -> str:
         with self._lock:
@@ -132,8 +131,14 @@ class Roll:
 
     __hash__ = None  # type: ignore[assignment]  # it changes
 
+    # The lock is held where these are called.
+
+    def _on_it(self) -> list[int]:
+        """The member numbers."""
+        return self._numbers[_STARTS[0]:_STARTS[0] + len(self)]
+
     def _columns(self) -> list[list[int]]:
-        """Numbers, ages, pensions and liabilities of those who are on the roll; the lock is held."""
+        """Numbers, ages, pensions and liabilities of those who are on the roll."""
         return _columns_of(self._numbers)
 
     # ---- kept between processes
@@ -162,7 +167,7 @@ class Roll:
             raise ValueError(f"these bytes are not a roll: {fault}")
         roll = cls(numbers[0])
         roll._numbers[1] = numbers[1]
-        for start, column in zip(range(_FIRST, ROLL_LENGTH, ROLL_MEMBERS), _columns_of(numbers)):
+        for start, column in zip(_STARTS, _columns_of(numbers)):
             roll._numbers[start:start + len(column)] = column
         return roll
 
@@ -199,12 +204,12 @@ class Roll:
 
 
 def _columns_of(numbers: Sequence[int]) -> list[list[int]]:
-    return [list(numbers[start:start + numbers[1]]) for start in range(_FIRST, ROLL_LENGTH, ROLL_MEMBERS)]
+    return [list(numbers[start:start + numbers[1]]) for start in _STARTS]
 
 
 def _faults(numbers: Sequence[int]) -> Iterator[str]:
     """Why no calls can have made these numbers."""
-    year, count = numbers[:_FIRST]
+    year, count = numbers[:2]
     if year > _GREATEST:
         yield f"the year {year} has more than 32 bits"
     if count > ROLL_MEMBERS:

@@ -146,6 +146,18 @@ class Kept(RollCommand):
             put_all(drafts)
         return comes
 
+    def test_with_the_rows_on_standard_output(self) -> None:
+        kept = self.folder / "roll.bin"
+        status, said, wrong = self.run_process("roll", "-", SAMPLE / "basis.bin", "-", "--year", 2010, "--keep", kept,
+                                               given=f"{HEADER}\njoin,1,65,100\n".encode())
+        self.assertEqual((status, len(said.splitlines()), Roll.read(kept).total), (0, 2, 1570))
+        self.assertEqual(wrong.decode().splitlines()[1], f"parvusek: {kept}: the roll as it stands now")
+        process = self.start("roll", "-", SAMPLE / "basis.bin", "-", "--year", 2010, "--keep", self.folder / "other.bin")
+        assert process.stdin is not None and process.stdout is not None
+        process.stdout.close()  # the reader has gone: nothing is kept of what nobody has seen
+        process.communicate(f"{HEADER}\njoin,1,65,100\n".encode(), timeout=60)
+        self.assertEqual((process.returncode, self.files()), (141, ["roll.bin"]))
+
     def test_on_a_disk_without_links(self) -> None:
         kept = self.folder / "roll.bin"
         with mock.patch("os.link", side_effect=PermissionError(1, "no links here")):
