@@ -56,7 +56,7 @@ class Roll:
     def __init__(self, year: int) -> None:
         """Empty. The year is not checked here: in one that a basis does not answer for, each join is refused by 7."""
         self._numbers = (ctypes.c_uint64 * ROLL_LENGTH)()
-        # The engine writes into the numbers while other threads run. Held again by one thread where a signal's handler asks.
+        # The engine writes into the numbers while other threads run. A handler of a signal may ask in between.
         self._lock = threading.RLock()
         accepted(library().parvusek_roll_open(fits("year", year), self._numbers, ROLL_LENGTH))
 
@@ -228,4 +228,5 @@ def _faults(numbers: Sequence[int]) -> Iterator[str]:
         if member.pension > GREATEST_PENSION:
             yield f"{of_it} has a pension of {member.pension:,} pence, which is above {GREATEST_PENSION:,}"
         if not member.pension <= member.liability <= _GREATEST_ANNUITY * member.pension:
-            yield f"{of_it} has a liability of {member.liability:,} pence, which no annuity makes of {member.pension:,} a year"
+            yield (f"{of_it} has a liability of {member.liability:,} pence, which no annuity makes of "
+                   f"{member.pension:,} a year")

@@ -86,7 +86,8 @@ def refusals_said(counts: Counts) -> str:
 
 def lines_said(counts: Counts) -> str:
     said = f"; {number_of(counts.blank, 'blank line')} passed over" if counts.blank else ""
-    return said + (f"; {number_of(counts.over_several_lines, 'row')} over several lines" if counts.over_several_lines else "")
+    said += f"; {number_of(counts.over_several_lines, 'row')} over several lines" if counts.over_several_lines else ""
+    return said
 
 
 def warn_of_rows(counts: Counts) -> None:

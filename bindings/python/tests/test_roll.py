@@ -12,6 +12,7 @@ import threading
 import unittest
 from fractions import Fraction
 from math import floor
+from typing import Optional
 
 import parvusek.roll
 from parvusek import UNIT, Basis, Kind, Member, Refusal, Roll
@@ -101,29 +102,49 @@ class Calls(Rolls):
     def test_random_calls(self) -> None:
         """Against a list kept beside it, with two bases and every refusal that numbers alone can give."""
         chance = random.Random(6)
-        roll, kept = Roll(2010), []
+        roll, listed = Roll(2010), Listed()
         for _ in range(4_000):
-            number, age, pension = chance.randrange(700), chance.randrange(19, 152), chance.choice((0, 1, 99_999, 10**7, 10**7 + 1))
-            on_it = number in [member.number for member in kept]
-            if chance.random() < 0.3:
-                wanted = 0 if on_it else 15
-                if on_it:
-                    kept = [member for member in kept if member.number != number]
-                call = lambda: roll.leave(number)
-            else:
-                basis = chance.choice((self.basis, self.older))
-                wanted = (16 if on_it else 14 if len(kept) == MOST else 5 if pension > GREATEST_PENSION
-                          else 0 if 20 <= age <= 150 else 6)
-                if not wanted:
-                    kept.append(Member(number, age, pension, liability(basis, age, pension, 2010)))
-                call = lambda: roll.join(basis, number, age, pension)
-            total = sum(member.liability for member in kept)
+            number, age = chance.randrange(700), chance.randrange(19, 152)
+            pension = chance.choice((0, 1, 99_999, GREATEST_PENSION, GREATEST_PENSION + 1))
+            basis = chance.choice((self.basis, self.older))
+            is_join = chance.random() < 0.7
+            wanted = listed.join(basis, number, age, pension) if is_join else listed.leave(number)
             try:
-                self.assertEqual((call(), 0), (total, wanted))
+                total = roll.join(basis, number, age, pension) if is_join else roll.leave(number)
+                self.assertEqual((total, wanted), (listed.total, None))
             except Refusal as refusal:
-                self.assertEqual((refusal.number, refusal.first, refusal.second), (wanted, age if wanted == 6 else number, 0))
-            self.assertEqual((roll.total, len(roll)), (total, len(kept)))
-        self.assertEqual(roll.members, tuple(kept))
+                self.assertEqual(refusal, wanted)
+            self.assertEqual((roll.total, len(roll)), (listed.total, len(listed.members)))
+        self.assertEqual(roll.members, tuple(listed.members))
+
+
+class Listed:
+    """Who is on the roll by a list of calls, and the refusal that each call should meet."""
+
+    def __init__(self) -> None:
+        self.members: list[Member] = []
+
+    @property
+    def total(self) -> int:
+        return sum(member.liability for member in self.members)
+
+    def join(self, basis: Basis, number: int, age: int, pension: int) -> Optional[Refusal]:
+        if number in [member.number for member in self.members]:
+            return Refusal(16, number)
+        if len(self.members) == MOST:
+            return Refusal(14, number)
+        if pension > GREATEST_PENSION:
+            return Refusal(5, number)
+        if not 20 <= age <= 150:
+            return Refusal(6, age)
+        self.members.append(Member(number, age, pension, liability(basis, age, pension, 2010)))
+        return None
+
+    def leave(self, number: int) -> Optional[Refusal]:
+        left = [member for member in self.members if member.number == number]
+        for member in left:
+            self.members.remove(member)
+        return None if left else Refusal(15, number)
 
 
 class Refused(Rolls):
@@ -132,8 +153,8 @@ class Refused(Rolls):
         roll.join(self.basis, 7, 65, 1)
         self.assertEqual(str(self.refused(roll, "join", self.basis, 7, 65, 1)),
                          "refused 16: the member number is on the roll already (member 7)")
-        self.assertEqual(str(self.refused(roll, "leave", 8)), "refused 15: the member number is not on the roll (member 8)")
-        self.assertEqual(str(self.refused(roll, "member", 8)), "refused 15: the member number is not on the roll (member 8)")
+        for call in ("leave", "member"):
+            self.assertEqual(str(self.refused(roll, call, 8)), "refused 15: the member number is not on the roll (member 8)")
         self.assertEqual(str(self.refused(roll, "join", self.basis, 8, 19, 1)), "refused 6: age outside 20 to 150 (age 19)")
         self.assertEqual(self.refused(roll, "join", Basis(self.older.run), 8, 65, 1), Refusal(13, 6_144))
 
@@ -159,7 +180,8 @@ class Refused(Rolls):
     def test_a_full_roll(self) -> None:
         roll = self.full()
         self.assertEqual(len(roll), MOST)
-        self.assertEqual(str(self.refused(roll, "join", self.basis, 500, 19, 10**8)), "refused 14: the roll is full (member 500)")
+        refusal = self.refused(roll, "join", self.basis, 500, 19, 10**8)
+        self.assertEqual(str(refusal), "refused 14: the roll is full (member 500)")
         self.assertEqual(self.refused(roll, "join", self.basis, 499, 19, 10**8), Refusal(16, 499))
         before = roll.members
         roll.leave(250)
@@ -169,9 +191,9 @@ class Refused(Rolls):
 
     def test_numbers_that_do_not_fit(self) -> None:
         roll = Roll(2010)
-        for call, arguments in (("join", (2**32, 65, 1)), ("join", (1, 2**32, 1)), ("join", (1, 65, 2**32)), ("join", (-1, 65, 1))):
+        for arguments in ((2**32, 65, 1), (1, 2**32, 1), (1, 65, 2**32), (-1, 65, 1), (1, -65, 1), (1, 65, -1)):
             with self.assertRaises(ValueError):
-                getattr(roll, call)(self.basis, *arguments)
+                roll.join(self.basis, *arguments)
         for wrong in (2**32, -1):
             for call in (roll.leave, roll.member, Roll):
                 with self.assertRaises(ValueError):
@@ -221,7 +243,8 @@ class Kept(Rolls):
         roll.join(self.basis, 7, 65, 100)
         roll.join(self.basis, 8, 66, 0)
         for place, number, why in ((0, 2**32, "year 4294967296"), (1, 501, "501 members"), (1, 2**64 - 1, "members"),
-                                   (1, 3, "3. member, number 0, has the age 0"), (3, 7, "2. member, number 7, is on it already"),
+                                   (1, 3, "3. member, number 0, has the age 0"),
+                                   (3, 7, "2. member, number 7, is on it already"),
                                    (2, 2**32 + 8, "more than 32 bits"), (502, 19, "age 19"), (502, 151, "age 151"),
                                    (1002, 10_000_001, "10,000,001 pence"), (1502, 99, "liability of 99 pence"),
                                    (1502, 52_401, "liability of 52,401"), (1503, 1, "liability of 1 pence")):

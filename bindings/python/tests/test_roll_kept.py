@@ -25,8 +25,9 @@ class Record(RollCommand):
 
     def test_its_contents(self) -> None:
         kept = self.folder / "roll.bin"
-        self.roll(["join,1,65,1000000,", "join,2,65,1000000,old", "join,2,65,1,", "leave,1,,,", "", "leave,9,,,"], "--keep", kept,
-                  "--basis", f"old={OLDER / 'basis.bin'}", "--basis", f"idle={SAMPLE / 'basis.bin'}", header=HEADER + ",basis")
+        self.roll(["join,1,65,1000000,", "join,2,65,1000000,old", "join,2,65,1,", "leave,1,,,", "", "leave,9,,,"],
+                  "--keep", kept, "--basis", f"old={OLDER / 'basis.bin'}", "--basis", f"idle={SAMPLE / 'basis.bin'}",
+                  header=HEADER + ",basis")
         found = self.record()
         self.assertLess(found.pop("started"), found.pop("finished"))
         roll = Roll.read(kept)
@@ -37,7 +38,8 @@ class Record(RollCommand):
         self.assertEqual(found, {
             "record": "parvusek roll", "version": __version__, "year": 2010, "basis": {**new, "joined": 1},
             "bases": {"old": {**old, "joined": 1}, "idle": {**new, "joined": 0}},
-            "calls": self.file(self.folder / "calls.csv"), "roll": None, "out": self.file(self.out), "keep": self.file(kept),
+            "calls": self.file(self.folder / "calls.csv"), "roll": None, "out": self.file(self.out),
+            "keep": self.file(kept),
             "rows": 5, "joined": 2, "left": 1, "refused": 2, "refusals": {"15": 1, "16": 1}, "blank_lines": 1,
             "rows_over_several_lines": 0, "before": {"members": 0, "total": 0},
             "after": {"members": 1, "total": roll.total}})
@@ -70,7 +72,8 @@ class Record(RollCommand):
 class Kept(RollCommand):
     def test_night_after_night(self) -> None:
         """Runs that continue each other's roll end where one run over all the calls does."""
-        calls = [["join,1,65,100", "join,2,70,200"], ["leave,1,,", "join,3,75,300", "join,2,70,1"], [], ["join,1,66,100", "leave,3,,"]]
+        calls = [["join,1,65,100", "join,2,70,200"], ["leave,1,,", "join,3,75,300", "join,2,70,1"], [],
+                 ["join,1,66,100", "leave,3,,"]]
         whole = self.roll([call for night in calls for call in night], "--keep", self.folder / "whole.bin")
         rows, before = [], []
         for night, its_calls in enumerate(calls):
@@ -96,8 +99,9 @@ class Kept(RollCommand):
         file = kept.read_bytes()
         flipped = bytearray(file)
         flipped[8 * 1502 + 16] ^= 1
-        for content, why in ((b"", "it is not the file of a roll"), ((SAMPLE / "basis.bin").read_bytes(), "it is not the file of a roll"),
-                             (file[:-1], "not 16,063"), (file * 2, "not 16,065"), (bytes(flipped), "its check is wrong"),
+        none = "it is not the file of a roll"
+        for content, why in ((b"", none), ((SAMPLE / "basis.bin").read_bytes(), none), (file[:-1], "not 16,063"),
+                             (file * 2, "not 16,065"), (bytes(flipped), "its check is wrong"),
                              (file.replace(b"roll 1", b"roll 2"), "in another form")):
             wrong_one.write_bytes(content)
             status, said, wrong = self.roll_bytes(HEADER.encode(), "--roll", wrong_one, year=None)
@@ -130,7 +134,8 @@ class Kept(RollCommand):
     def test_a_file_that_comes_meanwhile_stays(self) -> None:
         kept = self.folder / "roll.bin"
         for link in (os.link, mock.Mock(side_effect=PermissionError(1, "no links here"))):
-            with mock.patch("parvusek.roll_command.put_all", side_effect=self.after_coming(kept)), mock.patch("os.link", link):
+            comes = mock.patch("parvusek.roll_command.put_all", side_effect=self.after_coming(kept))
+            with comes, mock.patch("os.link", link):
                 status, said, wrong = self.roll_bytes(HEADER.encode(), "--keep", kept)
             self.assertEqual((status, said), (1, ""))
             self.assertIn(f"{kept} has come meanwhile; it stays, and no output has taken its place", wrong)
@@ -185,13 +190,15 @@ class Unchanged(RollCommand):
             self.out = self.folder / out
             (self.folder / "calls.csv").write_text(HEADER)
             before = self.out.read_bytes()
-            status, _, wrong = self.roll_bytes(HEADER.encode(), "--basis", f"a={named}", "--roll", self.folder / "kept.bin", "--no-record")
+            status, _, wrong = self.roll_bytes(HEADER.encode(), "--basis", f"a={named}", "--roll",
+                                               self.folder / "kept.bin", "--no-record")
             self.assertEqual((status, self.out.read_bytes()), (1, before))
             self.assertIn(" itself; name another", wrong)
 
     def test_stopped(self) -> None:
         for number in (signal.SIGTERM, signal.SIGINT):
-            process = self.start("roll", "-", SAMPLE / "basis.bin", self.out, "--year", "2010", "--keep", self.folder / "roll.bin")
+            process = self.start("roll", "-", SAMPLE / "basis.bin", self.out, "--year", "2010", "--keep",
+                                 self.folder / "roll.bin")
             assert process.stdin is not None
             process.stdin.write(f"{HEADER}\n".encode() + b"join,1,65,100\nleave,1,,\n" * 10_000)
             process.stdin.flush()
