@@ -275,22 +275,28 @@ class Kept(Rolls):
 
 class Used(Rolls):
     def test_by_threads_at_once(self) -> None:
-        """Every call is whole: none is lost, and the total is the sum."""
-        roll, seen = Roll(2010), []
+        """Every call is whole: no member is lost or refused, and the total is the sum."""
+        roll, begin, refused = Roll(2010), threading.Barrier(4), []
 
         def joins_and_leaves(first: int) -> None:
-            for number in range(first, first + 100):
-                seen.append(roll.join(self.basis, number, 65, 1_000))
-                if number % 2:
+            begin.wait()
+            try:
+                for number in [*range(first, first + 100)] * 10:
+                    roll.join(self.basis, number, 65, 1_000)
                     roll.leave(number)
+                for number in range(first, first + 50):
+                    roll.join(self.basis, number, 65, 1_000)
+            except Refusal as refusal:
+                refused.append(refusal)
 
         threads = [threading.Thread(target=joins_and_leaves, args=(first,)) for first in range(0, 400, 100)]
         for thread in threads:
             thread.start()
         for thread in threads:
             thread.join()
-        self.assertEqual((len(roll), len(seen)), (200, 400))
-        self.assertEqual(sorted(member.number for member in roll.members), list(range(0, 400, 2)))
+        self.assertEqual(refused, [])
+        self.assertEqual(sorted(member.number for member in roll.members),
+                         [number for first in range(0, 400, 100) for number in range(first, first + 50)])
         self.assertEqual(roll.total, 200 * liability(self.basis, 65, 1_000, 2010))
 
     def test_example(self) -> None:
