@@ -24,6 +24,7 @@ from .runs import Hashed, expected, lines_said, number_of, opened, refusals_said
 from .shown_tables import show
 from .tables import Tables, actual_years
 
+
 # ---- value
 
 def value(options: argparse.Namespace) -> int:

@@ -56,7 +56,8 @@ class Roll:
     def __init__(self, year: int) -> None:
         """Empty. The year is not checked here: in one that a basis does not answer for, each join is refused by 7."""
         self._numbers = (ctypes.c_uint64 * ROLL_LENGTH)()
-        # The engine writes into the numbers while other threads run. A handler of a signal may ask in between.
+        # The engine writes into the numbers while other threads run. A thread may hold it twice: a signal's handler may
+        # call while a call ends.
         self._lock = threading.RLock()
         accepted(library().parvusek_roll_open(fits("year", year), self._numbers, ROLL_LENGTH))
 
@@ -102,25 +103,22 @@ class Roll:
     @property
     def members(self) -> tuple[Member, ...]:
         """Those who are on the roll, in the order of joining."""
-        with self._lock:
-            return tuple(map(Member, *self._columns()))
+        return tuple(map(Member, *_columns_of(self._copied())))
 
     def member(self, number: int) -> Member:
         """The one with a number; 15 where it is not on the roll."""
-        wanted = fits("number", number)
-        with self._lock:
-            try:
-                place = self._on_it().index(wanted)
-            except ValueError:
-                raise Refusal(15, wanted) from None
-            return Member(*(self._numbers[start + place] for start in _STARTS))
+        wanted, numbers = fits("number", number), self._copied()
+        try:
+            place = _numbers_on(numbers).index(wanted)
+        except ValueError:
+            raise Refusal(15, wanted) from None
+        return Member(*(numbers[start + place] for start in _STARTS))
 
     def __len__(self) -> int:
         return int(self._numbers[1])
 
     def __contains__(self, number: object) -> bool:
-        with self._lock:
-            return number in self._on_it()
+        return number in _numbers_on(self._copied())
 
     def __repr__(self) -> str:
         with self._lock:
@@ -131,15 +129,10 @@ class Roll:
 
     __hash__ = None  # type: ignore[assignment]  # it changes
 
-    # The lock is held where these are called.
-
-    def _on_it(self) -> list[int]:
-        """The member numbers."""
-        return self._numbers[_STARTS[0]:_STARTS[0] + len(self)]
-
-    def _columns(self) -> list[list[int]]:
-        """Numbers, ages, pensions and liabilities of those who are on the roll."""
-        return _columns_of(self._numbers)
+    def _copied(self) -> "memoryview[int]":
+        """The numbers as they stand between two calls."""
+        with self._lock:
+            return memoryview(bytes(self._numbers)).cast("Q")
 
     # ---- kept between processes
 
@@ -149,17 +142,17 @@ class Roll:
         What stands behind those who are on the roll is 0: of who has left nothing is kept, and rolls with the same year
         and the same members have the same bytes.
         """
-        with self._lock:
-            numbers = [self.year, len(self)]
-            for column in self._columns():
-                numbers += column + [0] * (ROLL_MEMBERS - len(column))
+        copied = self._copied()
+        numbers = list(copied[:2])
+        for column in _columns_of(copied):
+            numbers += column + [0] * (ROLL_MEMBERS - len(column))
         return _NUMBERS.pack(*numbers)
 
     @classmethod
     def from_bytes(cls, content: bytes) -> "Roll":
         """The roll of such bytes, also of those that a program in C has kept. ValueError says why, where no calls can
         have made them: the engine adds up whatever it is given."""
-        content = bytes(content)
+        content = memoryview(content).tobytes()
         if len(content) != _NUMBERS.size:
             raise ValueError(f"a roll has {_NUMBERS.size:,} bytes, not {len(content):,}")
         numbers = _NUMBERS.unpack(content)
@@ -182,7 +175,7 @@ class Roll:
     @classmethod
     def from_file(cls, file: bytes) -> "Roll":
         """The roll of the bytes of such a file; ValueError where they are none, or not whole."""
-        file = bytes(file)
+        file = memoryview(file).tobytes()
         if not file.startswith(_MARK):
             raise ValueError("it is the file of a roll in another form, which this version does not read"
                              if file.startswith(_KIND) else "it is not the file of a roll")
@@ -204,7 +197,13 @@ class Roll:
 
 
 def _columns_of(numbers: Sequence[int]) -> list[list[int]]:
+    """Member numbers, ages, pensions and liabilities of those who are on the roll."""
     return [list(numbers[start:start + numbers[1]]) for start in _STARTS]
+
+
+def _numbers_on(numbers: "memoryview[int]") -> list[int]:
+    """The member numbers alone."""
+    return numbers[_STARTS[0]:_STARTS[0] + numbers[1]].tolist()
 
 
 def _faults(numbers: Sequence[int]) -> Iterator[str]:

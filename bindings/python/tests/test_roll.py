@@ -3,6 +3,7 @@
 The totals are worked out here from the annuities and the list of calls, with fractions.
 """
 
+import array
 import copy
 import doctest
 import os
@@ -255,6 +256,14 @@ class Kept(Rolls):
         for length in (0, 16_015, 16_017):
             with self.assertRaisesRegex(ValueError, f"16,016 bytes, not {length:,}"):
                 Roll.from_bytes(bytes(length))
+        for odd in (16_016, None, "7"):
+            with self.assertRaises(TypeError):
+                Roll.from_bytes(odd)  # type: ignore[arg-type]
+
+    def test_from_what_a_host_may_hold(self) -> None:
+        roll = self.full()
+        for content in (bytearray(roll.to_bytes()), memoryview(roll.to_bytes()), array.array("Q", roll.to_bytes())):
+            self.assertEqual(Roll.from_bytes(content), roll)  # type: ignore[arg-type]
 
     def test_files_that_are_no_roll(self) -> None:
         file = self.full().to_file()
