@@ -7,7 +7,8 @@
 
 Values are whole units, 1,000,000,000 to one. What is refused raises `Refusal`. A basis whose base year is
 before its foundation year is read with its history, `Basis.read("basis.bin", "history.bin")`. The command
-line, `python3 -m parvusek --help`, values a CSV of members and makes a basis from CSV tables.
+line, `python3 -m parvusek --help`, values a CSV of members, runs a CSV of joins and leaves through a roll of
+pensions in payment (`Roll`), and makes a basis from CSV tables.
 """
 
 from ._library import LibraryNotFound
@@ -16,9 +17,10 @@ from .basis import (FILE_LENGTH, RUN_LENGTH, Answer, Basis, Kind, Lifeline, Ques
                     Standing)
 from .history import history_file, improvements_of
 from .refusals import Refusal
+from .roll import Member, Roll
 from .decimals import UNIT, decimal, units
 
 __all__ = [
-    "Answer", "Basis", "FILE_LENGTH", "Kind", "LibraryNotFound", "Lifeline", "Question", "RUN_LENGTH",
-    "Refusal", "Results", "Standing", "UNIT", "decimal", "history_file", "improvements_of", "units",
+    "Answer", "Basis", "FILE_LENGTH", "Kind", "LibraryNotFound", "Lifeline", "Member", "Question", "RUN_LENGTH",
+    "Refusal", "Results", "Roll", "Standing", "UNIT", "decimal", "history_file", "improvements_of", "units",
 ]

@@ -1,4 +1,4 @@
-"""The command line: parvusek value | basis make | basis show | basis check, or python3 -m parvusek."""
+"""The command line: parvusek value | roll | basis make | basis show | basis check, or python3 -m parvusek."""
 
 import io
 import os
@@ -11,9 +11,10 @@ if __name__ == "__main__" and signal.getsignal(signal.SIGINT) is not signal.SIG_
 
 from . import signals
 from ._library import LibraryNotFound
-from .commands import COMMANDS, warn
+from .commands import COMMANDS
 from .errors import CommandError
 from .options import parser
+from .runs import warn
 
 _BROKEN_PIPE = 128 + 13
 
@@ -65,9 +66,9 @@ def _run(arguments: Optional[Sequence[str]]) -> int:
 def _status(arguments: Optional[Sequence[str]]) -> int:
     try:
         options = parser(COMMANDS).parse_args(arguments)
+        return int(options.command(options))
     except SystemExit as ending:  # after --help and --version, or for a wrong command line
         return int(ending.code or 0)
-    return int(options.command(options))
 
 
 def _flush() -> None:

@@ -10,6 +10,8 @@ from ._version import __version__
 
 SMALL_SET_POINTS = 6
 GRID_RECORDS = 119
+ROLL_MEMBERS = 500
+ROLL_LENGTH = 2_002
 
 
 class LibraryNotFound(OSError):
@@ -65,6 +67,7 @@ _BYTES: list[Any] = [ctypes.c_char_p, ctypes.c_size_t]
 _BASIS = _BYTES + _BYTES
 _CELL = _BASIS + [ctypes.c_uint32] * 2
 _VALUE = _BASIS + [ctypes.c_uint32] * 3
+_ROLL: list[Any] = [ctypes.POINTER(ctypes.c_uint64), ctypes.c_size_t]
 
 FUNCTIONS: dict[str, tuple[list[Any], Any]] = {
     "parvusek_version": ([], ctypes.c_uint32),
@@ -85,6 +88,10 @@ FUNCTIONS: dict[str, tuple[list[Any], Any]] = {
     "parvusek_grid": (_BASIS + [ctypes.POINTER(CPoint), ctypes.c_size_t], CRefusal),
     "parvusek_lifeline_start": (_CELL, CLifeline),
     "parvusek_lifeline_step": (_CELL + [ctypes.c_uint64], CLifeline),
+    "parvusek_roll_open": ([ctypes.c_uint32] + _ROLL, CRefusal),
+    "parvusek_roll_join": (_BASIS + _ROLL + [ctypes.c_uint32] * 3, CAnswer),
+    "parvusek_roll_leave": (_ROLL + [ctypes.c_uint32], CAnswer),
+    "parvusek_roll_total": (_ROLL, CAnswer),
 }
 
 
@@ -135,7 +142,7 @@ def _opened() -> tuple[str, ctypes.CDLL]:
 def version_text(number: int) -> str:
     """The version that parvusek_version tells as one number.
 
-    >>> version_text(400), version_text(1_02_03)
+    >>> version_text(5_00), version_text(1_02_03)
     ('0.5.0', '1.2.3')
     """
     return f"{number // 10_000}.{number // 100 % 100}.{number % 100}"

@@ -1,38 +1,28 @@
-"""What each command does: value, and basis make, show and check. Each gives the exit status."""
+"""What each command does: value, and basis make, show and check; roll has a file of its own. Each gives the exit status."""
 
 import argparse
 import contextlib
-import hashlib
 import os
-import sys
 from pathlib import Path
-from typing import BinaryIO, Iterator, NamedTuple, Optional
+from typing import NamedTuple, Optional
 
 from . import provenance
 from .basis import Basis
 from .basis_files import (ReadBasis, history_beside, histories_of, not_anothers, places_to_make, read_basis, sha256,
                           write_basis)
-from .csv_source import EncodingError, Source
+from .carried import Counts
+from .csv_source import Source
 from .decimals import decimal
-from .errors import Collected, CommandError, naming
+from .errors import Collected, CommandError
 from .layout import ACTUAL_FILE, FILES
-from .members import Counts, value_members
+from .members import value_members
 from .options import REFUSED_ROWS
-from .outputs import STANDARD, Draft, Place, apart, drafted, not_an_input, place_of, put_all
+from .outputs import Place, apart, drafted, not_an_input, place_of, put_all
 from .progress import Progress
+from .roll_command import roll
+from .runs import Hashed, expected, lines_said, number_of, opened, refusals_said, say, source_of, warn, warn_of_rows
 from .shown_tables import show
 from .tables import Tables, actual_years
-
-
-def say(text: str) -> None:
-    print(text)
-
-
-def warn(text: str) -> None:
-    """One line on standard error, which may be closed."""
-    if sys.stderr is not None:
-        with contextlib.suppress(OSError, ValueError):
-            print(f"parvusek: {text}", file=sys.stderr, flush=True)
 
 
 # ---- value
@@ -43,7 +33,7 @@ def value(options: argparse.Namespace) -> int:
         prepared = _prepared(options, stack)
         source, values, record = prepared.source, prepared.values, prepared.record
         drafts = stack.enter_context(drafted(record, values))
-        written = _Hashed(drafts[-1])
+        written = Hashed(drafts[-1])
         try:
             counts = value_members(prepared.read.basis, source, written.write, prepared.progress)
         finally:
@@ -72,10 +62,10 @@ def _prepared(options: argparse.Namespace, stack: contextlib.ExitStack) -> _Prep
     wrong = Collected()
     members = read = values = record = None
     with wrong.check():
-        members = stack.enter_context(_members(options.members))
+        members = stack.enter_context(opened(options.members, "members"))
     with wrong.check():
         read = read_basis(options.basis, options.history, options.no_history)
-        _expected(options, read)
+        expected(options, read)
     with wrong.check():
         values = place_of(options.out)
         not_an_input(values, _inputs(options))
@@ -86,7 +76,8 @@ def _prepared(options: argparse.Namespace, stack: contextlib.ExitStack) -> _Prep
     wrong.end()
     assert members is not None and read is not None and values is not None
     raw, size = members
-    return _Prepared(read, _source(raw, options), Progress(raw if size else None, size), values, record)
+    source = source_of(raw, options.members, "members", options.encoding)
+    return _Prepared(read, source, Progress(raw if size else None, size), values, record)
 
 
 def _inputs(options: argparse.Namespace) -> list[tuple[str, Optional[str]]]:
@@ -94,79 +85,15 @@ def _inputs(options: argparse.Namespace) -> list[tuple[str, Optional[str]]]:
     return [("file of members", options.members), ("basis file", options.basis)] + [("history", path) for path in histories]
 
 
-def _expected(options: argparse.Namespace, read: ReadBasis) -> None:
-    wrong = Collected()
-    for path, found, wanted in ((read.path, read.sha256, options.expect),
-                                (read.history_path, read.history_sha256, options.expect_history)):
-        if wanted is not None and found != wanted:
-            with wrong.check():
-                raise CommandError(f"{read.path} has no history, and one is expected" if found is None else
-                                   f"{path} has the SHA-256 {found}, and {wanted} is expected; nothing is valued")
-    wrong.end()
-
-
-@contextlib.contextmanager
-def _members(path: str) -> Iterator[tuple[BinaryIO, int]]:
-    """The members to read and their size; - is standard input, whose size is not known."""
-    if path == STANDARD:
-        if sys.stdin is None:
-            raise CommandError("standard input is closed, from which the members are read")
-        yield sys.stdin.buffer, 0
-        return
-    with naming(f"the file of members {path}"):
-        file = open(path, "rb")
-    with file:
-        yield file, os.fstat(file.fileno()).st_size
-
-
-def _source(raw: BinaryIO, options: argparse.Namespace) -> Source:
-    try:
-        return Source(raw, options.encoding, "standard input" if options.members == STANDARD
-                      else f"the file of members {options.members}")
-    except EncodingError as error:
-        raise CommandError(f"{options.members}: {error}") from error
-
-
-class _Hashed:
-    """A draft whose SHA-256 is worked out while it is written."""
-
-    def __init__(self, draft: Draft) -> None:
-        self._draft, self._hash = draft, hashlib.sha256()
-
-    def write(self, content: bytes) -> None:
-        self._hash.update(content)
-        self._draft.write(content)
-
-    @property
-    def sha256(self) -> str:
-        return self._hash.hexdigest()
-
-
 def _tell(options: argparse.Namespace, values: Place, record: Optional[Place], counts: Counts) -> None:
     """What was done: on standard output, or on standard error where the values may have gone to standard output."""
     tell = say if values.is_file else warn
     without = "" if record is not None or options.no_record else "; no record is written for it"
-    tell(f"{values.spoken}: {_counted(counts)}{without}")
+    tell(f"{values.spoken}: {number_of(counts.rows, 'row')}, {counts.valued:,} valued, {refusals_said(counts)}"
+         f"{lines_said(counts)}{without}")
     if record is not None:
         tell(f"{record.name}: the record of this valuation")
-    if counts.wrong_bytes:
-        warn(f"refused for bytes of another encoding: {_number_of(counts.wrong_bytes, 'row')}, the first in "
-             f"{counts.first_wrong_byte}")
-    if counts.rows and not counts.valued:
-        warn("every row is refused")
-
-
-def _counted(counts: Counts) -> str:
-    by_number = ", ".join(f"{counts.refusals[number]:,} by {number}" for number in sorted(counts.refusals))
-    said = (f"{_number_of(counts.rows, 'row')}, {counts.valued:,} valued, {counts.refused:,} refused"
-            f"{f': {by_number}' if by_number else ''}")
-    said += f"; {_number_of(counts.blank, 'blank line')} passed over" if counts.blank else ""
-    said += f"; {_number_of(counts.over_several_lines, 'row')} over several lines" if counts.over_several_lines else ""
-    return said
-
-
-def _number_of(count: int, what: str) -> str:
-    return f"{count:,} {what}{'' if count == 1 else 's'}"
+    warn_of_rows(counts)
 
 
 # ---- basis make, show and check
@@ -181,7 +108,7 @@ def make(options: argparse.Namespace) -> int:
     if history is not None:
         tell(f"{history.name}: {_years(basis)}")
     if tables.rounded:
-        tell(f"{place.spoken}: rounded to nine decimals: {_number_of(tables.rounded, 'rate')}")
+        tell(f"{place.spoken}: rounded to nine decimals: {number_of(tables.rounded, 'rate')}")
     tell(f"{place.spoken}: SHA-256 {sha256(basis.to_file())}")
     if history is not None:
         tell(f"{history.name}: SHA-256 {sha256(basis.history)}")
@@ -249,4 +176,4 @@ def _years(basis: Basis) -> str:
     return f"history of {years[0]} to {years[-1]}"
 
 
-COMMANDS = {"value": value, "make": make, "show": show_tables, "check": check}
+COMMANDS = {"value": value, "roll": roll, "make": make, "show": show_tables, "check": check}

@@ -17,10 +17,11 @@ STATUSES = """exit status:
   128+n  stopped by signal n, such as 130 by Ctrl-C and 143 by SIGTERM; no output has taken its place.
          141: the reader of standard output has gone"""
 
-_DESCRIPTION = """Values pension members and makes bases, by the proved engine.
+_DESCRIPTION = """Values pension members, keeps a roll of pensions in payment and makes bases, by the proved engine.
 
   parvusek basis make TABLES basis.bin
   parvusek value members.csv basis.bin values.csv
+  parvusek roll calls.csv basis.bin rows.csv --year 2010
 """
 
 _HISTORY = """The history of m.bin is m.history.bin beside it, if it is there and no other is named; history.bin is
@@ -53,6 +54,36 @@ history, the members and the values, and the counts. There is none where OUT.csv
 
 {_HISTORY} A basis whose base year is before its foundation year is
 valued with its history. One that does not belong to the basis is an error."""
+
+_ROLL = f"""Makes the calls of a CSV on a roll of pensions in payment, and keeps the running total.
+
+CALLS.csv has a header row with the columns call, number, age and pension, in any order and case and beside
+any others. A call is join or leave; number is the member number; pension is a yearly one, in whole pence,
+of at most 10,000,000. Of a leave age and pension are not looked at, and its row may end before them. The
+calls are made in the order of the rows, on a roll of at most 500 members. A liability is pension x cohort
+annuity in the roll's year, in whole pence; it is set at the join and stays.
+
+OUT.csv has the same rows as they stand and in the same order, with seven more columns:
+
+  liability   of the member who joins by this row, in pence; nothing otherwise
+  members     how many are on the roll after this row
+  total       the total after this row, in pence; after a refused row it is what it was
+  refusal, first, second, message
+      the refusal's number, its two places and what it says, or nothing where the call is made
+
+A refused row changes nothing on the roll. A row that is not of the form is refused as 12 with its line: the
+numbers are whole, 0 to 4,294,967,295 without a needless leading zero. The other refusals are the engine's.
+
+A column basis, if there is one, names the basis of a join by a NAME of --basis NAME=FILE; where it is empty,
+it is BASIS.bin. A NAME that no --basis gives makes the row 12, and the summary tells the first. Every basis
+is read and checked before the first call, each with the history beside it.
+
+--keep FILE keeps the roll as it stands after the last row, for a later run to continue with --roll FILE. It
+is there only once OUT.csv is whole. No file that is there is written over, so that no run is lost and each
+can be made again: name another, and move it once the run has ended well.
+
+Separators, encodings, blank lines, outputs, the record OUT.csv.json and histories are as in 'parvusek value'.
+"""
 
 _MAKE = """Makes a basis file, and its history file, from a folder of CSV tables; the engine checks both.
 
@@ -91,6 +122,7 @@ def parser(commands: Mapping[str, Callable[[argparse.Namespace], int]]) -> argpa
     top.add_argument("--version", action="version", version=f"parvusek {__version__}")
     choices = top.add_subparsers(required=True, metavar="COMMAND")
     _value(choices).set_defaults(command=commands["value"])
+    _roll(choices).set_defaults(command=commands["roll"])
     parts = _add(choices, "basis", "Makes, shows and checks basis files.").add_subparsers(required=True, metavar="COMMAND")
     _make(parts).set_defaults(command=commands["make"])
     _show(parts).set_defaults(command=commands["show"])
@@ -124,8 +156,27 @@ def _add_encoding(added: argparse.ArgumentParser, what: str) -> None:
 def _value(commands: Any) -> argparse.ArgumentParser:
     added = _add(commands, "value", _VALUE, ("MEMBERS.csv", "the members; - reads standard input"),
                  ("BASIS.bin", "the basis file"), ("OUT.csv", "the values; - writes standard output"))
+    _add_run(added, "MEMBERS.csv and OUT.csv")
+    return added
+
+
+def _roll(commands: Any) -> argparse.ArgumentParser:
+    added = _add(commands, "roll", _ROLL, ("CALLS.csv", "the calls; - reads standard input"),
+                 ("BASIS.bin", "the basis file"), ("OUT.csv", "the rows with the total; - writes standard output"))
+    added.add_argument("--year", type=_year, help="the valuation year of a roll that is opened empty")
+    added.add_argument("--roll", metavar="FILE", help="continue the roll that an earlier run has kept, in its year")
+    added.add_argument("--keep", metavar="FILE", help="keep the roll as it stands after the last row, in a new file")
+    added.add_argument("--basis", metavar="NAME=FILE", dest="bases", type=_named, action="append", default=[],
+                       help="a basis file that the column basis names; may be given again")
+    _add_run(added, "CALLS.csv and OUT.csv")
+    added.set_defaults(wrong=added.error)
+    return added
+
+
+def _add_run(added: argparse.ArgumentParser, what: str) -> None:
+    """For a command that carries the rows of a CSV over into another."""
     _add_history(added)
-    _add_encoding(added, "MEMBERS.csv and OUT.csv")
+    _add_encoding(added, what)
     added.add_argument("--expect", metavar="SHA256", type=_sha256, help="value only with the basis file that has this SHA-256")
     added.add_argument("--expect-history", metavar="SHA256", type=_sha256, help="and with the history that has this one")
     added.add_argument("--fail-on-refusal", action="store_true",
@@ -133,7 +184,6 @@ def _value(commands: Any) -> argparse.ArgumentParser:
     record = added.add_mutually_exclusive_group()
     record.add_argument("--record", metavar="FILE", help="where the record goes, instead of OUT.csv.json")
     record.add_argument("--no-record", action="store_true", help="write no record")
-    return added
 
 
 def _make(commands: Any) -> argparse.ArgumentParser:
@@ -158,3 +208,17 @@ def _sha256(text: str) -> str:
     if not re.fullmatch(r"[0-9a-fA-F]{64}", text):
         raise argparse.ArgumentTypeError(f"{text!r} is not a SHA-256 digest, which has 64 hexadecimal digits")
     return text.lower()
+
+
+def _year(text: str) -> int:
+    """Any year that a roll can be opened in: what it is good for shows at each join."""
+    if not re.fullmatch(r"0|[1-9][0-9]{0,9}", text) or int(text) >= 2**32:
+        raise argparse.ArgumentTypeError(f"{text!r} is not a year")
+    return int(text)
+
+
+def _named(text: str) -> tuple[str, str]:
+    name, _, path = text.partition("=")
+    if not name.strip() or not path:
+        raise argparse.ArgumentTypeError(f"{text!r} is not a name and a basis file, such as 2012=basis-2012.bin")
+    return name.strip(), path

@@ -107,6 +107,7 @@ class Draft:
 
     def __init__(self, place: Place) -> None:
         self.place = place
+        self.must_be_new = False  # a file that has come meanwhile is an error, and stays
         self.part: Optional[str] = None
         # Without a buffer: what is discarded is not flushed first, into a pipe whose reader waits.
         self.file: io.RawIOBase = io.RawIOBase()
@@ -160,9 +161,25 @@ class Draft:
         """Takes its place, whole."""
         if self.part is not None:
             with naming(f"{self.place.spoken} cannot be written"):
-                os.replace(self.part, self.place.path)
-                self.part = None
+                if self.must_be_new:
+                    self._link(self.part)
+                else:
+                    os.replace(self.part, self.place.path)
+                    self.part = None
                 on_disk(os.path.dirname(self.place.path))
+
+    def _link(self, part: str) -> None:
+        """Unlike a renaming it replaces nothing. The temporary name goes when the draft is discarded."""
+        try:
+            try:
+                os.link(part, self.place.path)
+            except FileExistsError:
+                raise
+            except OSError:  # a disk that has no links: an empty file holds the place until the whole one has it
+                os.close(os.open(self.place.path, os.O_CREAT | os.O_EXCL | os.O_WRONLY))
+                os.replace(part, self.place.path)
+        except FileExistsError:
+            raise CommandError(f"{self.place.name} has come meanwhile; it stays, and no output has taken its place") from None
 
     def discard(self) -> None:
         """Leaves the place as it was. Nothing is to be done where it has been taken."""

@@ -14,6 +14,9 @@ SENTENCES: dict[int, str] = {
     11: "lent output too short",
     12: "a line is not of the form asked",
     13: "history not 1,024 bytes for each year from B + 1 to F",
+    14: "the roll is full",
+    15: "the member number is not on the roll",
+    16: "the member number is on the roll already",
 }
 
 # What the places of each refusal are; those that are always 0 have no name.
@@ -31,11 +34,16 @@ PLACES: dict[int, tuple[str, ...]] = {
     11: ("needed",),
     12: ("line",),
     13: ("needed",),
+    14: ("member",),
+    15: ("member",),
+    16: ("member",),
 }
+
+GREATEST_PENSION = 10_000_000
 
 
 class Refusal(Exception):
-    """The engine's refusal of an enquiry, of a basis or of a history.
+    """The engine's refusal of an enquiry, of a basis, of a history or of a call on a roll.
 
     >>> refusal = Refusal(8, 148, 3)
     >>> refusal.number, refusal.first, refusal.second
@@ -70,3 +78,15 @@ class Refusal(Exception):
 
     def __hash__(self) -> int:
         return hash(self.args)
+
+
+class PensionRefusal(Refusal):
+    """The 5 of a join whose pension is above its limit. Its first place is the member number and not an offset.
+
+    >>> str(PensionRefusal(5, 1001))
+    'refused 5: a field outside its limits: the pension is above 10,000,000 pence (member 1001)'
+    """
+
+    @property
+    def message(self) -> str:
+        return f"{self.sentence}: the pension is above {GREATEST_PENSION:,} pence (member {self.first})"

@@ -11,9 +11,10 @@ import unittest
 from typing import Iterator, Optional
 
 from parvusek import Basis
+from parvusek.carried import Carried
 from parvusek.csv_rows import NotCsv, Rows
 from parvusek.csv_source import Source
-from parvusek.members import _Valuation, value_members
+from parvusek.members import value_members
 
 from . import SAMPLE
 from .command import Command
@@ -99,8 +100,8 @@ class Encodings(Command):
     def test_a_message_that_the_encoding_lacks(self) -> None:
         """Refusal 9 has a sign that not every encoding has."""
         source = Source(io.BytesIO(b"age,deferment,year\n"), "ascii")
-        valuation = _Valuation(None, source, Rows(source, ("age", "deferment", "year")))  # type: ignore[arg-type]
-        self.assertEqual(source.encoded(valuation._added(["beyond ±5"])), b",beyond ?5\n")
+        carried = Carried(source, Rows(source, ("age", "deferment", "year")), ("message",))
+        self.assertEqual(source.encoded(carried.added(["beyond ±5"])), b",beyond ?5\n")
 
 
 class Forms(Command):

@@ -16,6 +16,8 @@ TYPES = {
     "int32_t": ctypes.c_int32,
     "uint32_t": ctypes.c_uint32,
     "uint64_t": ctypes.c_uint64,
+    "const uint64_t *": ctypes.POINTER(ctypes.c_uint64),
+    "uint64_t *": ctypes.POINTER(ctypes.c_uint64),
     "parvusek_refusal_t": library.CRefusal,
     "parvusek_answer_t": library.CAnswer,
     "parvusek_signed_answer_t": library.CSignedAnswer,

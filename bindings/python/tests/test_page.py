@@ -29,10 +29,11 @@ def printed(example: str) -> str:
 
 
 class Page(unittest.TestCase):
-    def test_example(self) -> None:
+    def test_each_example(self) -> None:
         plain = [each for each in examples() if "numpy" not in each[0]]
-        self.assertEqual(len(plain), 1)
-        self.assertEqual(printed(plain[0][0]), plain[0][1])
+        self.assertTrue(plain)
+        for example, wanted in plain:
+            self.assertEqual(printed(example), wanted)
 
     @unittest.skipUnless(importlib.util.find_spec("numpy") and importlib.util.find_spec("pandas"),
                          "numpy or pandas is missing: the example of arrays")

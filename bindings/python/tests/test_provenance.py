@@ -155,7 +155,7 @@ class Record(Command):
             self.record.write_bytes(content)
             status, _, wrong = self.value_older()
             self.assertEqual(status, 1)
-            self.assertIn(f"{self.record} exists and is not the record of a valuation", wrong)
+            self.assertIn(f"{self.record} exists and is not the record of a run", wrong)
             self.assertIn("--record", wrong)
             self.assertEqual(self.record.read_bytes(), content)
             self.assertEqual(self.files(), ["values.csv.json"])

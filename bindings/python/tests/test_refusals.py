@@ -13,10 +13,10 @@ from . import REPOSITORY
 class Refusals(unittest.TestCase):
     def test_sentences(self) -> None:
         text = (REPOSITORY / "docs" / "REFUSALS.md").read_text(encoding="utf-8")
-        rows = re.findall(r"^\| (\d+) \| (.*?) \| (.*?) \|", text, re.MULTILINE)
-        in_short = {int(number): sentence for number, sentence, _ in rows[:13]}
-        self.assertEqual(SENTENCES, in_short)
-        for number, _, places in rows[:13]:
+        in_short = text.partition("\n## In short\n")[2].partition("\n## ")[0]
+        rows = re.findall(r"^\| (\d+) \| (.*?) \| (.*?) \|", in_short, re.MULTILINE)
+        self.assertEqual(SENTENCES, {int(number): sentence for number, sentence, _ in rows})
+        for number, _, places in rows:
             named = [place for place in places.split(", ") if place != "0"]
             self.assertEqual(len(PLACES[int(number)]), len(named), f"the places of {number}")
 
@@ -25,6 +25,9 @@ class Refusals(unittest.TestCase):
         self.assertEqual(str(Refusal(6, 19)), "refused 6: age outside 20 to 150 (age 19)")
         self.assertEqual(str(Refusal(13, 6_144)),
                          "refused 13: history not 1,024 bytes for each year from B + 1 to F (needed 6144)")
+        self.assertEqual(str(Refusal(14, 1001)), "refused 14: the roll is full (member 1001)")
+        self.assertEqual(str(Refusal(15, 1001)), "refused 15: the member number is not on the roll (member 1001)")
+        self.assertEqual(str(Refusal(16, 0)), "refused 16: the member number is on the roll already (member 0)")
         self.assertEqual(Refusal(9, 70, 2031).message,
                          "an improvement needed is beyond ±500,000,000 (age 70, year 2031)")
 
