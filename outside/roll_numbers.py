@@ -41,10 +41,9 @@ def write_members(roll, numbers):
     """How many there are, and each in the order of joining. What stands behind them is left."""
     numbers[COUNT] = len(roll.members)
     for field, column in enumerate(zip(*roll.members)):
-        for place, number in enumerate(column, start=_column(field)):
-            numbers[place] = number
+        numbers[_column(field):_column(field) + len(column)] = column
 
 
-def total_of_numbers(roll):
-    """The total of a roll that may have been read from any numbers."""
-    return roll.total() % WORD
+def wrapped(total):
+    """A sum as 8 bytes hold it; only that of a roll which was never opened can be too large."""
+    return total % WORD

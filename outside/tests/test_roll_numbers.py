@@ -7,7 +7,7 @@ from outside.basis import encode
 from outside.history import NO_HISTORY
 from outside.refusals import Refusal, outcome
 from outside.roll import Roll
-from outside.roll_numbers import (check_length, open_numbers, read_numbers, total_of_numbers,
+from outside.roll_numbers import (check_length, open_numbers, read_numbers, wrapped,
                                   write_members)
 
 RUN = encode(sample())
@@ -80,7 +80,7 @@ class AnyNumbers(unittest.TestCase):
         numbers = [2 ** 64 - 1] * 2_002
         roll = read_numbers(numbers)
         self.assertEqual((roll.year, len(roll.members)), (4_294_967_295, 500))
-        self.assertEqual(total_of_numbers(roll), 2 ** 64 - 500)
+        self.assertEqual(wrapped(roll.total()), 2 ** 64 - 500)
         self.assertEqual(outcome(roll.join, RUN, NO_HISTORY, 1, 150, 1), Refusal(14, 1))
         # a number of 32 bits is none of these
         self.assertEqual(outcome(roll.leave, 4_294_967_295), Refusal(15, 4_294_967_295))
