@@ -68,12 +68,20 @@ impl Calls {
             }
         }
         for _ in 0..8 {
-            let leaver = walk.leaver(random);
-            self.call(&mut walk, Call::Leave(leaver))?;
-            let number = if random.one_in(2) { leaver } else { random.pick(&walk.pool) };
-            self.call(&mut walk, Call::Join(Joiner { number, age: 150, pension: pension(random) }))?;
+            self.leave_and_join(random, &mut walk)?;
         }
         self.mixed(random, &mut walk, 60)
+    }
+
+    /// One who may be refused by several at once, a leave, and one who takes the place.
+    fn leave_and_join(&mut self, random: &mut Random, walk: &mut Walk) -> Compared {
+        let mut joiner = walk.joiner(random);
+        joiner.pension = random.pick(&[joiner.pension, GREATEST_PENSION + 1]);
+        self.call(walk, Call::Join(joiner))?;
+        let leaver = walk.leaver(random);
+        self.call(walk, Call::Leave(leaver))?;
+        let number = if random.one_in(2) { leaver } else { walk.absent(random) };
+        self.call(walk, Call::Join(Joiner { number, age: 150, pension: pension(random).min(GREATEST_PENSION) }))
     }
 
     /// Numbers of any kind, lent and the Rust engine's own alike.
@@ -218,6 +226,13 @@ impl Walk {
         Joiner { number, age: inputs::age(random), pension: pension(random) }
     }
 
+    /// One of the pool who is not on the roll, if any is not.
+    fn absent(&self, random: &mut Random) -> u32 {
+        let numbers = &self.own[NUMBERS..][..self.count()];
+        let drawn = random.pick(&self.pool);
+        self.pool.iter().copied().find(|&number| !numbers.contains(&u64::from(number))).unwrap_or(drawn)
+    }
+
     /// The first, the last or any on the roll; now and then a number that may not be there.
     fn leaver(&self, random: &mut Random) -> u32 {
         let count = self.count();
@@ -254,11 +269,12 @@ fn exact_sum(numbers: &[u64]) -> Option<u128> {
     Some(liabilities[..count(numbers)].iter().map(|&liability| u128::from(liability)).sum())
 }
 
+/// The limit and its half make a tie of one annuity in a hundred, and of one in two hundred.
 fn pension(random: &mut Random) -> u32 {
     match random.below(16) {
         0 => inputs::any_number(random),
-        1 => random.pick(&[GREATEST_PENSION, GREATEST_PENSION + 1, u32::MAX]),
-        2..=4 => random.pick(&[0, 1, 5, 50]),
+        1 => random.pick(&[GREATEST_PENSION + 1, u32::MAX]),
+        2..=5 => random.pick(&[0, 1, 5, GREATEST_PENSION / 2, GREATEST_PENSION, GREATEST_PENSION]),
         _ => random.below(u64::from(GREATEST_PENSION) + 1) as u32,
     }
 }

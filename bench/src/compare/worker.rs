@@ -65,7 +65,7 @@ fn ask(calls: &mut Calls, random: &mut Random) -> Result<(), Difference> {
     if refused || random.one_in(4) {
         calls.grid(random)?;
     }
-    if random.one_in(64) {
+    if random.one_in(48) {
         calls.full_roll(random)?;
     }
     calls.roll(random)
