@@ -18,7 +18,7 @@ from outside.basis import check_run
 from outside.refusals import Refusal as Refused, outcome
 from outside.roll import GREATEST_PENSION, MOST_MEMBERS, Join, Leave, Roll
 from outside.roll_calls import BAD_YEARS, EMPTYING, FILLING, FULL, MIXED, YEARS, Caller, Open, Total, any_numbers
-from outside.roll_numbers import LENGTH, check_length, open_numbers, read_numbers, wrapped, write_members
+from outside.roll_numbers import COUNT, LENGTH, check_length, open_numbers, read_numbers, wrapped, write_members
 
 GUARD = [0xA5A5A5A5A5A5A5A5] * 64  # before and behind what is lent
 NUMBERS = POINTER(c_uint64)
@@ -39,7 +39,8 @@ PROMISED = (
     + ["Join %s" % refusal for refusal in JOIN_REFUSALS]
     + ["the first left", "the last left", "one between left", "the only one left", "one who left came back",
        "another basis than the member's before", "a pension of 0", "9 or 10 of a pension of 0", "16 on a full roll",
-       "an opened roll filled up", "an opened roll full again after a leave", "a sum above 8 bytes"])
+       "an opened roll filled up", "an opened roll full again after a leave", "a leave where the count is above 500",
+       "a sum above 8 bytes"])
 
 
 def kind_of(call, refusal):
@@ -59,7 +60,8 @@ class Walk:
         self.numbers = list(numbers)
         self.lent = (c_uint64 * (len(numbers) + 2 * len(GUARD)))(*GUARD, *numbers, *GUARD)
         self.roll = read_numbers(numbers) if len(numbers) >= LENGTH else Roll(0)
-        self.opened, self.left, self.bases = False, set(), {}
+        self.opened = self.was_full = False
+        self.left, self.bases = set(), {}
 
     def worked_out(self, call):
         """The answer, a number, or the refusal; of an answered call the numbers are written down."""
@@ -87,9 +89,9 @@ class Walk:
 
     def differs(self, call):
         """The call to both; what differs, or nothing."""
-        before = list(self.roll.members)
+        before, count = list(self.roll.members), self.numbers[COUNT] if len(self.numbers) > COUNT else 0
         wanted = outcome(self.worked_out, call)
-        self.note(call, wanted, before)
+        self.note(call, wanted, before, count)
         found = self.asked(call)
         expected = (wanted.numbers(), 0) if isinstance(wanted, Refused) else ((0, 0, 0), wanted)
         if found != expected:
@@ -100,8 +102,8 @@ class Walk:
             return f"number {place - len(GUARD)} is {self.lent[place]}, not {numbers[place]}"
         return None
 
-    def note(self, call, answer, before):
-        """Counts what came up in this call, before which these members were on the roll."""
+    def note(self, call, answer, before, count):
+        """Counts what came up in this call, before which these members were on the roll, of this count."""
         seen, name = self.seen, type(call).__name__
         if isinstance(answer, Refused):
             seen[f"{name} {kind_of(call, answer)}"] += 1
@@ -111,8 +113,10 @@ class Walk:
         seen[f"{name} answered"] += 1
         seen["a sum above 8 bytes"] += self.roll.total() != wrapped(self.roll.total())
         if isinstance(call, Open):
-            self.opened, self.left, self.bases = True, set(), {}
+            self.opened, self.was_full = True, False
+            self.left, self.bases = set(), {}
         if isinstance(call, Leave):
+            seen["a leave where the count is above 500"] += count > MOST_MEMBERS
             self.note_leave(call, before)
         if isinstance(call, Join):
             self.note_join(call, before)
@@ -126,8 +130,9 @@ class Walk:
     def note_join(self, call, before):
         basis = (call.run, call.history)
         fills = self.opened and len(before) == MOST_MEMBERS - 1
-        self.seen["an opened roll filled up"] += fills
-        self.seen["an opened roll full again after a leave"] += fills and bool(self.left)
+        self.seen["an opened roll filled up"] += fills and not self.was_full
+        self.seen["an opened roll full again after a leave"] += fills and self.was_full
+        self.was_full = self.was_full or fills
         self.seen["one who left came back"] += call.number in self.left
         self.seen["another basis than the member's before"] += self.bases.get(call.number, basis) != basis
         self.seen["a pension of 0"] += call.pension == 0
@@ -190,8 +195,10 @@ class Check:
 
     def too_short(self, length):
         caller = Caller(self.draw, 12)
-        four = lambda walk: [Open(2010), caller.join(walk.roll, MIXED), Leave(caller.numbers[0]), Total()] * 2
-        self.run(any_numbers(self.draw, length), four)
+
+        def calls(walk):
+            return [Open(2010), caller.join(walk.roll, MIXED), Leave(caller.numbers[0]), Total()] * 2
+        self.run(any_numbers(self.draw, length), calls)
 
     def all(self):
         for length in (LENGTH, LENGTH, LENGTH + 1, LENGTH + 500):
