@@ -1,6 +1,7 @@
 //! The proved archive's functions as `include/parvusek.h` declares them, behind safe calls. A slice is a pointer with
 //! its true length, which is all that the archive asks for. Beside them the direct grid, which has an archive of its own
 //! for tests and is not in the header.
+use crate::engine::roll::Joiner;
 use crate::engine::sets::{GRID, Record};
 use crate::engine::{Refusal as EngineRefusal, lifeline, sets};
 
@@ -119,6 +120,13 @@ pub mod raw {
         fn parvusek_grid(points: *mut Record, count: usize) -> Refusal;
         fn parvusek_lifeline_start(age: u32, year: u32) -> Lifeline;
         fn parvusek_lifeline_step(age: u32, year: u32, survivors: u64) -> Lifeline;
+        fn parvusek_roll_join(roll: *mut u64, roll_len: usize, number: u32, age: u32, pension: u32) -> Answer;
+    }
+
+    unsafe extern "C" {
+        pub fn parvusek_roll_open(year: u32, roll: *mut u64, roll_len: usize) -> Refusal;
+        pub fn parvusek_roll_leave(roll: *mut u64, roll_len: usize, number: u32) -> Answer;
+        pub fn parvusek_roll_total(roll: *const u64, roll_len: usize) -> Answer;
     }
 
     // of the direct grid's archive
@@ -193,6 +201,25 @@ pub fn lifeline_start(run: &[u8], history: &[u8], age: u32, year: u32) -> Lifeli
 pub fn lifeline_step(run: &[u8], history: &[u8], age: u32, year: u32, survivors: u64) -> Lifeline {
     let (lent, length) = (history.as_ptr(), history.len());
     unsafe { raw::parvusek_lifeline_step(run.as_ptr(), run.len(), lent, length, age, year, survivors) }
+}
+
+pub fn roll_open(year: u32, roll: &mut [u64]) -> Refusal {
+    unsafe { raw::parvusek_roll_open(year, roll.as_mut_ptr(), roll.len()) }
+}
+
+pub fn roll_join(run: &[u8], history: &[u8], roll: &mut [u64], joiner: Joiner) -> Answer {
+    let (lent, length) = (history.as_ptr(), history.len());
+    let (numbers, count) = (roll.as_mut_ptr(), roll.len());
+    let Joiner { number, age, pension } = joiner;
+    unsafe { raw::parvusek_roll_join(run.as_ptr(), run.len(), lent, length, numbers, count, number, age, pension) }
+}
+
+pub fn roll_leave(roll: &mut [u64], number: u32) -> Answer {
+    unsafe { raw::parvusek_roll_leave(roll.as_mut_ptr(), roll.len(), number) }
+}
+
+pub fn roll_total(roll: &[u64]) -> Answer {
+    unsafe { raw::parvusek_roll_total(roll.as_ptr(), roll.len()) }
 }
 
 // ---- what the header promises where the Rust engine answers so

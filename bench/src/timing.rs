@@ -28,6 +28,8 @@ pub struct Timing {
     pub ratio: f64,
     pub lower: f64,
     pub upper: f64,
+    /// The median of the differences first - second of such two, in nanoseconds.
+    pub difference: f64,
 }
 
 /// Nanoseconds of processor time for one call, of so many.
@@ -87,12 +89,15 @@ fn collect(rounds: usize, first: &mut dyn FnMut() -> f64, second: &mut dyn FnMut
             times.0.push(first());
         }
     }
-    let mut ratios: Vec<f64> = times.0.iter().zip(&times.1).map(|(first, second)| first / second).collect();
+    let pairs = || times.0.iter().zip(&times.1);
+    let mut ratios: Vec<f64> = pairs().map(|(first, second)| first / second).collect();
+    let mut differences: Vec<f64> = pairs().map(|(first, second)| first - second).collect();
     Timing {
         first: quantile(&mut times.0, 0.5),
         second: quantile(&mut times.1, 0.5),
         ratio: quantile(&mut ratios, 0.5),
         lower: quantile(&mut ratios, 0.25),
         upper: quantile(&mut ratios, 0.75),
+        difference: quantile(&mut differences, 0.5),
     }
 }

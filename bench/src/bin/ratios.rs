@@ -274,7 +274,7 @@ const ENGINES: Sides = Sides { ratio: "proved / Rust", names: ["proved", "Rust"]
 const TWO_GRIDS: Sides = Sides { ratio: "times as fast", names: ["point by point", "sweep"], digits: 1 };
 
 fn print(settings: &Settings, sides: &Sides, name: &str, timing: &Timing) {
-    let Timing { first, second, ratio, lower, upper } = timing;
+    let Timing { first, second, ratio, lower, upper, .. } = timing;
     let Sides { names: [one, other], digits, .. } = sides;
     if settings.markdown {
         println!("| {name} | {ratio:.digits$} | {lower:.digits$} to {upper:.digits$} |");

@@ -3,6 +3,7 @@
 use parvusek_bench::bases::{Draft, files};
 use parvusek_bench::compare::inputs;
 use parvusek_bench::engine::layout::{FILE_LENGTH, RUN_LENGTH};
+use parvusek_bench::engine::roll;
 use parvusek_bench::engine::sets::{GRID, Record};
 use parvusek_bench::ffi::{Question, Questions, Records, raw::*};
 use parvusek_bench::random::Random;
@@ -15,13 +16,15 @@ struct Lent {
     file: Vec<u8>,
     output: Vec<u8>,
     records: Vec<Record>,
+    roll: Vec<u64>,
 }
 
 fn lent(random: &mut Random, run: Vec<u8>, history: Vec<u8>) -> Lent {
     let records = (0..GRID).map(|_| inputs::record(random, &run)).collect();
     let mut whole = run.clone();
     whole.resize(RUN_LENGTH, 0);
-    Lent { run, history, file: files::file_of(&whole), output: vec![0; FILE_LENGTH], records }
+    let roll = vec![0; roll::LENGTH];
+    Lent { run, history, file: files::file_of(&whole), output: vec![0; FILE_LENGTH], records, roll }
 }
 
 /// A record as it is passed by value.
@@ -87,6 +90,19 @@ impl Lent {
         std::array::from_fn(|which| (VALUES[which], self.with(ENQUIRIES[which] as *const (), &rest)))
     }
 
+    /// Opened for the question's year, joined at its age, and left again.
+    fn roll_calls(&mut self, question: Question) -> [(&'static str, usize); 4] {
+        let (roll, length) = (self.roll.as_mut_ptr() as u64, self.roll.len() as u64);
+        let (number, age, pension) = (7, u64::from(question.age), 1_000_000);
+        let alone = |function, rest: &[u64]| self.touched(function, &[], rest, &[]);
+        [
+            ("roll_open", alone(parvusek_roll_open as *const (), &[u64::from(question.year), roll, length])),
+            ("roll_join", self.with(parvusek_roll_join as *const (), &[roll, length, number, age, pension])),
+            ("roll_total", alone(parvusek_roll_total as *const (), &[roll, length])),
+            ("roll_leave", alone(parvusek_roll_leave as *const (), &[roll, length, number])),
+        ]
+    }
+
     fn small_set(&self, questions: Questions) -> (&'static str, usize) {
         let numbers = questions.points.map(|point| [point.age, point.deferment, point.year]).concat();
         let by_value: [u64; 9] =
@@ -124,6 +140,7 @@ fn main() {
             let question = inputs::question(&mut random, &lent.run);
             lent.cells(question).into_iter().for_each(&mut note);
             lent.values(question).into_iter().for_each(&mut note);
+            lent.roll_calls(question).into_iter().for_each(&mut note);
         }
         note(lent.small_set(inputs::questions(&mut random, &lent.run)));
     }

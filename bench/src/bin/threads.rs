@@ -2,6 +2,7 @@
 //! answers that one thread got before: there is no state to share.
 use parvusek_bench::bases::{Draft, histories};
 use parvusek_bench::compare::inputs;
+use parvusek_bench::engine::roll::{Joiner, LENGTH};
 use parvusek_bench::ffi::{self, Answer, Lifeline, Question, Refusal, SignedAnswer, SmallSet};
 use parvusek_bench::random::Random;
 use std::process::ExitCode;
@@ -15,7 +16,17 @@ struct Answers {
     cells: [Answer; 2],
     enquiries: [Answer; 6],
     lifeline: [Lifeline; 2],
+    roll: (Refusal, [Answer; 3]),
     set: Option<SmallSet>,
+}
+
+/// A roll of its own for this question's year, joined at its age and left.
+fn roll(run: &[u8], history: &[u8], question: Question) -> (Refusal, [Answer; 3]) {
+    let (mut numbers, number) = (vec![0; LENGTH], 7);
+    let opened = ffi::roll_open(question.year, &mut numbers);
+    let joiner = Joiner { number, age: question.age, pension: 1_234_567 };
+    let joined = ffi::roll_join(run, history, &mut numbers, joiner);
+    (opened, [joined, ffi::roll_total(&numbers), ffi::roll_leave(&mut numbers, number)])
 }
 
 /// Everything about one question; the small set for one in eight, as it costs the most.
@@ -31,6 +42,7 @@ fn ask(run: &[u8], history: &[u8], index: usize, question: Question) -> Answers 
             ffi::lifeline_start(run, history, age, year),
             ffi::lifeline_step(run, history, age, year, 987_654_321),
         ],
+        roll: roll(run, history, question),
         set,
     }
 }

@@ -15,12 +15,15 @@ use std::fmt::Debug;
 
 /// The buffers that are lent, and the count of what was seen.
 pub struct Calls {
-    run: Guarded,
-    history: Guarded,
+    /// The kind of the basis that is lent.
+    pub kind: &'static str,
+    pub(super) run: Guarded,
+    pub(super) history: Guarded,
     part: HistoryPart,
     file: Guarded,
     output: Guarded,
     records: Guarded,
+    pub(super) roll: Guarded,
     pub tally: Tally,
 }
 
@@ -33,12 +36,13 @@ enum HistoryPart {
     Refused,
 }
 
-type Compared = Result<(), Difference>;
+pub(super) type Compared = Result<(), Difference>;
 
 impl Default for Calls {
     fn default() -> Self {
         let room = Guarded::new;
         Calls {
+            kind: "none",
             run: room(2),
             // a year more than the longest has
             history: room(23),
@@ -46,17 +50,20 @@ impl Default for Calls {
             file: room(2),
             output: room(3),
             records: room(2),
+            roll: room(5),
             tally: Tally::default(),
         }
     }
 }
 
 impl Calls {
-    /// Lends this run and this history to the calls that follow.
-    pub fn lend(&mut self, random: &mut Random, run: &[u8], history: &[u8]) {
-        self.run.lend(run, edge(random));
-        self.history.lend(history, edge(random));
-        self.part = match (enquiries::check_basis(run), Basis::accept(run, history)) {
+    /// Lends this run and its history to the calls that follow.
+    pub fn lend(&mut self, random: &mut Random, basis: inputs::Basis) {
+        let inputs::Basis { kind, run, history } = basis;
+        self.kind = kind;
+        self.run.lend(&run, edge(random));
+        self.history.lend(&history, edge(random));
+        self.part = match (enquiries::check_basis(&run), Basis::accept(&run, &history)) {
             (Ok(()), Err(_)) => HistoryPart::Refused,
             (Ok(()), Ok(_)) if !history.is_empty() => HistoryPart::Used,
             _ => HistoryPart::None,
@@ -69,7 +76,7 @@ impl Calls {
     }
 
     /// Whether this outcome of a call is an answer by means of the history, or the history's own refusal.
-    fn by_history(&self, function: Function, refusal: u32) -> bool {
+    pub(super) fn by_history(&self, function: Function, refusal: u32) -> bool {
         function.lends_history()
             && match self.part {
                 HistoryPart::None => false,
@@ -91,6 +98,16 @@ impl Calls {
         if self.by_history(function, refusal) {
             self.tally.by_history(function, refusal);
         }
+        Self::compared(function, asked, rust, proved)
+    }
+
+    /// No difference, or the one of these two answers.
+    pub(super) fn compared<T: PartialEq + Debug>(
+        function: Function,
+        asked: &dyn Fn() -> String,
+        rust: &T,
+        proved: &T,
+    ) -> Compared {
         if rust == proved {
             return Ok(());
         }

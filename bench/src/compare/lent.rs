@@ -1,6 +1,7 @@
 //! What is lent at its oddest: nothing, at a pointer that cannot be read, and the proof that guards are noticed.
 use crate::bases::Draft;
 use crate::engine::layout::RUN_LENGTH;
+use crate::engine::roll;
 use crate::engine::sets::{GRID, Record};
 use crate::ffi::raw::*;
 use crate::ffi::{Questions, Refusal};
@@ -25,7 +26,8 @@ pub fn empty_lendings() -> Result<(), String> {
         }
         let refusals = refusals_of_nothing(pointer);
         let wanted = |number, first| Refusal { number, first, second: 0 };
-        let mut expected = vec![wanted(1, 0), wanted(11, 4554), wanted(11, 4608), wanted(11, 4554), wanted(11, 119)];
+        let outputs = [4554, 4608, 4554, 119, 16_016, 16_016, 16_016, 16_016];
+        let mut expected = outputs.map(|needed| wanted(11, needed)).to_vec();
         expected.resize(refusals.len(), wanted(1, 0));
         if refusals != expected {
             return Err(format!("empty lendings at {pointer:?}: {refusals:?}"));
@@ -44,9 +46,12 @@ fn refusals_without_history(nothing: *mut u8) -> Vec<Refusal> {
     let (lent, length) = (run.as_ptr(), run.len());
     let mut records =
         [Record { age: 150, deferment: 0, year: 2010, refusal: 0, results: [0; 4], first: 0, second: 0 }; GRID];
+    let mut empty = [0; roll::LENGTH];
+    empty[roll::YEAR] = 2010;
     unsafe {
         let mut refusals = vec![
             parvusek_grid(lent, length, nothing, 0, records.as_mut_ptr(), GRID),
+            parvusek_roll_join(lent, length, nothing, 0, empty.as_mut_ptr(), roll::LENGTH, 1, 60, 100).refusal,
             parvusek_improvement(lent, length, nothing, 0, 60, 2010).refusal,
             parvusek_factor(lent, length, nothing, 0, 60, 2010).refusal,
             parvusek_rate(lent, length, nothing, 0, 60, 2010).refusal,
@@ -59,14 +64,21 @@ fn refusals_without_history(nothing: *mut u8) -> Vec<Refusal> {
     }
 }
 
+/// First every call with an output, for which 11 comes first, then those that the run is refused to.
 fn refusals_of_nothing(nothing: *mut u8) -> Vec<Refusal> {
+    let mut empty = [0; roll::LENGTH];
     unsafe {
         let mut refusals = vec![
-            parvusek_check_basis(nothing, 0),
             parvusek_read_basis(nothing, 0, nothing, 0),
             parvusek_write_basis(nothing, 0, nothing, 0),
             parvusek_short_form(nothing, 0, 0, nothing, 0),
             parvusek_grid(nothing, 0, nothing, 0, nothing.cast(), 0),
+            parvusek_roll_open(2010, nothing.cast(), 0),
+            parvusek_roll_join(nothing, 0, nothing, 0, nothing.cast(), 0, 1, 60, 100).refusal,
+            parvusek_roll_leave(nothing.cast(), 0, 1).refusal,
+            parvusek_roll_total(nothing.cast(), 0).refusal,
+            parvusek_roll_join(nothing, 0, nothing, 0, empty.as_mut_ptr(), roll::LENGTH, 1, 60, 100).refusal,
+            parvusek_check_basis(nothing, 0),
             parvusek_improvement(nothing, 0, nothing, 0, 60, 2010).refusal,
             parvusek_factor(nothing, 0, nothing, 0, 60, 2010).refusal,
             parvusek_rate(nothing, 0, nothing, 0, 60, 2010).refusal,

@@ -3,4 +3,6 @@ pub mod calls;
 pub mod inputs;
 pub mod lent;
 pub mod report;
+pub mod roll_report;
+pub mod rolls;
 pub mod worker;

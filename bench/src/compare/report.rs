@@ -1,4 +1,5 @@
 //! What was compared, and the first difference.
+use super::roll_report::Rolls;
 use crate::engine::sets::Record;
 use std::fmt;
 
@@ -22,9 +23,13 @@ pub enum Function {
     Grid,
     LifelineStart,
     LifelineStep,
+    RollOpen,
+    RollJoin,
+    RollLeave,
+    RollTotal,
 }
 
-pub const FUNCTIONS: [Function; 17] = [
+pub const FUNCTIONS: [Function; 21] = [
     Function::CheckBasis,
     Function::ReadBasis,
     Function::WriteBasis,
@@ -42,18 +47,22 @@ pub const FUNCTIONS: [Function; 17] = [
     Function::Grid,
     Function::LifelineStart,
     Function::LifelineStep,
+    Function::RollOpen,
+    Function::RollJoin,
+    Function::RollLeave,
+    Function::RollTotal,
 ];
 
 impl Function {
-    /// All but those that ask about the data run alone.
+    /// All but those that ask about the data run alone, or about a roll alone.
     pub fn lends_history(self) -> bool {
         use Function::*;
-        !matches!(self, CheckBasis | ReadBasis | WriteBasis | ShortForm)
+        !matches!(self, CheckBasis | ReadBasis | WriteBasis | ShortForm | RollOpen | RollLeave | RollTotal)
     }
 }
 
-/// 0 for an answer, and the refusals 1 to 13; 12 belongs to lines of text, and no call of the archive gives it.
-const OUTCOMES: usize = 14;
+/// 0 for an answer, and the refusals 1 to 16; 12 belongs to lines of text, and no call of the archive gives it.
+const OUTCOMES: usize = 17;
 
 /// What a history leads to: an answer by means of it, and its own refusals in their order.
 const HISTORY_OUTCOMES: [usize; 6] = [0, 13, 2, 3, 4, 5];
@@ -68,6 +77,7 @@ pub struct Tally {
     /// Of these, the answers on a run whose history is needed, and what the history itself refused.
     by_history: Counts,
     grids: Grids,
+    pub rolls: Rolls,
 }
 
 /// Grids as a whole.
@@ -137,6 +147,7 @@ impl Tally {
             counts.as_flattened_mut().iter_mut().zip(more.as_flattened()).for_each(|(sum, count)| *sum += count);
         }
         self.grids.add(&other.grids);
+        self.rolls.add(&other.rolls);
     }
 
     /// Answers and refusals that can be given and that were never met.
@@ -155,6 +166,7 @@ impl Tally {
             }
         }
         missing.extend(self.grids.missing());
+        missing.extend(self.rolls.missing());
         missing
     }
 }
@@ -197,6 +209,9 @@ fn possible(function: Function) -> &'static [usize] {
         Grid => &[0, 1, 4, 5, 6, 7, 8, 9, 10, 11],
         LifelineStart => &[0, 1, 4, 5, 6, 7],
         LifelineStep => &[0, 1, 4, 5, 6, 7, 9, 10],
+        RollOpen | RollTotal => &[0, 11],
+        RollJoin => &[0, 1, 4, 5, 6, 7, 9, 10, 11, 14, 16],
+        RollLeave => &[0, 11, 15],
         _ => &[0, 1, 4, 5, 6, 7, 8, 9, 10],
     }
 }
@@ -206,7 +221,7 @@ impl fmt::Display for Tally {
         table(f, "", &FUNCTIONS, &std::array::from_fn::<usize, OUTCOMES, _>(|refusal| refusal), &self.outcomes)?;
         let lending: Vec<Function> = FUNCTIONS.into_iter().filter(|function| function.lends_history()).collect();
         table(f, "by the history", &lending, &HISTORY_OUTCOMES, &self.by_history)?;
-        write!(f, "{}", self.grids)
+        write!(f, "{}{}", self.grids, self.rolls)
     }
 }
 

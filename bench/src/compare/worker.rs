@@ -30,9 +30,13 @@ pub fn compare(seed: u64, first: u64, every: u64, enough: impl Fn(&Tally) -> boo
 /// All that is asked of one base.
 pub fn compare_base(calls: &mut Calls, seed: u64, base: u64) -> Result<(), Box<Found>> {
     let mut random = Random::case(seed, base);
-    let inputs::Basis { kind, run, history } = inputs::basis(&mut random);
-    calls.lend(&mut random, &run, &history);
-    ask(calls, &mut random).map_err(|difference| Box::new(Found { base, kind, run, history, difference }))
+    let basis = inputs::basis(&mut random);
+    calls.lend(&mut random, basis);
+    ask(calls, &mut random).map_err(|difference| {
+        // a roll goes on from one basis to another: the one that was lent when they differed
+        let (run, history) = calls.lent();
+        Box::new(Found { base, kind: calls.kind, run: run.to_vec(), history: history.to_vec(), difference })
+    })
 }
 
 fn ask(calls: &mut Calls, random: &mut Random) -> Result<(), Difference> {
@@ -61,5 +65,8 @@ fn ask(calls: &mut Calls, random: &mut Random) -> Result<(), Difference> {
     if refused || random.one_in(4) {
         calls.grid(random)?;
     }
-    Ok(())
+    if random.one_in(48) {
+        calls.full_roll(random)?;
+    }
+    calls.roll(random)
 }

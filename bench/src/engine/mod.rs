@@ -9,6 +9,7 @@ pub mod layout;
 pub mod lifeline;
 pub mod projection;
 pub mod refusal;
+pub mod roll;
 pub mod sets;
 pub mod short_form;
 pub mod sweep;
@@ -22,6 +23,8 @@ mod figures;
 mod histories;
 #[cfg(test)]
 mod orders;
+#[cfg(test)]
+mod rolls;
 #[cfg(test)]
 mod rounding;
 #[cfg(test)]

@@ -76,4 +76,24 @@ impl Refusal {
     pub const fn history_length(needed: usize) -> Self {
         Self::new(13, needed as u64, 0)
     }
+
+    /// 5 again: a pension above its limit, with the number of the member.
+    pub const fn pension(member: u32) -> Self {
+        Self::new(5, member as u64, 0)
+    }
+
+    /// 14: the roll is full.
+    pub const fn full_roll(member: u32) -> Self {
+        Self::new(14, member as u64, 0)
+    }
+
+    /// 15: the member is not on the roll.
+    pub const fn not_on_roll(member: u32) -> Self {
+        Self::new(15, member as u64, 0)
+    }
+
+    /// 16: the member is on the roll already.
+    pub const fn on_roll(member: u32) -> Self {
+        Self::new(16, member as u64, 0)
+    }
 }

@@ -3,7 +3,8 @@
 /// Units to one.
 pub const UNIT: u64 = 1_000_000_000;
 
-/// `first * second / U`, rounded. The product stays below 2^63 wherever the rules use it: at most 4 U times 1.5 U.
+/// `first * second / U`, rounded. The product stays below 2^63 wherever the rules use it: at most 4 U times 1.5 U
+/// in the projection, and 10,000,000 times 271 U of a pension and its annuity.
 #[inline]
 pub fn product(first: u64, second: u64) -> u64 {
     (first * second + UNIT / 2) / UNIT
