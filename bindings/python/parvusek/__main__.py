@@ -35,7 +35,7 @@ def main(arguments: Optional[Sequence[str]] = None) -> int:
         return 128 + number
     finally:
         if is_process:
-            signals.leave_out()
+            signals.hold_back()
 
 
 def _run(arguments: Optional[Sequence[str]]) -> int:
