@@ -49,8 +49,8 @@ OUT.csv is there only once it is whole, and keeps the mode and the owner of the 
 pipe, a device or standard output is written to directly. No output may be one of the inputs.
 
 Beside OUT.csv stands its record, OUT.csv.json: the version, the time, the SHA-256 of the basis, the
-history, the members and the values, and the counts. There is none where OUT.csv is not a regular file and
---record names none. A file of that name that is not such a record is never replaced.
+history, the members and the values, the encoding, and the counts. There is none where OUT.csv is not a
+regular file and --record names none. A file of that name that is not such a record is never replaced.
 
 {_HISTORY} A basis whose base year is before its foundation year is
 valued with its history. One that does not belong to the basis is an error."""

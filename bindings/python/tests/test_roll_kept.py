@@ -39,7 +39,7 @@ class Record(RollCommand):
             "record": "parvusek roll", "version": __version__, "year": 2010, "basis": {**new, "joined": 1},
             "bases": {"old": {**old, "joined": 1}, "idle": {**new, "joined": 0}},
             "calls": self.file(self.folder / "calls.csv"), "roll": None, "out": self.file(self.out),
-            "keep": self.file(kept),
+            "keep": self.file(kept), "encoding": "utf-8",
             "rows": 5, "joined": 2, "left": 1, "refused": 2, "refusals": {"15": 1, "16": 1}, "blank_lines": 1,
             "rows_over_several_lines": 0, "before": {"members": 0, "total": 0},
             "after": {"members": 1, "total": roll.total}})
@@ -54,6 +54,17 @@ class Record(RollCommand):
         found = self.record()
         self.assertEqual((found["roll"], found["keep"]), (self.file(first), self.file(second)))
         self.assertEqual((found["before"], found["after"]), ({"members": 1, "total": 1570}, {"members": 2, "total": 3140}))
+
+    def test_the_encoding(self) -> None:
+        """The same bytes on the same basis are another total in another encoding, so that the record tells it."""
+        calls = f"{HEADER},name\njoin,1,65,100,M\u00fcller\njoin,2,65,100,Smith\n".encode("cp1252")
+        found = []
+        for options in (["--encoding", "windows-1252"], []):
+            self.assertEqual(self.roll_bytes(calls, *options)[0], 0)
+            found.append(self.record())
+        self.assertEqual([record["encoding"] for record in found], ["cp1252", "utf-8"])
+        self.assertEqual([record["after"]["total"] for record in found], [3140, 1570])
+        self.assertEqual(found[0]["calls"], found[1]["calls"])
 
     def test_elsewhere_or_not_at_all(self) -> None:
         self.roll(["join,1,65,100"], "--no-record")
