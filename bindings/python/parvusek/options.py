@@ -75,8 +75,9 @@ A refused row changes nothing on the roll. A row that is not of the form is refu
 numbers are whole, 0 to 4,294,967,295 without a needless leading zero. The other refusals are the engine's.
 
 A column basis, if there is one, names the basis of a join by a NAME of --basis NAME=FILE; where it is empty,
-it is BASIS.bin. A NAME that no --basis gives makes the row 12, and the summary tells the first. Every basis
-is read and checked before the first call, each with the history beside it.
+it is BASIS.bin. A NAME that no --basis gives makes the row 12, and the summary tells the first. With a --basis
+the column must be there. Every basis is read and checked before the first call, each with the history beside
+it.
 
 --keep FILE keeps the roll as it stands after the last row, for a later run to continue with --roll FILE. It
 is there only once OUT.csv is whole. No file that is there is written over, so that no run is lost and each

@@ -207,6 +207,14 @@ class Bases(RollCommand):
         self.assertEqual(self.wrong, "parvusek: refused for a basis that no --basis names: 2 rows, "
                                      "the first in line 3: 'old'\n")
 
+    def test_names_without_their_column(self) -> None:
+        """Otherwise each join would be by BASIS.bin, whatever its row meant to say."""
+        status, said, wrong = self.roll_bytes(f"{HEADER},bases\njoin,1,65,100,old\n".encode(), "--basis",
+                                              f"old={OLDER / 'basis.bin'}")
+        self.assertEqual((status, said, self.files()), (1, "", ["calls.csv"]))
+        self.assertEqual(wrong, "parvusek: the header row has no column 'basis', so that no join would be by the basis that "
+                                "--basis names: old\n")
+
     def test_a_cell_never_names_a_file(self) -> None:
         rows = self.roll([f"join,1,65,100,{SAMPLE / 'basis.bin'}"], header=HEADER + ",basis")
         self.assertEqual(self.refusals(rows), ["12"])
