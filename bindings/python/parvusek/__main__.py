@@ -14,7 +14,7 @@ from ._library import LibraryNotFound
 from .commands import COMMANDS
 from .errors import CommandError
 from .options import parser
-from .runs import warn
+from .runs import saying, warn
 
 _BROKEN_PIPE = 128 + 13
 
@@ -74,12 +74,8 @@ def _status(arguments: Optional[Sequence[str]]) -> int:
 def _flush() -> None:
     """What was said must be out before the status says so."""
     if sys.stdout is not None:
-        try:
+        with saying():
             sys.stdout.flush()
-        except BrokenPipeError:
-            raise
-        except OSError as error:
-            raise CommandError(f"what is said on standard output cannot be written: {error.strerror}") from error
 
 
 def _leave_output() -> None:

@@ -10,12 +10,13 @@ REFUSED_ROWS = 3
 
 STATUSES = """exit status:
   0      done; a refused row is not an error
-  1      an error, which is said on standard error; no output has taken its place, unless the error is
-         that the summary itself cannot be written
+  1      an error, which is said on standard error; no output has taken its place, unless the error says
+         so or is that the summary itself cannot be written
   2      a wrong command line
   3      done, with --fail-on-refusal and at least one refused row
   128+n  stopped by signal n, such as 130 by Ctrl-C and 143 by SIGTERM; no output has taken its place.
-         141: the reader of standard output has gone"""
+         141: the reader of standard output has gone; the outputs are there if only the summary goes
+         to it"""
 
 _DESCRIPTION = """Values pension members, keeps a roll of pensions in payment and makes bases, by the proved engine.
 

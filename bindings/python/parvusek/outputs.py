@@ -51,6 +51,8 @@ class Place(NamedTuple):
 
 def place_of(name: str) -> Place:
     """The place that a name stands for; - is standard output."""
+    if name == STANDARD and sys.stdout is None:  # another file may have its descriptor by now
+        raise CommandError("standard output is closed, which the output would go to")
     descriptor = 1 if name == STANDARD else _descriptor(name)
     if descriptor is not None:
         with naming(f"{'standard output' if descriptor == 1 else name} cannot be written to"):

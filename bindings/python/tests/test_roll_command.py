@@ -1,10 +1,12 @@
 """The command roll: the calls of a CSV in order, the running total on every row, and each refusal on its own row."""
 
 import csv
+import os
 from fractions import Fraction
 from math import floor
 from pathlib import Path
 from typing import Optional, Sequence
+from unittest import mock
 
 from parvusek import UNIT, Basis, Kind
 
@@ -106,6 +108,18 @@ class Calls(RollCommand):
             f"{HEADER},liability,members,total,refusal,first,second,message", "join,1,65,100,1570,1,1570,,,,"]))
         self.assertEqual(wrong, b"parvusek: standard output: 1 row, 1 joined, 0 left, 0 refused; "
                                 b"1 member on the roll of 2010, total 1,570 pence; no record is written for it\n")
+
+    def test_standard_output_that_is_closed_or_full(self) -> None:
+        (self.folder / "calls.csv").write_text(f"{HEADER}\njoin,1,65,100\n")
+        run = ["roll", self.folder / "calls.csv", SAMPLE / "basis.bin"]
+        status, _, wrong = self.run_process(*run, "-", "--year", 2010, stdout=None, preexec_fn=lambda: os.close(1))
+        self.assertEqual((status, wrong), (1, b"parvusek: standard output is closed, which the output would go to\n"))
+        for unbuffered in ("", "1"):  # the outputs are there, and what is said names none of them
+            with open("/dev/full", "wb") as full, mock.patch.dict(os.environ, PYTHONUNBUFFERED=unbuffered):
+                status, _, wrong = self.run_process(*run, self.out, "--year", 2010, stdout=full)
+            self.assertEqual((status, wrong), (1, b"parvusek: what is said on standard output cannot be written: "
+                                                  b"No space left on device\n"))
+            self.assertEqual(self.files(), ["calls.csv", "out.csv", "out.csv.json"])
 
     def test_the_sample(self) -> None:
         status, _, wrong = self.run_command("roll", SAMPLE / "roll.csv", SAMPLE / "basis.bin", self.out, "--year", 2010)
