@@ -148,10 +148,13 @@ class Forms(RollCommand):
         for place, reason in ((1, "call is 'jion', neither join nor leave"), (2, "call is '', neither join nor leave"),
                               (3, "number is '02', not a whole number"), (6, "pension is '100.50', not a whole number"),
                               (8, "number is '4294967296', not a whole number of 0 to 4,294,967,295"),
-                              (11, "3 cells where the header has 4"), (12, "number is '', not a whole number"),
+                              (11, ": 3 cells where the header has 4"), (12, "number is '', not a whole number"),
                               (13, "5 cells where the header has 4")):
             self.assertIn(reason, rows[place]["message"])
         self.assertEqual(rows[13][None], ["more"])  # type: ignore[index]
+
+    def test_a_row_of_one_cell(self) -> None:
+        self.assertTrue(self.roll(["join"])[0]["message"].endswith(": 1 cell where the header has 4"))
 
     def test_a_leave_may_end_early(self) -> None:
         rows = self.roll(["join,1,65,100,x", "leave,1"], header=HEADER + ",remark")

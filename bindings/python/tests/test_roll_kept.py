@@ -134,7 +134,7 @@ class Kept(RollCommand):
             status, said, wrong = self.roll_bytes(HEADER.encode(), "--roll", kept, "--keep", keep, year=None)
             self.assertEqual((status, said), (1, ""), keep)
             self.assertRegex(wrong, "is there already, and no kept roll is written over|is a folder")
-        for keep, why in (("-", "in a file of its own"), (self.out, "cannot be"), (f"{self.out}.json", "cannot be"),
+        for keep, why in (("-", "in a file of its own"), (self.out, "be one file"), (f"{self.out}.json", "be one file"),
                           (self.folder / "no" / "folder", "there is no folder"), ("/dev/null", "is there already")):
             status, said, wrong = self.roll_bytes(HEADER.encode(), "--keep", keep)
             self.assertEqual((status, said), (1, ""), keep)
@@ -180,6 +180,43 @@ class Kept(RollCommand):
             self.roll(["join,1,65,100"], "--keep", kept)
         self.assertEqual(Roll.read(kept).total, 1570)
         self.assertEqual(self.files(), ["calls.csv", "out.csv", "out.csv.json", "roll.bin"])
+
+
+    def test_an_output_that_cannot_take_its_place(self) -> None:
+        """The roll is not kept then: no run has ended well with it, and it would keep back the next one."""
+        kept = self.folder / "roll.bin"
+        self.roll(["join,1,65,100"])
+        before = {name: (self.folder / name).read_bytes() for name in ("out.csv", "out.csv.json")}
+        replace, gone = os.replace, PermissionError(13, "Permission denied")
+
+        def fails_for(name: str) -> Any:
+            def put(part: str, path: str) -> None:
+                if os.path.basename(path) == name:
+                    raise gone
+                replace(part, path)
+            return mock.patch("os.replace", put)
+
+        for links in (os.link, mock.Mock(side_effect=PermissionError(1, "no links here"))):
+            with fails_for("out.csv.json"), mock.patch("os.link", links):
+                status, said, wrong = self.roll_bytes(f"{HEADER}\njoin,2,65,100\n".encode(), "--keep", kept)
+            self.assertEqual((status, said), (1, ""))
+            self.assertEqual(wrong, f"parvusek: {self.out}.json cannot be written: Permission denied\n")
+            self.assertEqual(self.files(), ["calls.csv", "out.csv", "out.csv.json"])
+            self.assertEqual({name: (self.folder / name).read_bytes() for name in before}, before)
+        with fails_for("out.csv"):
+            status, said, wrong = self.roll_bytes(f"{HEADER}\njoin,2,65,100\n".encode(), "--keep", kept)
+        self.assertEqual((status, said, self.files()), (1, "", ["calls.csv", "out.csv", "out.csv.json"]))
+        self.assertEqual(wrong.splitlines(), [
+            f"parvusek: {self.out} cannot be written: Permission denied",
+            f"parvusek: {self.out}.json is the new one already, and does not belong to {self.out}"])
+        self.assertEqual(self.out.read_bytes(), before["out.csv"])
+
+    def test_on_a_disk_without_links_that_fails(self) -> None:
+        """The empty file that held the place goes again."""
+        no = PermissionError(1, "no links here")
+        with mock.patch("os.link", side_effect=no), mock.patch("os.replace", side_effect=no):
+            status, _, _ = self.roll_bytes(f"{HEADER}\njoin,1,65,100\n".encode(), "--keep", self.folder / "roll.bin")
+        self.assertEqual((status, self.files()), (1, ["calls.csv"]))
 
 
 class Unchanged(RollCommand):
