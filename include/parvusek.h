@@ -143,7 +143,7 @@ parvusek_lifeline_t parvusek_lifeline_step(const uint8_t *run, size_t run_len, c
    their yearly pensions and from 1,502 on their liabilities, both in pence. Further numbers are kept.
    A member's liability is pension x cohort annuity (deferment 0) / U, rounded to whole pence, ties up. It is set at the
    join from the basis and the history lent there, and not worked out again.
-   Any numbers of this length are a roll, so that every call ends: of roll[0] the last 32 bits count, of roll[1] at most
+   Any numbers of this length are a roll, so that every call ends: of roll[0] the lowest 32 bits count, of roll[1] at most
    500, and a sum is taken modulo 2^64. What the total is in pence is promised of a roll that was opened here and changed
    by these calls alone: the sum for those who joined and have not left, at most 2,620,000,000,000. */
 

@@ -14,7 +14,7 @@ from ._library import LibraryNotFound
 from .commands import COMMANDS
 from .errors import CommandError
 from .options import parser
-from .runs import warn
+from .runs import saying, warn
 
 _BROKEN_PIPE = 128 + 13
 
@@ -35,7 +35,7 @@ def main(arguments: Optional[Sequence[str]] = None) -> int:
         return 128 + number
     finally:
         if is_process:
-            signals.leave_out()
+            signals.hold_back()
 
 
 def _run(arguments: Optional[Sequence[str]]) -> int:
@@ -74,12 +74,8 @@ def _status(arguments: Optional[Sequence[str]]) -> int:
 def _flush() -> None:
     """What was said must be out before the status says so."""
     if sys.stdout is not None:
-        try:
+        with saying():
             sys.stdout.flush()
-        except BrokenPipeError:
-            raise
-        except OSError as error:
-            raise CommandError(f"what is said on standard output cannot be written: {error.strerror}") from error
 
 
 def _leave_output() -> None:

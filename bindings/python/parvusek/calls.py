@@ -68,6 +68,10 @@ class _Calls:
         if names.count(BASIS_COLUMN) > 1:
             raise CommandError(f"the header row has more than one column {BASIS_COLUMN!r}")
         self._basis = names.index(BASIS_COLUMN) if BASIS_COLUMN in names else None
+        named = [name for name in bases if name != DEFAULT]
+        if named and self._basis is None:
+            raise CommandError(f"the header row has no column {BASIS_COLUMN!r}, so that no join would be by the basis that "
+                               f"--basis names: {', '.join(named)}")
         self.carried = Carried(source, rows, ADDED_COLUMNS)
         self.counts = CallCounts()
         self.counts.blank = rows.blank

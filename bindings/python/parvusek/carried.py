@@ -70,7 +70,8 @@ class Carried:
         """What is wrong with a row as such, if anything is."""
         if row.fault or row.cells is None:
             return row.fault
-        return "" if len(row.cells) == self.width else f"{len(row.cells)} cells where the header has {self.width}"
+        cells = "1 cell" if len(row.cells) == 1 else f"{len(row.cells)} cells"
+        return "" if len(row.cells) == self.width else f"{cells} where the header has {self.width}"
 
     def row(self, row: Row, added: str) -> str:
         """A row with what is added to it: with empty cells where it lacks some, and those beyond the header behind what

@@ -40,7 +40,7 @@ def value(options: argparse.Namespace) -> int:
             prepared.progress.end()
         if record is not None:
             drafts[0].write(provenance.record(started, prepared.read, (options.members, source.sha256),
-                                              (options.out, written.sha256), counts))
+                                              source.encoding, (options.out, written.sha256), counts))
             provenance.not_the_users(record)  # it may have come while the members were valued
         put_all(drafts)
     _tell(options, values, record, counts)

@@ -10,12 +10,13 @@ REFUSED_ROWS = 3
 
 STATUSES = """exit status:
   0      done; a refused row is not an error
-  1      an error, which is said on standard error; no output has taken its place, unless the error is
-         that the summary itself cannot be written
+  1      an error, which is said on standard error; no output has taken its place, unless the error says
+         so or is that the summary itself cannot be written
   2      a wrong command line
   3      done, with --fail-on-refusal and at least one refused row
   128+n  stopped by signal n, such as 130 by Ctrl-C and 143 by SIGTERM; no output has taken its place.
-         141: the reader of standard output has gone"""
+         141: the reader of standard output has gone; the outputs are there if only the summary goes
+         to it"""
 
 _DESCRIPTION = """Values pension members, keeps a roll of pensions in payment and makes bases, by the proved engine.
 
@@ -49,8 +50,8 @@ OUT.csv is there only once it is whole, and keeps the mode and the owner of the 
 pipe, a device or standard output is written to directly. No output may be one of the inputs.
 
 Beside OUT.csv stands its record, OUT.csv.json: the version, the time, the SHA-256 of the basis, the
-history, the members and the values, and the counts. There is none where OUT.csv is not a regular file and
---record names none. A file of that name that is not such a record is never replaced.
+history, the members and the values, the encoding, and the counts. There is none where OUT.csv is not a
+regular file and --record names none. A file of that name that is not such a record is never replaced.
 
 {_HISTORY} A basis whose base year is before its foundation year is
 valued with its history. One that does not belong to the basis is an error."""
@@ -75,8 +76,9 @@ A refused row changes nothing on the roll. A row that is not of the form is refu
 numbers are whole, 0 to 4,294,967,295 without a needless leading zero. The other refusals are the engine's.
 
 A column basis, if there is one, names the basis of a join by a NAME of --basis NAME=FILE; where it is empty,
-it is BASIS.bin. A NAME that no --basis gives makes the row 12, and the summary tells the first. Every basis
-is read and checked before the first call, each with the history beside it.
+it is BASIS.bin. A NAME that no --basis gives makes the row 12, and the summary tells the first. With a --basis
+the column must be there. Every basis is read and checked before the first call, each with the history beside
+it.
 
 --keep FILE keeps the roll as it stands after the last row, for a later run to continue with --roll FILE. It
 is there only once OUT.csv is whole. No file that is there is written over, so that no run is lost and each

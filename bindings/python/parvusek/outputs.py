@@ -51,6 +51,8 @@ class Place(NamedTuple):
 
 def place_of(name: str) -> Place:
     """The place that a name stands for; - is standard output."""
+    if name == STANDARD and sys.stdout is None:  # another file may have its descriptor by now
+        raise CommandError("standard output is closed, which the output would go to")
     descriptor = 1 if name == STANDARD else _descriptor(name)
     if descriptor is not None:
         with naming(f"{'standard output' if descriptor == 1 else name} cannot be written to"):
@@ -84,7 +86,8 @@ def apart(one: Place, other: Place) -> None:
     if one.is_file and other.is_file and one.path == other.path or (
             one.found is not None and other.found is not None and stat.S_ISREG(one.found.st_mode)
             and os.path.samestat(one.found, other.found)):
-        raise CommandError(f"{one.spoken} cannot be {other.spoken} as well; name another")
+        names = " and ".join(dict.fromkeys((one.spoken, other.spoken)))
+        raise CommandError(f"{names}: two outputs would be one file; name another for one of them")
 
 
 def _descriptor(name: str) -> Optional[int]:
@@ -177,9 +180,21 @@ class Draft:
                 raise
             except OSError:  # a disk that has no links: an empty file holds the place until the whole one has it
                 os.close(os.open(self.place.path, os.O_CREAT | os.O_EXCL | os.O_WRONLY))
-                os.replace(part, self.place.path)
+                try:
+                    os.replace(part, self.place.path)
+                except OSError:
+                    os.unlink(self.place.path)
+                    raise
         except FileExistsError:
             raise CommandError(f"{self.place.name} has come meanwhile; it stays, and no output has taken its place") from None
+
+    def take_back(self) -> bool:
+        """Is the place as it was again? Only a file that had to be new is known to have replaced nothing."""
+        if self.must_be_new:
+            with contextlib.suppress(OSError):
+                os.unlink(self.place.path)
+                return True
+        return False
 
     def discard(self) -> None:
         """Leaves the place as it was. Nothing is to be done where it has been taken."""
@@ -208,12 +223,18 @@ def drafted(*places: Optional[Place]) -> Iterator[list[Draft]]:
 
 
 def put_all(drafts: Sequence[Draft]) -> None:
-    """All are finished before the first takes its place, so that a full disk leaves the old ones; then in order."""
+    """All are finished before the first takes its place, so that a full disk leaves the old ones; then in order. Where one
+    cannot, those before it are taken back, or it is said which could not be."""
     for draft in drafts:
         draft.finish()
     with held(drafts[-1].place), put_off():
-        for draft in drafts:
-            draft.put()
+        for number, draft in enumerate(drafts):
+            try:
+                draft.put()
+            except CommandError as error:
+                stay = [f"{before.place.spoken} is the new one already, and does not belong to {drafts[-1].place.spoken}"
+                        for before in drafts[:number] if not before.take_back()]
+                raise CommandError(error.sentences + stay) from error
         leave_out()  # the work is done: a signal that comes now is too late to stop it
 
 

@@ -49,14 +49,17 @@ def _is_record(path: str) -> bool:
     return isinstance(found, dict) and found.get("record") in (_VALUE, _ROLL)
 
 
-def record(started: str, read: ReadBasis, members: tuple[str, str], values: tuple[str, str], counts: Counts) -> bytes:
+def record(started: str, read: ReadBasis, members: tuple[str, str], encoding: str, values: tuple[str, str],
+           counts: Counts) -> bytes:
     """The record's text. A file is told by its path as it was named and by its SHA-256: of the members the bytes that
-    were read, of the values those that were written."""
+    were read, of the values those that were written. The encoding is that by which the members were read: in another the
+    same bytes may be refused."""
     return _text({
         **_begun(_VALUE, started),
         "basis": _basis(read),
         "history": _history(read),
         "members": _file(members),
+        "encoding": encoding,
         "values": _file(values),
         "rows": counts.rows,
         "valued": counts.valued,
@@ -73,7 +76,7 @@ class RollFiles(NamedTuple):
     keep: Optional[tuple[str, str]]
 
 
-def roll_record(started: str, bases: Mapping[str, ReadBasis], files: RollFiles, before: Roll, after: Roll,
+def roll_record(started: str, bases: Mapping[str, ReadBasis], files: RollFiles, encoding: str, before: Roll, after: Roll,
                 counts: CallCounts) -> bytes:
     """The same of a run over calls on a roll, with every basis that could be named and how many joined by it."""
     of_bases = {name: {**_basis(read), "history": _history(read), "joined": counts.joined[name]}
@@ -85,6 +88,7 @@ def roll_record(started: str, bases: Mapping[str, ReadBasis], files: RollFiles, 
         "basis": default,
         "bases": of_bases,
         **{name: _file(file) for name, file in files._asdict().items()},
+        "encoding": encoding,
         "rows": counts.rows,
         "joined": sum(counts.joined.values()),
         "left": counts.left,

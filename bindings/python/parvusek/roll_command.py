@@ -36,7 +36,8 @@ def roll(options: argparse.Namespace) -> int:
         files = provenance.RollFiles((options.calls, prepared.source.sha256), prepared.before.file,
                                      (options.out, written.sha256),
                                      None if outputs.keep is None else (options.keep, sha256(kept)))
-        record = provenance.roll_record(started, prepared.bases, files, prepared.before.roll, after, counts)
+        record = provenance.roll_record(started, prepared.bases, files, prepared.source.encoding, prepared.before.roll,
+                                        after, counts)
         _write_beside(outputs, drafts, kept, record)
         put_all(drafts)
     _tell(options, prepared, after, counts)

@@ -15,7 +15,15 @@ from .outputs import STANDARD, Draft
 
 
 def say(text: str) -> None:
-    print(text)
+    with saying():
+        print(text)
+
+
+@contextlib.contextmanager
+def saying() -> Iterator[None]:
+    """An error inside is that of standard output, and of no file."""
+    with naming("what is said on standard output cannot be written"):
+        yield
 
 
 def warn(text: str) -> None:

@@ -36,6 +36,13 @@ def leave_out() -> None:
     _is_stopping = True
 
 
+def hold_back() -> None:
+    """From now on none arrives at all: while the interpreter ends it has no handlers, and a signal would end the process
+    with its own status, as if no output had taken its place."""
+    leave_out()
+    signal.pthread_sigmask(signal.SIG_BLOCK, STOPPING)
+
+
 def _stop(number: int, frame: Optional[FrameType]) -> None:
     if not _is_stopping:
         leave_out()

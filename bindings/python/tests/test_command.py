@@ -315,7 +315,8 @@ class Histories(Command):
         self.assertEqual(status, 1)
         self.assertIn("there is no folder", wrong)
         status, _, wrong = self.run_command("basis", "make", tables, self.basis, "--history", self.basis)
-        self.assertEqual((status, wrong), (1, f"parvusek: {self.basis} cannot be {self.basis} as well; name another\n"))
+        self.assertEqual((status, wrong), (
+            1, f"parvusek: {self.basis}: two outputs would be one file; name another for one of them\n"))
         self.assertEqual((self.basis.read_bytes(), self.beside.read_bytes()), (before, self.history))
         self.assertEqual(sorted(os.listdir(self.folder)), ["basis.bin", "history.bin", "members.csv", "tables"])
 

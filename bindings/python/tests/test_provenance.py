@@ -136,6 +136,7 @@ class Record(Command):
                       "foundation_year": 2006, "base_year": 2000},
             "history": {"file": str(OLDER / "history.bin"), "sha256": digest((OLDER / "history.bin").read_bytes())},
             "members": {"file": str(self.members), "sha256": digest(self.members.read_bytes())},
+            "encoding": "utf-8",
             "values": {"file": str(self.out), "sha256": digest(self.out.read_bytes())},
             "rows": 9, "valued": 7, "refused": 2, "refusals": {"6": 1, "8": 1},
             "blank_lines": 0, "rows_over_several_lines": 0,

@@ -1,10 +1,12 @@
 """The command roll: the calls of a CSV in order, the running total on every row, and each refusal on its own row."""
 
 import csv
+import os
 from fractions import Fraction
 from math import floor
 from pathlib import Path
 from typing import Optional, Sequence
+from unittest import mock
 
 from parvusek import UNIT, Basis, Kind
 
@@ -107,6 +109,18 @@ class Calls(RollCommand):
         self.assertEqual(wrong, b"parvusek: standard output: 1 row, 1 joined, 0 left, 0 refused; "
                                 b"1 member on the roll of 2010, total 1,570 pence; no record is written for it\n")
 
+    def test_standard_output_that_is_closed_or_full(self) -> None:
+        (self.folder / "calls.csv").write_text(f"{HEADER}\njoin,1,65,100\n")
+        run = ["roll", self.folder / "calls.csv", SAMPLE / "basis.bin"]
+        status, _, wrong = self.run_process(*run, "-", "--year", 2010, stdout=None, preexec_fn=lambda: os.close(1))
+        self.assertEqual((status, wrong), (1, b"parvusek: standard output is closed, which the output would go to\n"))
+        for unbuffered in ("", "1"):  # the outputs are there, and what is said names none of them
+            with open("/dev/full", "wb") as full, mock.patch.dict(os.environ, PYTHONUNBUFFERED=unbuffered):
+                status, _, wrong = self.run_process(*run, self.out, "--year", 2010, stdout=full)
+            self.assertEqual((status, wrong), (1, b"parvusek: what is said on standard output cannot be written: "
+                                                  b"No space left on device\n"))
+            self.assertEqual(self.files(), ["calls.csv", "out.csv", "out.csv.json"])
+
     def test_the_sample(self) -> None:
         status, _, wrong = self.run_command("roll", SAMPLE / "roll.csv", SAMPLE / "basis.bin", self.out, "--year", 2010)
         self.assertEqual((status, wrong), (0, ""))
@@ -134,10 +148,13 @@ class Forms(RollCommand):
         for place, reason in ((1, "call is 'jion', neither join nor leave"), (2, "call is '', neither join nor leave"),
                               (3, "number is '02', not a whole number"), (6, "pension is '100.50', not a whole number"),
                               (8, "number is '4294967296', not a whole number of 0 to 4,294,967,295"),
-                              (11, "3 cells where the header has 4"), (12, "number is '', not a whole number"),
+                              (11, ": 3 cells where the header has 4"), (12, "number is '', not a whole number"),
                               (13, "5 cells where the header has 4")):
             self.assertIn(reason, rows[place]["message"])
         self.assertEqual(rows[13][None], ["more"])  # type: ignore[index]
+
+    def test_a_row_of_one_cell(self) -> None:
+        self.assertTrue(self.roll(["join"])[0]["message"].endswith(": 1 cell where the header has 4"))
 
     def test_a_leave_may_end_early(self) -> None:
         rows = self.roll(["join,1,65,100,x", "leave,1"], header=HEADER + ",remark")
@@ -206,6 +223,14 @@ class Bases(RollCommand):
         self.assertIn("(line 3): basis is 'old', which no --basis names", rows[1]["message"])
         self.assertEqual(self.wrong, "parvusek: refused for a basis that no --basis names: 2 rows, "
                                      "the first in line 3: 'old'\n")
+
+    def test_names_without_their_column(self) -> None:
+        """Otherwise each join would be by BASIS.bin, whatever its row meant to say."""
+        status, said, wrong = self.roll_bytes(f"{HEADER},bases\njoin,1,65,100,old\n".encode(), "--basis",
+                                              f"old={OLDER / 'basis.bin'}")
+        self.assertEqual((status, said, self.files()), (1, "", ["calls.csv"]))
+        self.assertEqual(wrong, "parvusek: the header row has no column 'basis', so that no join would be by the basis that "
+                                "--basis names: old\n")
 
     def test_a_cell_never_names_a_file(self) -> None:
         rows = self.roll([f"join,1,65,100,{SAMPLE / 'basis.bin'}"], header=HEADER + ",basis")

@@ -39,7 +39,7 @@ class Record(RollCommand):
             "record": "parvusek roll", "version": __version__, "year": 2010, "basis": {**new, "joined": 1},
             "bases": {"old": {**old, "joined": 1}, "idle": {**new, "joined": 0}},
             "calls": self.file(self.folder / "calls.csv"), "roll": None, "out": self.file(self.out),
-            "keep": self.file(kept),
+            "keep": self.file(kept), "encoding": "utf-8",
             "rows": 5, "joined": 2, "left": 1, "refused": 2, "refusals": {"15": 1, "16": 1}, "blank_lines": 1,
             "rows_over_several_lines": 0, "before": {"members": 0, "total": 0},
             "after": {"members": 1, "total": roll.total}})
@@ -54,6 +54,17 @@ class Record(RollCommand):
         found = self.record()
         self.assertEqual((found["roll"], found["keep"]), (self.file(first), self.file(second)))
         self.assertEqual((found["before"], found["after"]), ({"members": 1, "total": 1570}, {"members": 2, "total": 3140}))
+
+    def test_the_encoding(self) -> None:
+        """The same bytes on the same basis are another total in another encoding, so that the record tells it."""
+        calls = f"{HEADER},name\njoin,1,65,100,M\u00fcller\njoin,2,65,100,Smith\n".encode("cp1252")
+        found = []
+        for options in (["--encoding", "windows-1252"], []):
+            self.assertEqual(self.roll_bytes(calls, *options)[0], 0)
+            found.append(self.record())
+        self.assertEqual([record["encoding"] for record in found], ["cp1252", "utf-8"])
+        self.assertEqual([record["after"]["total"] for record in found], [3140, 1570])
+        self.assertEqual(found[0]["calls"], found[1]["calls"])
 
     def test_elsewhere_or_not_at_all(self) -> None:
         self.roll(["join,1,65,100"], "--no-record")
@@ -123,7 +134,7 @@ class Kept(RollCommand):
             status, said, wrong = self.roll_bytes(HEADER.encode(), "--roll", kept, "--keep", keep, year=None)
             self.assertEqual((status, said), (1, ""), keep)
             self.assertRegex(wrong, "is there already, and no kept roll is written over|is a folder")
-        for keep, why in (("-", "in a file of its own"), (self.out, "cannot be"), (f"{self.out}.json", "cannot be"),
+        for keep, why in (("-", "in a file of its own"), (self.out, "be one file"), (f"{self.out}.json", "be one file"),
                           (self.folder / "no" / "folder", "there is no folder"), ("/dev/null", "is there already")):
             status, said, wrong = self.roll_bytes(HEADER.encode(), "--keep", keep)
             self.assertEqual((status, said), (1, ""), keep)
@@ -169,6 +180,43 @@ class Kept(RollCommand):
             self.roll(["join,1,65,100"], "--keep", kept)
         self.assertEqual(Roll.read(kept).total, 1570)
         self.assertEqual(self.files(), ["calls.csv", "out.csv", "out.csv.json", "roll.bin"])
+
+
+    def test_an_output_that_cannot_take_its_place(self) -> None:
+        """The roll is not kept then: no run has ended well with it, and it would keep back the next one."""
+        kept = self.folder / "roll.bin"
+        self.roll(["join,1,65,100"])
+        before = {name: (self.folder / name).read_bytes() for name in ("out.csv", "out.csv.json")}
+        replace, gone = os.replace, PermissionError(13, "Permission denied")
+
+        def fails_for(name: str) -> Any:
+            def put(part: str, path: str) -> None:
+                if os.path.basename(path) == name:
+                    raise gone
+                replace(part, path)
+            return mock.patch("os.replace", put)
+
+        for links in (os.link, mock.Mock(side_effect=PermissionError(1, "no links here"))):
+            with fails_for("out.csv.json"), mock.patch("os.link", links):
+                status, said, wrong = self.roll_bytes(f"{HEADER}\njoin,2,65,100\n".encode(), "--keep", kept)
+            self.assertEqual((status, said), (1, ""))
+            self.assertEqual(wrong, f"parvusek: {self.out}.json cannot be written: Permission denied\n")
+            self.assertEqual(self.files(), ["calls.csv", "out.csv", "out.csv.json"])
+            self.assertEqual({name: (self.folder / name).read_bytes() for name in before}, before)
+        with fails_for("out.csv"):
+            status, said, wrong = self.roll_bytes(f"{HEADER}\njoin,2,65,100\n".encode(), "--keep", kept)
+        self.assertEqual((status, said, self.files()), (1, "", ["calls.csv", "out.csv", "out.csv.json"]))
+        self.assertEqual(wrong.splitlines(), [
+            f"parvusek: {self.out} cannot be written: Permission denied",
+            f"parvusek: {self.out}.json is the new one already, and does not belong to {self.out}"])
+        self.assertEqual(self.out.read_bytes(), before["out.csv"])
+
+    def test_on_a_disk_without_links_that_fails(self) -> None:
+        """The empty file that held the place goes again."""
+        no = PermissionError(1, "no links here")
+        with mock.patch("os.link", side_effect=no), mock.patch("os.replace", side_effect=no):
+            status, _, _ = self.roll_bytes(f"{HEADER}\njoin,1,65,100\n".encode(), "--keep", self.folder / "roll.bin")
+        self.assertEqual((status, self.files()), (1, ["calls.csv"]))
 
 
 class Unchanged(RollCommand):

@@ -3,9 +3,12 @@
 import os
 import select
 import signal
+import subprocess
+import sys
+import textwrap
 import time
 
-from . import SAMPLE
+from . import REPOSITORY, SAMPLE
 from .command import Command, members_of
 
 
@@ -61,6 +64,26 @@ class Stopped(Command):
         time.sleep(0.5)  # until the fifo is full
         process.send_signal(signal.SIGTERM)
         self.assertEqual(process.wait(timeout=30), 143)
+
+    def test_after_the_outputs_are_there(self) -> None:
+        """While the interpreter ends, too, the status says that they are: it has no handlers by then."""
+        members = self.folder / "members.csv"
+        members.write_text(members_of([65]), encoding="utf-8")
+        program = textwrap.dedent("""
+            import os, signal, sys
+            from parvusek.__main__ import main
+            class Last:
+                kill, itself, number = staticmethod(os.kill), os.getpid(), int(sys.argv.pop(1))
+                def __del__(self):
+                    self.kill(self.itself, self.number)
+            last = Last()
+            sys.exit(main())
+        """)
+        environment = dict(os.environ, PYTHONPATH=str(REPOSITORY / "bindings" / "python"))
+        for number in (signal.SIGTERM, signal.SIGHUP, signal.SIGINT):
+            run = subprocess.run([sys.executable, "-c", program, str(int(number)), "value", members, SAMPLE / "basis.bin",
+                                  self.folder / "values.csv"], env=environment, capture_output=True, timeout=60)
+            self.assertEqual((run.returncode, run.stderr), (0, b""), number.name)
 
     def test_at_any_moment(self) -> None:
         """However early or late the signal comes, no traceback is seen and no temporary file is left."""
