@@ -42,10 +42,12 @@ use Rattle.lifeline.specs.Said.{Start, ended, Step}
 use Rattle.roll.specs.Roll.{joinCheck, liabilityOf, liabilityOn, liabilityJoining, afterCall}
 use Rattle.roll.specs.Kept.{rollCheck, numbersIn, openedRoll, joining, joinedRoll, leftRoll}
 use Rattle.roll.proofs.RunningTotal.{running-total}
+use Rattle.roll.proofs.Further.{further-kept}
 use Rattle.engine.specs.Enquiry.{refusalOf, readCheck, writeCheck, shortCheck}
 use Rattle.refusals.proofs.Calls.{numbered-refusals, zero-is-none}
 use Rattle.exact.proofs.Demands.{demand-3}
 use Rattle.handed_out.proofs.Distances.{handed-out}
+use Rattle.demands.proofs.HandedTotal.{handed-total}
 use Rattle.demands.specs.Demands.{RefusedThroughout, Demand1, Demand2, Demands}
 
 -- a refused output is unchanged
@@ -137,6 +139,8 @@ module _ (run history : List ℕ) where
         point = λ q h. ap pointAnswerOf (checked-passed _ _ h);
         liability = λ year age pension h. ap (λ (o : Outcome ℤ). andThen o (λ a. value (liabilityOf pension a))) (checked-passed _ _ h);
         runningTotal = running-total;
+        handedTotal = handed-total;
+        furtherKept = further-kept;
         sweep = each-step run history;
         heldIsFixed = held-is-fixed;
         workingsAreFixed = workings-are-fixed;

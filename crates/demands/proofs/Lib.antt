@@ -1,1 +1,2 @@
+pub mod HandedTotal
 pub mod Demands

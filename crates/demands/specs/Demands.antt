@@ -2,8 +2,8 @@
 -- any bytes at all, and each field is a theorem. They speak of the definitions that the contracts cite: each function of crates/engine answers
 -- with one of them, and always returns, which is what the checker accepts of its code. `demands-met` in proofs/ proves them.
 use mathlib.Core.Path.{_≡_}
-use mathlib.Core.List.{List}
-use Prim.Native.Nat.{ℕ, _≤_}
+use mathlib.Core.List.{List, [], _∷_, _++_}
+use Prim.Native.Nat.{ℕ, _^_, _≤_, _<_}
 use lib.IntN.{ℤ}
 use lib.ListN.{length}
 use Rattle.arithmetic.specs.Rounding.{TiesGoUp}
@@ -39,12 +39,12 @@ use Rattle.grid_record.specs.Record.{questionOf, recordOf, answeredOf}
 use Rattle.grid.specs.Grid.{gridCheck, gridOf}
 use Rattle.lifeline.specs.Lifeline.{startAt, stepAt, standAt, standMoved}
 use Rattle.lifeline.specs.Survivorship.{IsCohortSurvivorship}
-use Rattle.roll.specs.Roll.{joinCheck, liabilityOf, liabilityOn, afterCall}
-use Rattle.roll.specs.Kept.{rollCheck, numbersIn, openedRoll, joinedRoll, leftRoll}
-use Rattle.roll.specs.Totals.{RunningTotal}
+use Rattle.roll.specs.Roll.{joinCheck, liabilityOf, liabilityOn, Call, afterCall, membersAfter, totalOf}
+use Rattle.roll.specs.Kept.{rollCheck, numbersIn, openedRoll, joinedRoll, leftRoll, totalSaid, rollBy, rollAfter}
+use Rattle.roll.specs.Totals.{RunningTotal, FurtherKept}
 use Rattle.enquiry_text.specs.Said.{LineSays}
 use Rattle.figures.specs.Figures.{FiguresHold}
-use Rattle.engine.specs.Enquiry.{readCheck, writeCheck, shortCheck}
+use Rattle.engine.specs.Enquiry.{answerOf, readCheck, writeCheck, shortCheck}
 use Rattle.refusals.specs.Numbered.{workOn, NumberedRefusals, ZeroIsNone}
 use Rattle.exact.specs.Distance.{Demand3}
 use Rattle.handed_out.specs.HandedOut.{HandedOut}
@@ -121,6 +121,12 @@ pub record Demand2 (run history : List ℕ) : Type 0 where
   pub liability : (year age pension : ℕ) → valuationCheck run history age 0 year ≡ passed →
       liabilityOn run history year age pension ≡ andThen (annuityOf (basisWith run history) Cohort age year 0) (λ a. value (liabilityOf pension a))
   pub runningTotal : RunningTotal
+  -- which is the value that each join and leave hands to the host, where its refusal has number 0
+  pub handedTotal : (year : ℕ) (lent : List ℕ) (calls : List Call) (call : Call) → year < 2 ^ 32 → 2002 ≤ length lent →
+      let r = answerOf (totalSaid (rollBy (rollAfter (afterCall lent (openedRoll year lent)) calls) call)) in
+      r .refusal .number ≡ 0 → r .value ≡ totalOf (membersAfter year [] (calls ++ call ∷ []))
+  -- what the host keeps behind a roll is left alone
+  pub furtherKept : FurtherKept
   -- ties go up, and the two components are rounded once (02, change 3)
   pub ties : TiesGoUp
   pub oneRounding : OneRounding

@@ -6,14 +6,14 @@ use Prim.Native.Nat.{ℕ, zero, suc, _*_, _-_, _^_, _≤_, _<_}
 use native.Mathlib.Nat.{mod-eq-of-lt}
 use native.Mathlib.Omega.{arith}
 use lib.IntN.{ℤ, pos, natAbs}
-use lib.ListN.{length, getD, drop, set, length-set, length-map}
-use lib.Seq.{getD-set-same, getD-set-other, drop-set-lt}
+use lib.ListN.{length, getD, set, length-set, length-map}
+use lib.Seq.{getD-set-same, getD-set-other}
 use Rattle.basis.specs.declared.Refusal.{Refusal}
 use Rattle.basis.specs.Outcome.{Finding, passed, refusedBy, Outcome, value, refused, checked, andThen}
 use Rattle.roll.specs.Roll.{Member, numbersOf, totalOf, leaveCheck, liabilityJoining, others, Call, joins, leaves, memberOf, membersBy, afterCall, membersAfter}
 use Rattle.roll.specs.Kept.{yearIn, countIn, areaIn, numbersIn, totalIn, opened, withMember, placeOf, without, withoutMember, joining, leaving, totalSaid, rollBy, rollAfter}
 use Rattle.roll.proofs.Places.{map-without}
-use Rattle.roll.proofs.OneMember.{with-length, with-year, with-area, with-further, out-length, out-year, out-area, out-further}
+use Rattle.roll.proofs.OneMember.{with-length, with-year, with-area, out-length, out-year, out-area}
 use Rattle.roll.proofs.Numbers.{Distinct, distinct-joined, distinct-without, others-without}
 use Rattle.roll.proofs.Cases.{room-passes, length-numbers, MayJoin, leave-passed}
 use Rattle.roll.proofs.Liability.{largest, join-value}
@@ -41,15 +41,14 @@ total-small (m ∷ ms) h = omega (arith, h .0, total-small ms (h .1))
 abbrev pub fieldOf : ℕ → Member → ℕ
 fieldOf k m = getD (m .number ∷ m .age ∷ m .pension ∷ m .liability ∷ []) k 0
 
-pub record Holds (year : ℕ) (lent roll : List ℕ) (members : List Member) : Type 0 where
+pub record Holds (year : ℕ) (roll : List ℕ) (members : List Member) : Type 0 where
   pub room : 2002 ≤ length roll
   pub in-year : yearIn roll ≡ year
   pub areas : (k : ℕ) → k < 4 → areaIn k roll ≡ map (fieldOf k) members
   pub small : AllSmall members
   pub distinct : Distinct (numbersOf members)
-  pub further : drop 2002 roll ≡ drop 2002 lent
 
-pub holds-opened : (year : ℕ) (lent : List ℕ) → year < 2 ^ 32 → 2002 ≤ length lent → Holds year lent (opened year lent) []
+pub holds-opened : (year : ℕ) (lent : List ℕ) → year < 2 ^ 32 → 2002 ≤ length lent → Holds year (opened year lent) []
 unfolding opened
 holds-opened year lent h k =
     let l : 1 < length (set lent 0 year) = rw length-set (omega arith) in
@@ -60,15 +59,14 @@ holds-opened year lent h k =
       areas = λ k _. rw z refl;
       small = tt;
       distinct = tt;
-      further = drop-set-lt 2002 (set lent 0 year) 1 0 (omega arith) ∙ drop-set-lt 2002 lent 0 year (omega arith);
     }
 
 -- ---- the outcomes of a call on both sides: a roll that holds the members, or the same refusal
-pub data Agree (year : ℕ) (lent : List ℕ) : Outcome (List ℕ) → Outcome (List Member) → Type 0 where
-  agreed : {roll : List ℕ} {members : List Member} → Holds year lent roll members → Agree year lent (value roll) (value members)
-  both-refuse : (r : Refusal) → Agree year lent (refused r) (refused r)
+pub data Agree (year : ℕ) : Outcome (List ℕ) → Outcome (List Member) → Type 0 where
+  agreed : {roll : List ℕ} {members : List Member} → Holds year roll members → Agree year (value roll) (value members)
+  both-refuse : (r : Refusal) → Agree year (refused r) (refused r)
 
-module _ (year : ℕ) (lent roll : List ℕ) (members : List Member) (holds : Holds year lent roll members) where
+module _ (year : ℕ) (roll : List ℕ) (members : List Member) (holds : Holds year roll members) where
   pub holds-numbers : numbersIn roll ≡ numbersOf members
   holds-numbers = holds .areas 0 (omega arith)
 
@@ -82,7 +80,7 @@ module _ (year : ℕ) (lent roll : List ℕ) (members : List Member) (holds : Ho
   numbers-count = length-map members (λ m. m .number) ∙ holds-count
 
   holds-joined : (number age pension : ℕ) (l : ℤ) → MayJoin (numbersOf members) number pension → natAbs l ≤ largest
-      → Holds year lent (withMember number age pension (natAbs l) roll) (members ++ memberOf number age pension l ∷ [])
+      → Holds year (withMember number age pension (natAbs l) roll) (members ++ memberOf number age pension l ∷ [])
   holds-joined number age pension l may small =
       let r = holds .room in
       let more : countIn roll < 500 = rw numbers-count at (may .space) in
@@ -96,10 +94,9 @@ module _ (year : ℕ) (lent roll : List ℕ) (members : List Member) (holds : Ho
             ∙ sym (map-append (fieldOf k) members (m ∷ []));
         small = small-joined members m (holds .small) small;
         distinct = rw (map-append (λ n. n .number) members (m ∷ [])) (distinct-joined (numbersOf members) number (holds .distinct) (may .unlisted));
-        further = with-further roll r number age pension (natAbs l) more ∙ holds .further;
       }
 
-  holds-left : (i : ℕ) → i < countIn roll → Holds year lent (withoutMember i roll) (without i members)
+  holds-left : (i : ℕ) → i < countIn roll → Holds year (withoutMember i roll) (without i members)
   holds-left i on =
       let r = holds .room in
       let m = countIn roll - 1 in
@@ -111,7 +108,6 @@ module _ (year : ℕ) (lent roll : List ℕ) (members : List Member) (holds : Ho
         areas = λ k h. out-area roll r i m c o k h ∙ ap (without i) (holds .areas k h) ∙ sym (map-without (fieldOf k) i members);
         small = small-without i members (holds .small);
         distinct = rw (map-without (λ n. n .number) i members) (distinct-without i (numbersOf members) (holds .distinct));
-        further = out-further roll r i m c o ∙ holds .further;
       }
 
   join-same : (run history : List ℕ) (number age pension : ℕ)
@@ -124,13 +120,13 @@ module _ (year : ℕ) (lent roll : List ℕ) (members : List Member) (holds : Ho
   leave-same number = rw (room-passes roll (holds .room), holds-numbers) refl
 
   -- one call
-  pub agree-by : (call : Call) → Agree year lent (rollBy roll call) (membersBy year members call)
+  pub agree-by : (call : Call) → Agree year (rollBy roll call) (membersBy year members call)
   unfolding membersBy
   agree-by (joins run history number age pension) =
       rw (join-same run history number age pension) (by (liabilityJoining (numbersOf members) year run history number age pension) refl)
     where
       by : (o : Outcome ℤ) → liabilityJoining (numbersOf members) year run history number age pension ≡ o
-          → Agree year lent (andThen o (λ l. value (withMember number age pension (natAbs l) roll)))
+          → Agree year (andThen o (λ l. value (withMember number age pension (natAbs l) roll)))
           (andThen o (λ l. value (members ++ memberOf number age pension l ∷ [])))
       by (value l) e =
           let v = join-value (numbersOf members) year run history number age pension l e in
@@ -139,7 +135,7 @@ module _ (year : ℕ) (lent roll : List ℕ) (members : List Member) (holds : Ho
   agree-by (leaves number) = rw (leave-same number) (by (leaveCheck (numbersOf members) number) refl)
     where
       by : (check : Finding) → leaveCheck (numbersOf members) number ≡ check
-          → Agree year lent (checked check (value (withoutMember (placeOf number (numbersIn roll)) roll))) (checked check (value (others number members)))
+          → Agree year (checked check (value (withoutMember (placeOf number (numbersIn roll)) roll))) (checked check (value (others number members)))
       by passed e =
           let p = leave-passed (numbersOf members) number e in
           rw (holds-numbers, others-without number members (holds .distinct))
@@ -154,21 +150,21 @@ module _ (year : ℕ) (lent roll : List ℕ) (members : List Member) (holds : Ho
       rw (holds .areas 3 (omega arith)) (mod-eq-of-lt (omega (arith, total-small members (holds .small))))
 
 -- ---- the roll and the members after a call
-pub agree-after : (year : ℕ) (lent roll : List ℕ) (members : List Member) → Holds year lent roll members → {o : Outcome (List ℕ)} {p : Outcome (List Member)}
-    → Agree year lent o p → Holds year lent (afterCall roll o) (afterCall members p)
-agree-after year lent roll members holds (agreed h) = h
-agree-after year lent roll members holds (both-refuse r) = holds
+pub agree-after : (year : ℕ) (roll : List ℕ) (members : List Member) → Holds year roll members → {o : Outcome (List ℕ)} {p : Outcome (List Member)}
+    → Agree year o p → Holds year (afterCall roll o) (afterCall members p)
+agree-after year roll members holds (agreed h) = h
+agree-after year roll members holds (both-refuse r) = holds
 
-pub agree-says : (year : ℕ) (lent : List ℕ) {o : Outcome (List ℕ)} {p : Outcome (List Member)} → Agree year lent o p
+pub agree-says : (year : ℕ) {o : Outcome (List ℕ)} {p : Outcome (List Member)} → Agree year o p
     → totalSaid o ≡ andThen p (λ after. value (pos (totalOf after)))
-agree-says year lent (agreed {roll = roll} {members = members} h) = ap (λ n. value (pos n)) (holds-total year lent roll members h)
-agree-says year lent (both-refuse r) = refl
+agree-says year (agreed {roll = roll} {members = members} h) = ap (λ n. value (pos n)) (holds-total year roll members h)
+agree-says year (both-refuse r) = refl
 
 -- all calls
-pub holds-after : (year : ℕ) (lent roll : List ℕ) (members : List Member) (calls : List Call) → Holds year lent roll members
-    → Holds year lent (rollAfter roll calls) (membersAfter year members calls)
+pub holds-after : (year : ℕ) (roll : List ℕ) (members : List Member) (calls : List Call) → Holds year roll members
+    → Holds year (rollAfter roll calls) (membersAfter year members calls)
 unfolding rollAfter membersAfter
-holds-after year lent roll members [] h = h
-holds-after year lent roll members (call ∷ calls) h =
-    holds-after year lent (afterCall roll (rollBy roll call)) (afterCall members (membersBy year members call)) calls
-    (agree-after year lent roll members h (agree-by year lent roll members h call))
+holds-after year roll members [] h = h
+holds-after year roll members (call ∷ calls) h =
+    holds-after year (afterCall roll (rollBy roll call)) (afterCall members (membersBy year members call)) calls
+    (agree-after year roll members h (agree-by year roll members h call))

@@ -7,4 +7,5 @@ pub mod Cases
 pub mod Liability
 pub mod Holds
 pub mod RunningTotal
+pub mod Further
 pub mod Numbered

@@ -12,12 +12,12 @@ use Rattle.roll.specs.Totals.{Stands, RunningTotal}
 use Rattle.roll.proofs.Cases.{room-passes}
 use Rattle.roll.proofs.Holds.{Holds, total-small, holds-opened, holds-count, holds-total, agree-by, agree-says, holds-after}
 
-stands-so : (year : ℕ) (lent roll : List ℕ) (members : List Member) → Holds year lent roll members → Stands year lent roll members
-stands-so year lent roll members h =
-    let c = holds-count year lent roll members h in
+stands-so : (year : ℕ) (roll : List ℕ) (members : List Member) → Holds year roll members → Stands year roll members
+stands-so year roll members h =
+    let c = holds-count year roll members h in
     record {
-      total = rw (room-passes roll (h .room)) (ap (λ n. value (pos n)) (holds-total year lent roll members h));
-      says = λ call. agree-says year lent (agree-by year lent roll members h call);
+      total = rw (room-passes roll (h .room)) (ap (λ n. value (pos n)) (holds-total year roll members h));
+      says = λ call. agree-says year (agree-by year roll members h call);
       valuationYear = h .in-year;
       numbers = h .areas 0 (omega arith);
       ages = h .areas 1 (omega arith);
@@ -25,13 +25,13 @@ stands-so year lent roll members h =
       liabilities = h .areas 3 (omega arith);
       count = omega arith;
       fits = total-small members (h .small);
-      further = h .further;
     }
 
 pub running-total : RunningTotal
 running-total =
     record {
       stands = λ year lent calls small room.
-          stands-so year lent (rollAfter (opened year lent) calls) (membersAfter year [] calls)
-          (holds-after year lent (opened year lent) [] calls (holds-opened year lent small room));
+          rw (room-passes lent room)
+          (stands-so year (rollAfter (opened year lent) calls) (membersAfter year [] calls)
+          (holds-after year (opened year lent) [] calls (holds-opened year lent small room)));
     }

@@ -12,7 +12,7 @@ use Rattle.basis.specs.Refusals.{isListed}
 use Rattle.survivorship.specs.declared.Kind.the-variants.{Cohort}
 use Rattle.enquiry.specs.Enquiry.{annuityEnquiry}
 
--- ---- members
+-- ---- "A roll holds up to 500 members: a 4-byte number, an age and a yearly pension of 0 to 10,000,000 pence"
 pub record Member : Type 0 where
   pub number : ℕ
   pub age : ℕ
@@ -24,45 +24,33 @@ pub record Member : Type 0 where
 abbrev pub numbersOf : List Member → List ℕ
 numbersOf members = map (λ m. m .number) members
 
-abbrev pub added : List ℕ → ℕ
-added [] = 0
-added (n ∷ ns) = n + added ns
+-- ---- "A member's liability is pension × cohort annuity (deferment 0) / U rounded to whole pence, set at the join from the basis and history
+-- lent there"
+abbrev pub liabilityOf : ℕ → ℤ → ℤ
+liabilityOf pension annuity = round (whole (pos pension *ℤ annuity) /ᶠ U)
 
--- the sum of their liabilities
-abbrev pub totalOf : List Member → ℕ
-totalOf members = added (map (λ m. m .liability) members)
+-- in the valuation year
+unfoldable pub liabilityOn : List ℕ → List ℕ → ℕ → ℕ → ℕ → Outcome ℤ
+liabilityOn run history year age pension = andThen (annuityEnquiry run history Cohort age 0 year) (λ a. value (liabilityOf pension a))
 
--- ---- a join and a leave
--- the number is on the roll (16), which is tested before the roll is full (14); directly after it a pension above the limit (5)
+-- ---- "It refuses a join with the roll full (14), a leave by a number not on it (15) and a join by a number already on it (16), the last
+-- tested before 14 and all before any engine refusal, places member number and 0. A pension above the limit is number 5 with the same places,
+-- directly after 14."
 unfoldable pub joinCheck : List ℕ → ℕ → ℕ → Finding
 joinCheck numbers number pension =
     firstOf (unless (not (isListed numbers number)) (refusal 16 number 0))
     (firstOf (unless (ltb (length numbers) 500) (refusal 14 number 0))
     (unless (leb pension 10_000_000) (refusal 5 number 0)))
 
--- the number is not on it (15)
 unfoldable pub leaveCheck : List ℕ → ℕ → Finding
 leaveCheck numbers number = unless (isListed numbers number) (refusal 15 number 0)
 
--- pension × annuity / U, rounded to whole pence
-abbrev pub liabilityOf : ℕ → ℤ → ℤ
-liabilityOf pension annuity = round (whole (pos pension *ℤ annuity) /ᶠ U)
-
--- with the cohort annuity, deferment 0, on the basis and history that are lent, in the valuation year
-unfoldable pub liabilityOn : List ℕ → List ℕ → ℕ → ℕ → ℕ → Outcome ℤ
-liabilityOn run history year age pension = andThen (annuityEnquiry run history Cohort age 0 year) (λ a. value (liabilityOf pension a))
-
--- what a join comes to: the member's liability, or a refusal, those of the roll before any of the engine's
+-- what a join comes to: the member's liability, or a refusal
 unfoldable pub liabilityJoining : List ℕ → ℕ → List ℕ → List ℕ → ℕ → ℕ → ℕ → Outcome ℤ
 liabilityJoining numbers year run history number age pension =
     checked (joinCheck numbers number pension) (liabilityOn run history year age pension)
 
--- those of another number
-abbrev pub others : ℕ → List Member → List Member
-others number [] = []
-others number (m ∷ ms) = cond (eqb (m .number) number) (others number ms) (m ∷ others number ms)
-
--- ---- the list of calls
+-- ---- "Members join and leave in any order, and a place left is usable by the next to join."
 -- a join: basis and history lent to it, member number, age, pension; or a leave by a member number
 pub data Call : Type 0 where
   joins : List ℕ → List ℕ → ℕ → ℕ → ℕ → Call
@@ -72,18 +60,30 @@ pub data Call : Type 0 where
 abbrev pub memberOf : ℕ → ℕ → ℕ → ℤ → Member
 memberOf number age pension liability = record { number = number; age = age; pension = pension; liability = natAbs liability }
 
+-- the members of another number
+abbrev pub others : ℕ → List Member → List Member
+others number [] = []
+others number (m ∷ ms) = cond (eqb (m .number) number) (others number ms) (m ∷ others number ms)
+
 -- the members after a call, or its refusal
 unfoldable pub membersBy : ℕ → List Member → Call → Outcome (List Member)
 membersBy year members (joins run history number age pension) =
     andThen (liabilityJoining (numbersOf members) year run history number age pension) (λ l. value (members ++ memberOf number age pension l ∷ []))
 membersBy year members (leaves number) = checked (leaveCheck (numbersOf members) number) (value (others number members))
 
--- a refused call leaves the roll unchanged
+-- "A refused call leaves the roll unchanged."
 abbrev pub afterCall : {A : Type 0} → A → Outcome A → A
 afterCall old (value new) = new
 afterCall old (refused r) = old
 
--- those who joined and have not left, the first call first
+-- ---- "the sum for those who joined and have not left, worked out from the list of calls", the first call first
 unfoldable pub membersAfter : ℕ → List Member → List Call → List Member
 membersAfter year members [] = members
 membersAfter year members (call ∷ calls) = membersAfter year (afterCall members (membersBy year members call)) calls
+
+abbrev pub added : List ℕ → ℕ
+added [] = 0
+added (n ∷ ns) = n + added ns
+
+abbrev pub totalOf : List Member → ℕ
+totalOf members = added (map (λ m. m .liability) members)

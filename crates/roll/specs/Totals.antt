@@ -6,11 +6,11 @@ use Prim.Native.Nat.{ℕ, _*_, _^_, _≤_, _<_}
 use lib.IntN.{pos}
 use lib.ListN.{length, drop}
 use Rattle.basis.specs.Outcome.{value, andThen}
-use Rattle.roll.specs.Roll.{Member, numbersOf, totalOf, Call, membersBy, membersAfter}
-use Rattle.roll.specs.Kept.{yearIn, numbersIn, agesIn, pensionsIn, liabilitiesIn, opened, totalSaid, totalAnswer, rollBy, rollAfter}
+use Rattle.roll.specs.Roll.{Member, numbersOf, totalOf, Call, membersBy, afterCall, membersAfter}
+use Rattle.roll.specs.Kept.{yearIn, numbersIn, agesIn, pensionsIn, liabilitiesIn, openedRoll, totalSaid, totalAnswer, rollBy, rollAfter}
 
 -- a roll after some calls, and those who joined by them and have not left
-pub record Stands (year : ℕ) (lent roll : List ℕ) (members : List Member) : Type 0 where
+pub record Stands (year : ℕ) (roll : List ℕ) (members : List Member) : Type 0 where
   -- "the total is the sum for those who joined and have not left"
   pub total : totalAnswer roll ≡ value (pos (totalOf members))
   -- and so is what each further call says, or it is refused as their numbers, the year and the engine say
@@ -24,10 +24,13 @@ pub record Stands (year : ℕ) (lent roll : List ℕ) (members : List Member) : 
   -- at most 500, each with at most 10,000,000 pence × 131 payments of at most 4: all of it fits in 64 bits
   pub count : length members ≤ 500
   pub fits : totalOf members ≤ length members * 5_240_000_000
-  -- what the host keeps behind the roll is left alone
-  pub further : drop 2002 roll ≡ drop 2002 lent
 
--- for every year, every list that is lent, whatever stands in it, and every list of calls, so after each of them
+-- for every year, every list that is lent, whatever stands in it, and every list of calls once it is opened, so after each of them
 pub record RunningTotal : Type 0 where
   pub stands : (year : ℕ) (lent : List ℕ) (calls : List Call) → year < 2 ^ 32 → 2002 ≤ length lent →
-      Stands year lent (rollAfter (opened year lent) calls) (membersAfter year [] calls)
+      Stands year (rollAfter (afterCall lent (openedRoll year lent)) calls) (membersAfter year [] calls)
+
+-- what the host keeps behind a roll is left alone, whatever stands in the list and however short it is
+pub record FurtherKept : Type 0 where
+  pub byOpening : (year : ℕ) (lent : List ℕ) → drop 2002 (afterCall lent (openedRoll year lent)) ≡ drop 2002 lent
+  pub byCalls : (roll : List ℕ) (calls : List Call) → drop 2002 (rollAfter roll calls) ≡ drop 2002 roll
