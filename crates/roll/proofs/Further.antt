@@ -18,7 +18,7 @@ unfolding opened
 further-opened year lent = by (rollCheck lent)
   where
     by : (check : Finding) → drop 2002 (afterCall lent (checked check (value (opened year lent)))) ≡ drop 2002 lent
-    by passed = drop-set-lt 2002 (set lent 0 year) 1 0 (omega arith) ∙ drop-set-lt 2002 lent 0 year (omega arith)
+    by passed = drop-set-lt 2002 (set lent 0 year) 1 _ (omega arith) ∙ drop-set-lt 2002 lent 0 year (omega arith)
     by (refusedBy r) = refl
 
 further-by : (roll : List ℕ) (call : Call) → drop 2002 (afterCall roll (rollBy roll call)) ≡ drop 2002 roll
