@@ -41,6 +41,7 @@ use Rattle.lifeline.proofs.Standing.{start-refused, step-refused}
 use Rattle.lifeline.specs.Said.{Start, ended, Step}
 use Rattle.roll.specs.Roll.{joinCheck, liabilityOf, liabilityOn, liabilityJoining, afterCall}
 use Rattle.roll.specs.Kept.{rollCheck, numbersIn, openedRoll, joining, joinedRoll, leftRoll}
+use Rattle.roll.proofs.Liability.{join-value}
 use Rattle.roll.proofs.RunningTotal.{running-total}
 use Rattle.roll.proofs.Further.{further-kept}
 use Rattle.engine.specs.Enquiry.{refusalOf, readCheck, writeCheck, shortCheck}
@@ -138,6 +139,7 @@ module _ (run history : List ℕ) where
         annuity = λ kind age deferment year h. checked-passed _ _ h;
         point = λ q h. ap pointAnswerOf (checked-passed _ _ h);
         liability = λ year age pension h. ap (λ (o : Outcome ℤ). andThen o (λ a. value (liabilityOf pension a))) (checked-passed _ _ h);
+        notBelowZero = λ on year number age pension l h. join-value on year run history number age pension l h .1;
         runningTotal = running-total;
         handedTotal = handed-total;
         furtherKept = further-kept;

@@ -4,7 +4,7 @@
 use mathlib.Core.Path.{_≡_}
 use mathlib.Core.List.{List, [], _∷_, _++_}
 use Prim.Native.Nat.{ℕ, _^_, _≤_, _<_}
-use lib.IntN.{ℤ}
+use lib.IntN.{ℤ, pos, natAbs}
 use lib.ListN.{length}
 use Rattle.arithmetic.specs.Rounding.{TiesGoUp}
 use Rattle.lent.specs.Lent.{written}
@@ -39,7 +39,7 @@ use Rattle.grid_record.specs.Record.{questionOf, recordOf, answeredOf}
 use Rattle.grid.specs.Grid.{gridCheck, gridOf}
 use Rattle.lifeline.specs.Lifeline.{startAt, stepAt, standAt, standMoved}
 use Rattle.lifeline.specs.Survivorship.{IsCohortSurvivorship}
-use Rattle.roll.specs.Roll.{joinCheck, liabilityOf, liabilityOn, Call, afterCall, membersAfter, totalOf}
+use Rattle.roll.specs.Roll.{joinCheck, liabilityOf, liabilityOn, liabilityJoining, Call, afterCall, membersAfter, totalOf}
 use Rattle.roll.specs.Kept.{rollCheck, numbersIn, openedRoll, joinedRoll, leftRoll, totalSaid, rollBy, rollAfter}
 use Rattle.roll.specs.Totals.{RunningTotal, FurtherKept}
 use Rattle.enquiry_text.specs.Said.{LineSays}
@@ -120,6 +120,8 @@ pub record Demand2 (run history : List ℕ) : Type 0 where
   -- a liability is worked out from the model's annuity, and the running total is the sum for those who joined and have not left (02, change 6)
   pub liability : (year age pension : ℕ) → valuationCheck run history age 0 year ≡ passed →
       liabilityOn run history year age pension ≡ andThen (annuityOf (basisWith run history) Cohort age year 0) (λ a. value (liabilityOf pension a))
+  pub notBelowZero : (numbers : List ℕ) (year number age pension : ℕ) (l : ℤ) → liabilityJoining numbers year run history number age pension ≡ value l →
+      l ≡ pos (natAbs l)
   pub runningTotal : RunningTotal
   -- which is the value that each join and leave hands to the host, where its refusal has number 0
   pub handedTotal : (year : ℕ) (lent : List ℕ) (calls : List Call) (call : Call) → year < 2 ^ 32 → 2002 ≤ length lent →

@@ -12,7 +12,8 @@ use Rattle.basis.specs.declared.Refusal.{Refusal}
 use Rattle.basis.specs.Outcome.{Finding, passed, refusedBy, Outcome, value, refused, checked, andThen}
 use Rattle.roll.specs.Roll.{Member, numbersOf, totalOf, leaveCheck, liabilityJoining, others, Call, joins, leaves, memberOf, membersBy, afterCall, membersAfter}
 use Rattle.roll.specs.Kept.{yearIn, countIn, areaIn, numbersIn, totalIn, opened, withMember, placeOf, without, withoutMember, joining, leaving, totalSaid, rollBy, rollAfter}
-use Rattle.roll.proofs.Places.{map-without}
+use Rattle.basis.proofs.Outcome.{checked-value}
+use Rattle.roll.proofs.Places.{length-without, map-without}
 use Rattle.roll.proofs.OneMember.{with-length, with-year, with-area, out-length, out-year, out-area}
 use Rattle.roll.proofs.Numbers.{Distinct, distinct-joined, distinct-without, others-without}
 use Rattle.roll.proofs.Cases.{room-passes, length-numbers, MayJoin, leave-passed}
@@ -141,6 +142,17 @@ module _ (year : ℕ) (roll : List ℕ) (members : List Member) (holds : Holds y
           rw (holds-numbers, others-without number members (holds .distinct))
           (agreed (holds-left (placeOf number (numbersOf members)) (rw numbers-count at p)))
       by (refusedBy r) e = both-refuse r
+
+  -- a leave that is answered makes room
+  pub holds-freed : (number : ℕ) (after : List Member) → membersBy year members (leaves number) ≡ value after → length after < 500
+  unfolding membersBy
+  holds-freed number after h =
+      let w = checked-value (leaveCheck (numbersOf members) number) (value (others number members)) after h in
+      let p = rw numbers-count at (leave-passed (numbersOf members) number (w .0)) in
+      let c = holds-count in
+      let gone = length-without (placeOf number (numbersOf members)) members (omega (arith, p, c)) in
+      let e : others number members ≡ after = cc in
+      rw (← e, others-without number members (holds .distinct)) (omega (arith, gone, c))
 
   -- the total
   pub holds-total : totalIn roll ≡ totalOf members

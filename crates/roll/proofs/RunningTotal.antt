@@ -10,7 +10,7 @@ use Rattle.roll.specs.Roll.{Member, membersAfter}
 use Rattle.roll.specs.Kept.{opened, rollAfter}
 use Rattle.roll.specs.Totals.{Stands, RunningTotal}
 use Rattle.roll.proofs.Cases.{room-passes}
-use Rattle.roll.proofs.Holds.{Holds, total-small, holds-opened, holds-count, holds-total, agree-by, agree-says, holds-after}
+use Rattle.roll.proofs.Holds.{Holds, total-small, holds-opened, holds-count, holds-freed, holds-total, agree-by, agree-says, holds-after}
 
 stands-so : (year : ℕ) (roll : List ℕ) (members : List Member) → Holds year roll members → Stands year roll members
 stands-so year roll members h =
@@ -23,6 +23,7 @@ stands-so year roll members h =
       ages = h .areas 1 (omega arith);
       pensions = h .areas 2 (omega arith);
       liabilities = h .areas 3 (omega arith);
+      freed = holds-freed year roll members h;
       count = omega arith;
       fits = total-small members (h .small);
     }

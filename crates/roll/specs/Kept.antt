@@ -69,7 +69,7 @@ without i [] = []
 without zero (y ∷ l) = l
 without (suc i) (y ∷ l) = y ∷ without i l
 
--- the first n numbers so, and the rest from place n − 1 on as it stood
+-- the first n numbers without the one at place i, then the list as it stood from place n − 1 on, so that its length stays
 abbrev pub closedUp : ℕ → ℕ → List ℕ → List ℕ
 closedUp i n l = without i (take n l) ++ drop (n - 1) l
 

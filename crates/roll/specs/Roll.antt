@@ -35,7 +35,7 @@ liabilityOn run history year age pension = andThen (annuityEnquiry run history C
 
 -- ---- "It refuses a join with the roll full (14), a leave by a number not on it (15) and a join by a number already on it (16), the last
 -- tested before 14 and all before any engine refusal, places member number and 0. A pension above the limit is number 5 with the same places,
--- directly after 14."
+-- directly after 14." The numbers are those of the members who are on the roll; `isListed` says whether a number is among them
 unfoldable pub joinCheck : List ℕ → ℕ → ℕ → Finding
 joinCheck numbers number pension =
     firstOf (unless (not (isListed numbers number)) (refusal 16 number 0))

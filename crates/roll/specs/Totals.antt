@@ -6,7 +6,7 @@ use Prim.Native.Nat.{ℕ, _*_, _^_, _≤_, _<_}
 use lib.IntN.{pos}
 use lib.ListN.{length, drop}
 use Rattle.basis.specs.Outcome.{value, andThen}
-use Rattle.roll.specs.Roll.{Member, numbersOf, totalOf, Call, membersBy, afterCall, membersAfter}
+use Rattle.roll.specs.Roll.{Member, numbersOf, totalOf, Call, leaves, membersBy, afterCall, membersAfter}
 use Rattle.roll.specs.Kept.{yearIn, numbersIn, agesIn, pensionsIn, liabilitiesIn, openedRoll, totalSaid, totalAnswer, rollBy, rollAfter}
 
 -- a roll after some calls, and those who joined by them and have not left
@@ -21,6 +21,8 @@ pub record Stands (year : ℕ) (roll : List ℕ) (members : List Member) : Type 
   pub ages : agesIn roll ≡ map (λ m. m .age) members
   pub pensions : pensionsIn roll ≡ map (λ m. m .pension) members
   pub liabilities : liabilitiesIn roll ≡ map (λ m. m .liability) members
+  -- "a place left is usable by the next to join": after a leave there are fewer than 500
+  pub freed : (number : ℕ) (after : List Member) → membersBy year members (leaves number) ≡ value after → length after < 500
   -- at most 500, each with at most 10,000,000 pence × 131 payments of at most 4: all of it fits in 64 bits
   pub count : length members ≤ 500
   pub fits : totalOf members ≤ length members * 5_240_000_000
