@@ -59,4 +59,20 @@ returns c =
     sym (closed-last (l .loop .at) (l .before .args .n) (l .loop .list) (omega arith)) ∙ l .loop .inv .2
 
 pub close-up-spec : {M : Type 1} → statement M
-close-up-spec = tie.close (tie.spec Inv-loop μ-loop loop-holds add-loop add-list mul-list slice-read-list mul-list-2 slice-write-list add-at loop-less loop-again same-length returns)
+close-up-spec =
+    tie.close
+    (tie.spec
+    Inv-loop
+    μ-loop
+    loop-holds
+    add-loop
+    add-list
+    mul-list
+    slice-read-list
+    mul-list-2
+    slice-write-list
+    add-at
+    loop-less
+    loop-again
+    same-length
+    returns)

@@ -12,7 +12,9 @@ use Rattle.roll.proofs.joins.check_join.Tie as tie
 counted : (c : tie.After-place-in) → c .before .count-in .result ≡ length (numbersIn (c .before .before .before .args .roll .now))
 counted c = c .before .count-in .ensures .0 ∙ sym (length-numbers (c .before .before .before .args .roll .now) (c .before .before .before .pre))
 
-off : (c : tie.After-place-in) → c .before .count-in .result ≤ c .place-in .result → length (numbersIn (c .before .before .before .args .roll .now)) ≤ placeOf (c .before .before .before .args .number) (numbersIn (c .before .before .before .args .roll .now))
+off : (c : tie.After-place-in) → c .before .count-in .result ≤ c .place-in .result →
+    let a = c .before .before .before .args in
+    length (numbersIn (a .roll .now)) ≤ placeOf (a .number) (numbersIn (a .roll .now))
 off c h = omega (arith, c .place-in .ensures, counted c, h)
 
 count-in-requires : tie.Need-count-in-requires
@@ -48,7 +50,8 @@ returns-3 c =
 returns-4 : tie.Need-returns-4
 returns-4 c =
     let a = c .before .before .before .before in
-    c .refused3 .ensures ∙ sym (join-over _ _ _ (off a (omega (arith, c .before .before .before .if1 .left))) (omega (arith, counted a, c .before .before .if2 .left)) (c .before .if3 .left))
+    let unlisted = off a (omega (arith, c .before .before .before .if1 .left)) in
+    c .refused3 .ensures ∙ sym (join-over _ _ _ unlisted (omega (arith, counted a, c .before .before .if2 .left)) (c .before .if3 .left))
 
 pub check-join-spec : {M : Type 1} → statement M
 check-join-spec =
