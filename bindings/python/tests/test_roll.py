@@ -67,6 +67,13 @@ class Calls(Rolls):
         self.assertEqual(roll.join(self.basis, 7, 66, 0), second)
         self.assertEqual(roll.members[-1], Member(7, 66, 0, 0))
 
+    def test_a_basis_that_is_none(self) -> None:
+        roll = Roll(2010)
+        for basis in (None, "basis.bin", self.basis.run, Basis):
+            with self.assertRaisesRegex(TypeError, f"is a Basis, as Basis.read gives it, not {type(basis).__name__}$"):
+                roll.join(basis, 1, 65, 100)  # type: ignore[arg-type]
+        self.assertEqual((len(roll), roll.total), (0, 0))
+
     def test_a_liability_is_set_at_the_join(self) -> None:
         """From the basis lent there: one that is lent later leaves it."""
         roll = Roll(2010)
