@@ -6,6 +6,7 @@ The totals are worked out here from the annuities and the list of calls, with fr
 import array
 import copy
 import doctest
+import hashlib
 import os
 import pickle
 import random
@@ -271,6 +272,21 @@ class Kept(Rolls):
         roll = self.full()
         for content in (bytearray(roll.to_bytes()), memoryview(roll.to_bytes()), array.array("Q", roll.to_bytes())):
             self.assertEqual(Roll.from_bytes(content), roll)  # type: ignore[arg-type]
+
+    def test_a_file_that_another_host_writes(self) -> None:
+        """By the table of docs/EMBEDDING.md; old numbers behind the last member do no harm."""
+        roll = Roll(2010)
+        roll.join(self.basis, 7, 65, 100)
+        numbers = [0] * 2_002
+        for place, number in ((0, 2010), (1, 1), (2, 7), (502, 65), (1002, 100), (1502, 1570)):
+            numbers[place] = number
+        for old in ((), (3, 503, 2001)):
+            for place in old:
+                numbers[place] = 9
+            content = b"parvusek roll 1\x0a" + b"".join(number.to_bytes(8, "little") for number in numbers)
+            file = content + hashlib.sha256(content).digest()
+            self.assertEqual((len(content), len(file), Roll.from_file(file)), (16_032, 16_064, roll))
+            self.assertEqual(roll.to_file() == file, not old)
 
     def test_files_that_are_no_roll(self) -> None:
         file = self.full().to_file()
