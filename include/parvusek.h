@@ -147,14 +147,16 @@ parvusek_lifeline_t parvusek_lifeline_step(const uint8_t *run, size_t run_len, c
    500, and a sum is taken modulo 2^64. What the total is in pence is promised of a roll that was opened here and changed
    by these calls alone: the sum for those who joined and have not left, at most 2,620,000,000,000. */
 
-/* Empty, for one valuation year, which is not checked here. Refused: 11 (roll too short: 16,016 bytes). */
+/* Empty, for one valuation year, which is not checked here. It writes roll[0] and roll[1], and leaves the other numbers as
+   they are. Refused: 11 (roll too short: 16,016 bytes). */
 parvusek_refusal_t parvusek_roll_open(uint32_t year, uint64_t *roll, size_t roll_len);
 /* A member joins, with a yearly pension of 0 to 10,000,000 pence. The value is the total after the call.
    Refused: 11; 16 (the number is on the roll), 14 (the roll is full), 5 (a pension above its limit), these three with the
    member number and 0; then as a cohort annuity with deferment 0 in the roll's year, also for a pension of 0. */
 parvusek_answer_t parvusek_roll_join(const uint8_t *run, size_t run_len, const uint8_t *history, size_t history_len,
                                      uint64_t *roll, size_t roll_len, uint32_t number, uint32_t age, uint32_t pension);
-/* A member leaves, and those who joined later move up a place. The value is the total after the call.
+/* A member leaves, and those who joined later move up a place. The value is the total after the call. Nothing is cleared:
+   behind the last member numbers of those who have left may still stand.
    Refused: 11, 15 (the number is not on the roll: member number and 0). */
 parvusek_answer_t parvusek_roll_leave(uint64_t *roll, size_t roll_len, uint32_t number);
 /* The total, in pence. Refused: 11. */

@@ -4,8 +4,8 @@
      keep_roll YEAR BASIS.bin CALLS.csv [HISTORY.bin]
 
    CALLS.csv has the header row call,number,age,pension. A row is join with these three, the yearly pension in pence, or
-   leave and a number; what stands behind that is not looked at. HISTORY.bin is needed where the base year of the basis is
-   before its foundation year.
+   leave and a number; what stands behind that is not looked at. No number has a needless leading zero. HISTORY.bin is
+   needed where the base year of the basis is before its foundation year.
    Exit status: 0 done (refused calls are part of the table), 1 the basis is refused, a file cannot be used or the library
    is another, 2 usage. */
 #include <errno.h>
@@ -83,8 +83,8 @@ typedef struct {
     uint32_t number, age, pension;
 } call_t;
 
-/* These take a word, or a number of 32 bits, from the front of a text, and hand back what stands behind it; NULL where it
-   does not stand there. Of NULL they take nothing, so that one can follow the other. */
+/* These take a word, or a number of 32 bits without a needless leading zero, from the front of a text, and hand back what
+   stands behind it; NULL where it does not stand there. Of NULL they take nothing, so that one can follow the other. */
 static const char *take(const char *text, const char *word) {
     size_t length = strlen(word);
     return text != NULL && strncmp(text, word, length) == 0 ? text + length : NULL;
@@ -100,7 +100,10 @@ static const char *take_number(const char *text, uint32_t *number) {
         value = 10 * value + (uint64_t)(*at - '0');
     }
     *number = (uint32_t)value;
-    return at == text || value > UINT32_MAX ? NULL : at;
+    if (at == text || (*text == '0' && at - text > 1) || value > UINT32_MAX) {
+        return NULL;
+    }
+    return at;
 }
 
 /* Whether a row is a call. */
@@ -118,24 +121,27 @@ static int read_call(const char *row, call_t *call) {
     return rest != NULL && (*rest == ',' || *rest == '\0');
 }
 
-/* The next row without its line end. Hands back 1, or 0 at the end of the list. A row that is longer than there is room
-   for is handed back empty, which is no call, so that no part of it is taken for a row. */
-static int next_row(FILE *list, char *row, int size) {
-    size_t length;
-    if (fgets(row, size, list) == NULL) {
+/* The next row without its line end. Hands back 1, or 0 at the end of the list or where it cannot be read. A row that is
+   longer than there is room for, or has a zero byte, is handed back empty, which is no call, so that no part of it is
+   taken for a row. */
+static int next_row(FILE *list, char *row, size_t size) {
+    size_t length = 0;
+    int is_text = 1, byte = getc(list);
+    if (byte == EOF) {
         return 0;
     }
-    length = strlen(row);
-    if (length > 0 && row[length - 1] == '\n') {
-        length--;
-    } else if (!feof(list)) {
-        length = 0;
+    for (; byte != EOF && byte != '\n'; byte = getc(list)) {
+        if (byte == '\0' || length + 1 == size) {
+            is_text = 0;
+        } else {
+            row[length++] = (char)byte;
+        }
     }
     if (length > 0 && row[length - 1] == '\r') {
         length--;
     }
-    row[length] = '\0';
-    return 1;
+    row[is_text ? length : 0] = '\0';
+    return !ferror(list);
 }
 
 /* ---- the roll */

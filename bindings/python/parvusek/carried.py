@@ -26,6 +26,7 @@ class Counts:
         self.over_several_lines = 0
         self.wrong_bytes = 0
         self.first_wrong_byte = ""
+        self.last_line_ended = True
 
     @property
     def refused(self) -> int:
@@ -39,6 +40,7 @@ class Counts:
         """What is known of the file once it is read."""
         self.over_several_lines = rows.over_several_lines
         self.wrong_bytes, self.first_wrong_byte = rows.wrong_bytes, rows.first_wrong_byte
+        self.last_line_ended = rows.last_line_ended
 
 
 class NotOfTheForm(Refusal):

@@ -65,7 +65,7 @@ def _prepared(options: argparse.Namespace, stack: contextlib.ExitStack) -> _Prep
         members = stack.enter_context(opened(options.members, "members"))
     with wrong.check():
         read = read_basis(options.basis, options.history, options.no_history)
-        expected(options, read)
+        expected(read, options.expect, options.expect_history)
     with wrong.check():
         values = place_of(options.out)
         not_an_input(values, _inputs(options))
@@ -93,7 +93,7 @@ def _tell(options: argparse.Namespace, values: Place, record: Optional[Place], c
          f"{lines_said(counts)}{without}")
     if record is not None:
         tell(f"{record.name}: the record of this valuation")
-    warn_of_rows(counts)
+    warn_of_rows(counts, options.members)
 
 
 # ---- basis make, show and check

@@ -55,6 +55,7 @@ class Rows:
         self.over_several_lines = 0
         self.wrong_bytes = 0  # rows that have some
         self.first_wrong_byte = ""
+        self.last_line_ended = True  # known once the file is read
         self._pending = self._first_text()
         self.line_end = "\r\n" if "\r\n" in self._pending else self._end
         self.announced = ""
@@ -126,6 +127,8 @@ class Rows:
             more, self._pending = self._pending or self._source.read(), ""
             if not more:
                 text, self._rest = self._rest, ""
+                if text and not text.endswith("\r"):  # the first half of a line end shows that the line is whole
+                    self.last_line_ended = False
                 return text or None
             whole, end, self._rest = (self._rest + more).rpartition(self._end)
             if end:

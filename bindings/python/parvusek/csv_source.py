@@ -6,11 +6,16 @@ from typing import BinaryIO, Optional
 
 from .errors import naming
 
-_MARKS = ((codecs.BOM_UTF8, "utf-8"), (codecs.BOM_UTF16_LE, "utf-16-le"), (codecs.BOM_UTF16_BE, "utf-16-be"))
+# That of UTF-32 begins as that of UTF-16 does, and no text goes on with a zero: so it is looked for first.
+_MARKS = ((codecs.BOM_UTF8, "utf-8"), (codecs.BOM_UTF32_LE, "utf-32-le"), (codecs.BOM_UTF32_BE, "utf-32-be"),
+          (codecs.BOM_UTF16_LE, "utf-16-le"), (codecs.BOM_UTF16_BE, "utf-16-be"))
 _MARK = "\ufeff"
 _BYTES_AT_ONCE = 1 << 16
 
 UTF_8 = "utf-8"
+
+# Of host names, of Python's own source text, and none at all: no file is written in one of these.
+_NOT_OF_FILES = ("idna", "punycode", "unicode-escape", "raw-unicode-escape", "undefined")
 
 # Encodings that put a mark before whatever they encode, and the same without.
 _UNMARKED = {"utf-8-sig": UTF_8, "utf-16": "utf-16-le", "utf-32": "utf-32-le"}
@@ -82,10 +87,10 @@ class Source:
 def _known(encoding: str) -> str:
     try:
         codec = codecs.lookup(encoding)
-    except LookupError:
+    except (LookupError, UnicodeError):  # the second where the name itself is no text
         raise EncodingError(f"--encoding {encoding} is not known; utf-8, cp1252 and utf-16 are") from None
-    if not getattr(codec, "_is_text_encoding", True):
-        raise EncodingError(f"--encoding {encoding} is not a text encoding")
+    if not getattr(codec, "_is_text_encoding", True) or codec.name in _NOT_OF_FILES:
+        raise EncodingError(f"--encoding {encoding} is not an encoding of text files")
     return codec.name
 
 

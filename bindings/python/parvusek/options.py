@@ -40,7 +40,8 @@ any others. OUT.csv has the same rows as they stand and in the same order, with 
 
 A row that is not of the form is refused as 12 with its line; the other refusals are the engine's.
 Cells beyond the header stand behind the added columns of their row, which is refused. Blank lines are
-passed over and counted. The summary counts refusals by number.
+passed over and counted. The summary counts refusals by number. A last line without a line end is taken as
+it stands; the file may have been cut short, so a warning says so, and the record.
 
 The separator is a comma, a semicolon or a tab, or what a first line such as sep=; says. The text is
 UTF-8, or what its byte order mark or --encoding says. OUT.csv has the mark, the encoding, the separator
@@ -78,13 +79,16 @@ numbers are whole, 0 to 4,294,967,295 without a needless leading zero. The other
 A column basis, if there is one, names the basis of a join by a NAME of --basis NAME=FILE; where it is empty,
 it is BASIS.bin. A NAME that no --basis gives makes the row 12, and the summary tells the first. With a --basis
 the column must be there. Every basis is read and checked before the first call, each with the history beside
-it.
+it; --history and --no-history are of BASIS.bin alone. So are --expect and --expect-history, unless a NAME of
+--basis stands before the SHA-256: --expect NAME=SHA256.
 
 --keep FILE keeps the roll as it stands after the last row, for a later run to continue with --roll FILE. It
 is there only once OUT.csv is whole. No file that is there is written over, so that no run is lost and each
-can be made again: name another, and move it once the run has ended well.
+can be made again: name another, and move it once the run has ended well. The record of a run has the
+SHA-256 of the roll that it kept.
 
-Separators, encodings, blank lines, outputs, the record OUT.csv.json and histories are as in 'parvusek value'.
+Separators, encodings, blank lines, a last line without its end, outputs, the record OUT.csv.json and histories
+are as in 'parvusek value'.
 """
 
 _MAKE = """Makes a basis file, and its history file, from a folder of CSV tables; the engine checks both.
@@ -159,6 +163,8 @@ def _value(commands: Any) -> argparse.ArgumentParser:
     added = _add(commands, "value", _VALUE, ("MEMBERS.csv", "the members; - reads standard input"),
                  ("BASIS.bin", "the basis file"), ("OUT.csv", "the values; - writes standard output"))
     _add_run(added, "MEMBERS.csv and OUT.csv")
+    for option, help_text in _EXPECTED.items():
+        added.add_argument(option, metavar="SHA256", type=_sha256, help=help_text)
     return added
 
 
@@ -171,6 +177,9 @@ def _roll(commands: Any) -> argparse.ArgumentParser:
     added.add_argument("--basis", metavar="NAME=FILE", dest="bases", type=_named, action="append", default=[],
                        help="a basis file that the column basis names; may be given again")
     _add_run(added, "CALLS.csv and OUT.csv")
+    for option, help_text in _EXPECTED.items():
+        added.add_argument(option, metavar="[NAME=]SHA256", type=_named_sha256, action="append", default=[],
+                           help=f"{help_text}; may be given again, with the NAME of a --basis")
     added.set_defaults(wrong=added.error)
     return added
 
@@ -179,8 +188,6 @@ def _add_run(added: argparse.ArgumentParser, what: str) -> None:
     """For a command that carries the rows of a CSV over into another."""
     _add_history(added)
     _add_encoding(added, what)
-    added.add_argument("--expect", metavar="SHA256", type=_sha256, help="value only with the basis file that has this SHA-256")
-    added.add_argument("--expect-history", metavar="SHA256", type=_sha256, help="and with the history that has this one")
     added.add_argument("--fail-on-refusal", action="store_true",
                        help=f"end with status {REFUSED_ROWS} if a row is refused; OUT.csv is written all the same")
     record = added.add_mutually_exclusive_group()
@@ -206,10 +213,22 @@ def _show(commands: Any) -> argparse.ArgumentParser:
     return added
 
 
+_EXPECTED = {"--expect": "value only with the basis file that has this SHA-256",
+             "--expect-history": "and with the history that has this one"}
+
+
 def _sha256(text: str) -> str:
     if not re.fullmatch(r"[0-9a-fA-F]{64}", text):
         raise argparse.ArgumentTypeError(f"{text!r} is not a SHA-256 digest, which has 64 hexadecimal digits")
     return text.lower()
+
+
+def _named_sha256(text: str) -> tuple[str, str]:
+    """Without a name it is that of BASIS.bin, whose name is empty."""
+    name, equals, digest = text.rpartition("=")
+    if equals and not name.strip():
+        raise argparse.ArgumentTypeError(f"{text!r} has no name before the equals sign")
+    return name.strip(), _sha256(digest)
 
 
 def _year(text: str) -> int:

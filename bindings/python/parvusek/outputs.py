@@ -57,6 +57,8 @@ def place_of(name: str) -> Place:
     if descriptor is not None:
         with naming(f"{'standard output' if descriptor == 1 else name} cannot be written to"):
             return Place(name, name, descriptor, os.fstat(descriptor))
+    if os.path.basename(name) in ("", "."):  # where nothing is there, a file would get another name than this
+        raise CommandError(f"{name} is the name of a folder; name a file" if name else "an output has no name; name a file")
     path = os.path.realpath(name)
     try:
         found = os.stat(path)

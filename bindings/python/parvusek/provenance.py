@@ -123,6 +123,7 @@ def _refused(counts: Counts) -> dict[str, Any]:
         "refusals": {str(number): counts.refusals[number] for number in sorted(counts.refusals)},
         "blank_lines": counts.blank,
         "rows_over_several_lines": counts.over_several_lines,
+        "last_line_ended": counts.last_line_ended,
     }
 
 

@@ -69,6 +69,8 @@ class Roll:
         Refused by 16 where the number is on the roll, by 14 where the roll is full, by 5 where the pension is above its
         limit, then as the cohort annuity with deferment 0 in the roll's year is.
         """
+        if not isinstance(basis, Basis):
+            raise TypeError(f"the basis of a join is a Basis, as Basis.read gives it, not {type(basis).__name__}")
         asked = fits("number", number), fits("age", age), fits("pension", pension)
         with self._lock:
             answer = basis._ask("roll_join", self._numbers, ROLL_LENGTH, *asked)

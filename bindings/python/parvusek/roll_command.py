@@ -48,10 +48,15 @@ def _whole_command_line(options: argparse.Namespace) -> None:
     """What argparse does not see; it ends as every wrong command line does."""
     if options.year is None and options.roll is None:
         options.wrong("one of --year and --roll is needed")
-    names = [name for name, _ in options.bases]
-    for name in names:
-        if names.count(name) > 1:
-            options.wrong(f"argument --basis: {name} is named more than once")
+    named = [name for name, _ in options.bases]
+    for option, pairs in (("--basis", options.bases), ("--expect", options.expect),
+                          ("--expect-history", options.expect_history)):
+        names = [name for name, _ in pairs]
+        for name in names:
+            if names.count(name) > 1:
+                options.wrong(f"argument {option}: {name or 'BASIS.bin'} is named more than once")
+            if name not in (DEFAULT, *named):
+                options.wrong(f"argument {option}: no --basis names {name}")
 
 
 # ---- before the first call
@@ -88,10 +93,12 @@ def _prepared(options: argparse.Namespace, stack: contextlib.ExitStack) -> _Prep
         calls = stack.enter_context(opened(options.calls, "calls"))
     with wrong.check():
         bases[DEFAULT] = read_basis(options.basis, options.history, options.no_history)
-        expected(options, bases[DEFAULT])
     for name, path in options.bases:
         with wrong.check():
             bases[name] = read_basis(path)
+    for name, read in bases.items():
+        with wrong.check():
+            expected(read, dict(options.expect).get(name), dict(options.expect_history).get(name))
     with wrong.check():
         before = _before(options)
     with wrong.check():
@@ -121,26 +128,30 @@ def _outputs(options: argparse.Namespace) -> _Outputs:
     out = place_of(options.out)
     not_an_input(out, _inputs(options))
     record = provenance.record_place(out, options.record, options.no_record)
-    keep = _keep_place(options.keep)
+    keep = _keep_place(options)
     outputs = _Outputs(out, record, keep)
+    if record is not None:
+        not_an_input(record, _inputs(options))
     for place, others in ((record, (out,)), (keep, (out, record))):
         if place is not None:
-            not_an_input(place, _inputs(options))
             for other in others:
                 if other is not None:
                     apart(place, other)
     return outputs
 
 
-def _keep_place(named: Optional[str]) -> Optional[Place]:
+def _keep_place(options: argparse.Namespace) -> Optional[Place]:
     """Where the roll is kept. A roll that is there is not written over: a run that was not seen to would be lost."""
-    if named is None:
+    if options.keep is None:
         return None
-    if named == STANDARD:
-        raise CommandError("the roll is kept in a file of its own; name one with --keep")
-    place = place_of(named)
+    place = None if options.keep == STANDARD else place_of(options.keep)
+    if place is None or not place.is_file:
+        raise CommandError(f"{options.keep} is no regular file; the roll is kept in a file of its own, which --keep names")
+    not_an_input(place, _inputs(options))
     if place.found is not None:
-        raise CommandError(f"{place.name} is there already, and no kept roll is written over; name another with --keep")
+        raise CommandError(f"{place.name} is there already, and no kept roll is written over; name another with --keep, or "
+                           "move it once you know which run it is from: the record of the run that kept a roll, OUT.csv.json, "
+                           "has its SHA-256")
     return place
 
 
@@ -183,7 +194,7 @@ def _tell(options: argparse.Namespace, prepared: _Prepared, after: Roll, counts:
     if counts.unknown_bases:
         warn(f"refused for a basis that no --basis names: {number_of(counts.unknown_bases, 'row')}, the first in "
              f"{counts.first_unknown_basis}")
-    warn_of_rows(counts)
+    warn_of_rows(counts, options.calls)
 
 
 def _standing(standing: Roll) -> str:

@@ -1,6 +1,5 @@
 """What runs over a CSV share: the CSV opened, the basis that is expected, the output hashed, and what is said."""
 
-import argparse
 import contextlib
 import hashlib
 import os
@@ -51,16 +50,19 @@ def opened(path: str, what: str) -> Iterator[tuple[BinaryIO, int]]:
 
 def source_of(raw: BinaryIO, path: str, what: str, encoding: Optional[str]) -> Source:
     try:
-        return Source(raw, encoding, "standard input" if path == STANDARD else f"the file of {what} {path}")
+        return Source(raw, encoding, _spoken(path, f"the file of {what} "))
     except EncodingError as error:
         raise CommandError(f"{path}: {error}") from error
 
 
-def expected(options: argparse.Namespace, read: ReadBasis) -> None:
+def _spoken(path: str, sort: str = "") -> str:
+    return "standard input" if path == STANDARD else f"{sort}{path}"
+
+
+def expected(read: ReadBasis, basis: Optional[str], history: Optional[str]) -> None:
     """A basis or a history with another SHA-256 than was told is an error."""
     wrong = Collected()
-    for path, found, wanted in ((read.path, read.sha256, options.expect),
-                                (read.history_path, read.history_sha256, options.expect_history)):
+    for path, found, wanted in ((read.path, read.sha256, basis), (read.history_path, read.history_sha256, history)):
         if wanted is not None and found != wanted:
             with wrong.check():
                 raise CommandError(f"{read.path} has no history, and one is expected" if found is None else
@@ -98,7 +100,9 @@ def lines_said(counts: Counts) -> str:
     return said
 
 
-def warn_of_rows(counts: Counts) -> None:
+def warn_of_rows(counts: Counts, path: str) -> None:
+    if not counts.last_line_ended:  # a number may have lost its last digits, and is one all the same
+        warn(f"the last line of {_spoken(path)} has no line end, and is taken as it stands: was the file cut short?")
     if counts.wrong_bytes:
         warn(f"refused for bytes of another encoding: {number_of(counts.wrong_bytes, 'row')}, the first in "
              f"{counts.first_wrong_byte}")

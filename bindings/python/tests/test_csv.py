@@ -1,8 +1,10 @@
 """CSVs as spreadsheets write them: encodings, separators, blank lines, and a bad row that costs no other member."""
 
 import csv
+import encodings.aliases
 import hashlib
 import io
+import json
 import random
 import re
 import subprocess
@@ -45,6 +47,10 @@ class Encodings(Command):
         self.assertEqual(self.written()[:2], b"\xff\xfe")
         self.assertEqual(self.is_valued(b"\xfe\xff" + MEMBERS.encode("utf-16-be"), "utf-16"), plain)
         self.assertEqual(self.written()[:2], b"\xfe\xff")
+        for options in ((), ("--encoding", "utf-32")):
+            self.assertEqual(self.is_valued(MEMBERS.encode("utf-32"), "utf-32", *options), plain)
+            self.assertEqual(self.written()[:4], b"\xff\xfe\0\0")
+        self.assertEqual(self.is_valued(b"\0\0\xfe\xff" + MEMBERS.encode("utf-32-be"), "utf-32"), plain)
 
     def test_an_encoding_with_a_mark_that_the_file_lacks(self) -> None:
         """The mark is then not put before each block of the values either."""
@@ -88,7 +94,9 @@ class Encodings(Command):
 
     def test_encodings_that_do_not_fit(self) -> None:
         for members, encoding, wanted in ((MEMBERS.encode(), "none-such", "is not known"),
-                                          (MEMBERS.encode(), "hex", "is not a text encoding"),
+                                          (MEMBERS.encode(), "\udcff", "is not known"),
+                                          (MEMBERS.encode(), "hex", "is not an encoding of text files"),
+                                          (MEMBERS.encode("utf-32"), "utf-16", "begins with the mark of utf-32"),
                                           (MEMBERS.encode("utf-8-sig"), "cp1252", "begins with the mark of utf-8"),
                                           (MEMBERS.encode("utf-16"), "cp1252", "begins with the mark of utf-16"),
                                           (MEMBERS.encode("utf-16")[:-1], "utf-16", "cannot be read")):
@@ -96,6 +104,22 @@ class Encodings(Command):
             self.assertEqual(status, 1, encoding)
             self.assertIn(wanted, wrong)
             self.assertNotIn("unforeseen", wrong)
+
+    def test_every_encoding_of_python(self) -> None:
+        """A file in it is valued, or the command says that none is written in it."""
+        members = "name,age,deferment,year\nx,65,0,2010\n"
+        files = 0
+        for encoding in sorted({*encodings.aliases.aliases.values(), "idna", "punycode", "unicode_escape", "undefined"}):
+            is_of_files = True
+            try:
+                content = members.encode(encoding)
+            except (LookupError, UnicodeError):
+                content, is_of_files = members.encode(), False
+            status, said, wrong = self.value_bytes(content, "--encoding", encoding)
+            files += status == 0
+            self.assertRegex(said + wrong, "1 row, 1 valued" if status == 0 else "is not known|is not an encoding of text files")
+            self.assertTrue(is_of_files or status == 1, encoding)
+        self.assertGreater(files, 80)
 
     def test_a_message_that_the_encoding_lacks(self) -> None:
         """Refusal 9 has a sign that not every encoding has."""
@@ -138,6 +162,22 @@ class Forms(Command):
         self.assertEqual([row[7] for row in rows[1:]], ["12", ""])
         self.assertEqual(rows[1][0], "65,0,2010\r70,0,2010")
         self.assertIn("character 10: the line ends otherwise than the others do", rows[1][-1])
+
+    def test_a_last_line_without_an_end(self) -> None:
+        """It is valued as it stands; the run says so, and the record, wherever the blocks end."""
+        rows = "x,65,0,2010\n" * 10_923  # longer than what is read at once
+        for body in (rows, rows[-12:], rows[-12:] + '"two\nlines",65,0,2010\n', rows[-12:] + "x,65,0,2o10\n", ""):
+            for end, is_ended in (("\n", True), ("\r\n", True), ("\r", True), ("", False), ("\n,,,", False)):
+                members = ("name,age,deferment,year\n" + body).removesuffix("\n") + end
+                for line_end in ("\n",) if "\r" in end or '"' in body else ("\n", "\r\n", "\r"):
+                    status, _, wrong = self.value(members.replace("\n", line_end))
+                    self.assertEqual(status, 0)
+                    self.assertEqual("members.csv has no line end, and is taken as it stands" in wrong, not is_ended, (end, wrong))
+                    record = json.loads((self.folder / "values.csv.json").read_text())
+                    self.assertEqual((record["last_line_ended"], record["rows"]),
+                                     (is_ended, body.count("x,") + body.count("two")))
+        _, _, wrong = self.run_process("value", "-", SAMPLE / "basis.bin", "-", given=b"age,deferment,year\n65,0,2010")
+        self.assertIn(b"\nparvusek: the last line of standard input has no line end, and", wrong)
 
     def test_blank_lines_are_passed_over_and_counted(self) -> None:
         status, said, _ = self.value('\n,,\nage,deferment,year\n\n65,0,2010\n   \n,,\n"","",""\n;\n70,0,2010\n\n\n')

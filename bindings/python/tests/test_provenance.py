@@ -139,7 +139,7 @@ class Record(Command):
             "encoding": "utf-8",
             "values": {"file": str(self.out), "sha256": digest(self.out.read_bytes())},
             "rows": 9, "valued": 7, "refused": 2, "refusals": {"6": 1, "8": 1},
-            "blank_lines": 0, "rows_over_several_lines": 0,
+            "blank_lines": 0, "rows_over_several_lines": 0, "last_line_ended": True,
         })
 
     def test_a_basis_without_a_history(self) -> None:

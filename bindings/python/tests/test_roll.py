@@ -6,6 +6,7 @@ The totals are worked out here from the annuities and the list of calls, with fr
 import array
 import copy
 import doctest
+import hashlib
 import os
 import pickle
 import random
@@ -66,6 +67,13 @@ class Calls(Rolls):
         self.assertEqual((roll.total, [member.number for member in roll.members]), (second, [3]))
         self.assertEqual(roll.join(self.basis, 7, 66, 0), second)
         self.assertEqual(roll.members[-1], Member(7, 66, 0, 0))
+
+    def test_a_basis_that_is_none(self) -> None:
+        roll = Roll(2010)
+        for basis in (None, "basis.bin", self.basis.run, Basis):
+            with self.assertRaisesRegex(TypeError, f"is a Basis, as Basis.read gives it, not {type(basis).__name__}$"):
+                roll.join(basis, 1, 65, 100)  # type: ignore[arg-type]
+        self.assertEqual((len(roll), roll.total), (0, 0))
 
     def test_a_liability_is_set_at_the_join(self) -> None:
         """From the basis lent there: one that is lent later leaves it."""
@@ -264,6 +272,21 @@ class Kept(Rolls):
         roll = self.full()
         for content in (bytearray(roll.to_bytes()), memoryview(roll.to_bytes()), array.array("Q", roll.to_bytes())):
             self.assertEqual(Roll.from_bytes(content), roll)  # type: ignore[arg-type]
+
+    def test_a_file_that_another_host_writes(self) -> None:
+        """By the table of docs/EMBEDDING.md; old numbers behind the last member do no harm."""
+        roll = Roll(2010)
+        roll.join(self.basis, 7, 65, 100)
+        numbers = [0] * 2_002
+        for place, number in ((0, 2010), (1, 1), (2, 7), (502, 65), (1002, 100), (1502, 1570)):
+            numbers[place] = number
+        for old in ((), (3, 503, 2001)):
+            for place in old:
+                numbers[place] = 9
+            content = b"parvusek roll 1\x0a" + b"".join(number.to_bytes(8, "little") for number in numbers)
+            file = content + hashlib.sha256(content).digest()
+            self.assertEqual((len(content), len(file), Roll.from_file(file)), (16_032, 16_064, roll))
+            self.assertEqual(roll.to_file() == file, not old)
 
     def test_files_that_are_no_roll(self) -> None:
         file = self.full().to_file()

@@ -1,6 +1,7 @@
 """The command roll: the calls of a CSV in order, the running total on every row, and each refusal on its own row."""
 
 import csv
+import hashlib
 import os
 from fractions import Fraction
 from math import floor
@@ -246,6 +247,25 @@ class Bases(RollCommand):
             self.assertIn(words, wrong)
         self.assertEqual(self.files(), ["calls.csv", "short.bin"])
 
+    def test_which_bases_are_expected(self) -> None:
+        """Each by its SHA-256, BASIS.bin without a name, and no call is made on another."""
+        new, old, history = (hashlib.sha256(path.read_bytes()).hexdigest()
+                             for path in (SAMPLE / "basis.bin", OLDER / "basis.bin", OLDER / "history.bin"))
+        named = ("--basis", f"old={OLDER / 'basis.bin'}", "--basis", f"same={SAMPLE / 'basis.bin'}")
+        self.roll(["join,1,65,100,old"], *named, "--expect", new, "--expect", f" old ={old.upper()}", "--expect-history",
+                  f"old={history}", "--expect", f"same={new}", header=HEADER + ",basis")
+        self.out.unlink()
+        Path(f"{self.out}.json").unlink()
+        for words, wanted in ((["--expect", f"old={new}"], [f"{OLDER / 'basis.bin'} has the SHA-256 {old}, and {new} is "]),
+                              (["--expect-history", f"old={old}"], [f"{OLDER / 'history.bin'} has the SHA-256 {history}, "]),
+                              (["--expect", f"same={old}", "--expect", old], [f"{SAMPLE / 'basis.bin'} has the SHA-"] * 2),
+                              (["--expect-history", f"same={history}"], ["basis.bin has no history, and one is expected"]),
+                              (["--expect-history", history], ["basis.bin has no history, and one is expected"])):
+            status, said, wrong = self.roll_bytes(f"{HEADER},basis\njoin,1,65,100,old\n".encode(), *named, *words)
+            self.assertEqual((status, said, len(wrong.splitlines()), self.files()), (1, "", len(wanted), ["calls.csv"]))
+            for line, words_of_it in zip(wrong.splitlines(), wanted):
+                self.assertIn(words_of_it, line)
+
     def test_the_history(self) -> None:
         (self.folder / "calls.csv").write_text(f"{HEADER}\njoin,1,65,1000000\n")
         run = ["roll", self.folder / "calls.csv", OLDER / "basis.bin", self.out, "--year", 2010]
@@ -258,7 +278,9 @@ class Bases(RollCommand):
 
     def test_wrong_command_lines(self) -> None:
         for words in (["--basis", "old"], ["--basis", "=x"], ["--basis", "old="], ["--basis", "a=x", "--basis", " a=y"],
-                      ["--year", "two"], ["--year", "4294967296"], ["--year", "-1"]):
+                      ["--expect", f"old={'0' * 64}"], ["--expect-history", f"old={'0' * 64}"], ["--expect", "0" * 63],
+                      ["--expect", f"={'0' * 64}"], ["--expect", "0" * 64, "--expect", "1" * 64], ["--expect", "old="],
+                      ["--basis", "a=x", "--expect", f"a={'0' * 64}", "--expect", f"a={'0' * 64}"], ["--year", "two"], ["--year", "4294967296"], ["--year", "-1"]):
             status, said, wrong = self.roll_bytes(HEADER.encode(), *words)
             self.assertEqual((status, said), (2, ""), words)
             self.assertIn("parvusek roll: error: ", wrong)

@@ -12,7 +12,7 @@ from unittest import mock
 from parvusek import Roll, __version__
 
 from . import SAMPLE
-from .test_roll_command import HEADER, OLDER, RollCommand
+from .test_roll_command import HEADER, OLDER, RollCommand, liability
 
 
 def digest(path: Path) -> str:
@@ -41,7 +41,7 @@ class Record(RollCommand):
             "calls": self.file(self.folder / "calls.csv"), "roll": None, "out": self.file(self.out),
             "keep": self.file(kept), "encoding": "utf-8",
             "rows": 5, "joined": 2, "left": 1, "refused": 2, "refusals": {"15": 1, "16": 1}, "blank_lines": 1,
-            "rows_over_several_lines": 0, "before": {"members": 0, "total": 0},
+            "rows_over_several_lines": 0, "last_line_ended": True, "before": {"members": 0, "total": 0},
             "after": {"members": 1, "total": roll.total}})
 
     def file(self, path: Path) -> dict[str, str]:
@@ -65,6 +65,16 @@ class Record(RollCommand):
         self.assertEqual([record["encoding"] for record in found], ["cp1252", "utf-8"])
         self.assertEqual([record["after"]["total"] for record in found], [3140, 1570])
         self.assertEqual(found[0]["calls"], found[1]["calls"])
+
+    def test_a_last_line_without_an_end(self) -> None:
+        """The pension may have lost its last digits, so that the run says it and the record keeps it."""
+        for end, wanted in (("\n", ""), ("", f"parvusek: the last line of {self.folder / 'calls.csv'} has no line end, and "
+                                             "is taken as it stands: was the file cut short?\n")):
+            status, said, wrong = self.roll_bytes(f"{HEADER}\njoin,1,65,1200000\njoin,2,65,12{end}".encode())
+            self.assertEqual((status, wrong), (0, wanted))
+            self.assertIn("2 rows, 2 joined, 0 left, 0 refused; 2 members", said)
+            self.assertEqual(self.record()["last_line_ended"], not wanted)
+            self.assertEqual(self.rows_of(self.out)[1]["liability"], str(liability(self.basis, 65, 12)))
 
     def test_elsewhere_or_not_at_all(self) -> None:
         self.roll(["join,1,65,100"], "--no-record")
@@ -130,17 +140,32 @@ class Kept(RollCommand):
         other.write_text("mine")
         (self.folder / "link").symlink_to("roll.bin")
         before = kept.read_bytes()
-        for keep in (kept, other, self.folder / "link", self.folder / "calls.csv", self.folder):
+        for keep, why in ((kept, "is the roll that is continued itself; name another"),
+                          (self.folder / "link", "is the roll that is continued itself; name another"),
+                          (self.folder / "calls.csv", "is the file of calls itself; name another"),
+                          (other, "is there already, and no kept roll is written over"), (self.folder, "is a folder"),
+                          ("-", "in a file of its own"), ("/dev/stdout", "in a file of its own"),
+                          ("/dev/null", "/dev/null is no regular file"), (self.out, "be one file"),
+                          (f"{self.out}.json", "be one file"), (self.folder / "no" / "folder", "there is no folder"),
+                          (f"{self.folder}/new/", "/new/ is the name of a folder; name a file"),
+                          (f"{self.folder}/new/.", "/new/. is the name of a folder; name a file"),
+                          ("", "an output has no name")):
             status, said, wrong = self.roll_bytes(HEADER.encode(), "--roll", kept, "--keep", keep, year=None)
             self.assertEqual((status, said), (1, ""), keep)
-            self.assertRegex(wrong, "is there already, and no kept roll is written over|is a folder")
-        for keep, why in (("-", "in a file of its own"), (self.out, "be one file"), (f"{self.out}.json", "be one file"),
-                          (self.folder / "no" / "folder", "there is no folder"), ("/dev/null", "is there already")):
-            status, said, wrong = self.roll_bytes(HEADER.encode(), "--keep", keep)
-            self.assertEqual((status, said), (1, ""), keep)
+            self.assertEqual(len(wrong.splitlines()), 1)
             self.assertIn(why, wrong)
         self.assertEqual((kept.read_bytes(), other.read_text()), (before, "mine"))
         self.assertEqual(self.files(), ["calls.csv", "link", "other", "roll.bin"])
+
+    def test_which_run_has_kept_what_is_there(self) -> None:
+        """The message says where to look, and there it is."""
+        kept = self.folder / "roll.bin"
+        self.roll(["join,1,65,100"], "--keep", kept)
+        status, _, wrong = self.roll_bytes(HEADER.encode(), "--keep", kept)
+        self.assertEqual((status, wrong), (1, f"parvusek: {kept} is there already, and no kept roll is written over; name "
+                                              "another with --keep, or move it once you know which run it is from: the "
+                                              "record of the run that kept a roll, OUT.csv.json, has its SHA-256\n"))
+        self.assertEqual(json.loads(Path(f"{self.out}.json").read_text())["keep"]["sha256"], digest(kept))
 
     def test_a_file_that_comes_meanwhile_stays(self) -> None:
         kept = self.folder / "roll.bin"
