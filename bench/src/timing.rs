@@ -1,4 +1,5 @@
 //! Two pieces of work timed against each other: many rounds, taken alternately, and the medians of them.
+use std::env;
 use std::time::{Duration, Instant};
 
 /// The processor time of this thread, which what else the machine does adds little to.
@@ -100,4 +101,17 @@ fn collect(rounds: usize, first: &mut dyn FnMut() -> f64, second: &mut dyn FnMut
         upper: quantile(&mut ratios, 0.75),
         difference: quantile(&mut differences, 0.5),
     }
+}
+
+/// What a program that measures is told: how many rounds, and whether its tables are for a page.
+pub struct Settings {
+    pub rounds: usize,
+    pub markdown: bool,
+}
+
+pub fn settings() -> Settings {
+    let words: Vec<String> = env::args().skip(1).collect();
+    let after = words.iter().position(|word| word == "--rounds").and_then(|place| words.get(place + 1));
+    let rounds = after.and_then(|text| text.parse().ok()).unwrap_or(200);
+    Settings { rounds, markdown: words.iter().any(|word| word == "--markdown") }
 }

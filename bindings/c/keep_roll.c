@@ -15,66 +15,8 @@
 #include "parvusek.h"
 #include "parvusek_refusals.h"
 
-/* ---- the basis: its files, read once; the engine keeps nothing, so run and history are ours to keep */
-
-/* The longest history is for the years 1993 to 2080. */
-enum { HISTORY_YEARS = 88 };
-
-typedef struct {
-    uint8_t run[PARVUSEK_RUN_LENGTH];
-    /* One byte more than the longest history has: a longer file is then refused, too. */
-    uint8_t history[HISTORY_YEARS * PARVUSEK_HISTORY_YEAR + 1];
-    size_t history_length;
-} basis_t;
-
-/* Reads up to `size` bytes of a file. Hands back 0, or 1 where it has said what is wrong. */
-static int read_file(const char *path, uint8_t *bytes, size_t size, size_t *length) {
-    FILE *opened = fopen(path, "rb");
-    if (opened == NULL) {
-        fprintf(stderr, "keep_roll: %s: %s\n", path, strerror(errno));
-        return 1;
-    }
-    *length = fread(bytes, 1, size, opened);
-    fclose(opened);
-    return 0;
-}
-
-/* Hands back 0, or 1 where it has said why the file is refused. */
-static int say_refusal(const char *path, parvusek_refusal_t refusal) {
-    char line[128];
-    if (refusal.number == 0) {
-        return 0;
-    }
-    parvusek_refusal_line(line, sizeof line, refusal);
-    fprintf(stderr, "keep_roll: %s: %s\n", path, line);
-    return 1;
-}
-
-/* The data run of a basis file. Hands back 0, or 1 where it has said what is wrong. */
-static int read_run(const char *path, basis_t *basis) {
-    /* One byte more than a basis file has, for the same reason. */
-    uint8_t file[PARVUSEK_FILE_LENGTH + 1];
-    size_t length;
-    if (read_file(path, file, sizeof file, &length) != 0) {
-        return 1;
-    }
-    return say_refusal(path, parvusek_read_basis(file, length, basis->run, sizeof basis->run));
-}
-
-/* The history beside it, as it is; without a path there is none. Hands back 0, or 1 where it has said what is wrong. */
-static int read_history(const char *path, basis_t *basis) {
-    parvusek_questions_t none;
-    parvusek_small_set_t set;
-    basis->history_length = 0;
-    if (path != NULL && read_file(path, basis->history, sizeof basis->history, &basis->history_length) != 0) {
-        return 1;
-    }
-    /* A set is refused as a whole by its basis alone. The run is accepted, so that this is the history's refusal, which
-       would refuse each join as well. */
-    memset(&none, 0, sizeof none);
-    set = parvusek_small_set(basis->run, sizeof basis->run, basis->history, basis->history_length, none);
-    return say_refusal(path == NULL ? "no history" : path, set.refusal);
-}
+#define PROGRAM "keep_roll"
+#include "example_basis.h"
 
 /* ---- the list of calls */
 
@@ -193,21 +135,21 @@ static int run_calls(const basis_t *basis, uint64_t *roll, const char *path, FIL
     char row[256];
     call_t call;
     if (next_row(list, row, sizeof row) == 0 || strcmp(row, "call,number,age,pension") != 0) {
-        fprintf(stderr, "keep_roll: %s does not begin with the row call,number,age,pension\n", path);
+        fprintf(stderr, PROGRAM ": %s does not begin with the row call,number,age,pension\n", path);
         return 1;
     }
     printf("%-5s %10s %3s %10s %13s\n", "call", "number", "age", "pension", "total");
     while (next_row(list, row, sizeof row) != 0) {
         line++;
         if (!read_call(row, &call)) {
-            fprintf(stderr, "keep_roll: %s, line %lu is neither a join nor a leave; the calls before it are done\n", path,
+            fprintf(stderr, PROGRAM ": %s, line %lu is neither a join nor a leave; the calls before it are done\n", path,
                     line);
             return 1;
         }
         run_call(basis, roll, &call);
     }
     if (ferror(list)) {
-        fprintf(stderr, "keep_roll: %s cannot be read to its end\n", path);
+        fprintf(stderr, PROGRAM ": %s cannot be read to its end\n", path);
         return 1;
     }
     return 0;
@@ -219,7 +161,7 @@ static int keep_roll(const basis_t *basis, uint32_t year, const char *path) {
     int status;
     FILE *list = fopen(path, "r");
     if (list == NULL) {
-        fprintf(stderr, "keep_roll: %s: %s\n", path, strerror(errno));
+        fprintf(stderr, PROGRAM ": %s: %s\n", path, strerror(errno));
         return 1;
     }
     /* Only a list that is too short is refused here; the year is, where it is wrong, at each join. */
@@ -230,7 +172,7 @@ static int keep_roll(const basis_t *basis, uint32_t year, const char *path) {
         print_members(roll);
     }
     if (fflush(stdout) != 0 || ferror(stdout)) {
-        fprintf(stderr, "keep_roll: not all could be printed\n");
+        fprintf(stderr, PROGRAM ": not all could be printed\n");
         return 1;
     }
     return status;
@@ -246,7 +188,7 @@ int main(int count, char **words) {
     }
     /* A minor version may change answers, so none is given by a library of another. */
     if (parvusek_version() / 100 != PARVUSEK_VERSION / 100) {
-        fprintf(stderr, "keep_roll: compiled for version %u, linked with %" PRIu32 "\n", PARVUSEK_VERSION,
+        fprintf(stderr, PROGRAM ": compiled for version %u, linked with %" PRIu32 "\n", PARVUSEK_VERSION,
                 parvusek_version());
         return 1;
     }

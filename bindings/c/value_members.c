@@ -13,6 +13,9 @@
 #include "parvusek.h"
 #include "parvusek_refusals.h"
 
+#define PROGRAM "value_members"
+#include "example_basis.h"
+
 typedef struct {
     char name[24];
     parvusek_question_t question;
@@ -23,66 +26,6 @@ static const member_t own_members[] = {
     {"deferred", {45, 20, 2010}},
     {"too old", {148, 3, 2010}},
 };
-
-/* ---- the basis: its files, read once; the engine keeps nothing, so run and history are ours to keep */
-
-/* The longest history is for the years 1993 to 2080. */
-enum { HISTORY_YEARS = 88 };
-
-typedef struct {
-    uint8_t run[PARVUSEK_RUN_LENGTH];
-    /* One byte more than the longest history has: a longer file is then refused, too. */
-    uint8_t history[HISTORY_YEARS * PARVUSEK_HISTORY_YEAR + 1];
-    size_t history_length;
-} basis_t;
-
-/* Reads up to `size` bytes of a file. Hands back 0, or 1 where it has said what is wrong. */
-static int read_file(const char *path, uint8_t *bytes, size_t size, size_t *length) {
-    FILE *opened = fopen(path, "rb");
-    if (opened == NULL) {
-        fprintf(stderr, "value_members: %s: %s\n", path, strerror(errno));
-        return 1;
-    }
-    *length = fread(bytes, 1, size, opened);
-    fclose(opened);
-    return 0;
-}
-
-/* Hands back 0, or 1 where it has said why the file is refused. */
-static int say_refusal(const char *path, parvusek_refusal_t refusal) {
-    char line[128];
-    if (refusal.number == 0) {
-        return 0;
-    }
-    parvusek_refusal_line(line, sizeof line, refusal);
-    fprintf(stderr, "value_members: %s: %s\n", path, line);
-    return 1;
-}
-
-/* The data run of a basis file. Hands back 0, or 1 where it has said what is wrong. */
-static int read_run(const char *path, basis_t *basis) {
-    /* One byte more than a basis file has, for the same reason. */
-    uint8_t file[PARVUSEK_FILE_LENGTH + 1];
-    size_t length;
-    if (read_file(path, file, sizeof file, &length) != 0) {
-        return 1;
-    }
-    return say_refusal(path, parvusek_read_basis(file, length, basis->run, sizeof basis->run));
-}
-
-/* The history beside it, as it is; without a path there is none. Hands back 0, or 1 where it has said what is wrong. */
-static int read_history(const char *path, basis_t *basis) {
-    parvusek_questions_t none;
-    parvusek_small_set_t set;
-    basis->history_length = 0;
-    if (path != NULL && read_file(path, basis->history, sizeof basis->history, &basis->history_length) != 0) {
-        return 1;
-    }
-    /* A set is refused as a whole by its basis alone. The run is accepted, so that this is the history's refusal. */
-    memset(&none, 0, sizeof none);
-    set = parvusek_small_set(basis->run, sizeof basis->run, basis->history, basis->history_length, none);
-    return say_refusal(path == NULL ? "no history" : path, set.refusal);
-}
 
 /* ---- the table */
 
@@ -139,11 +82,11 @@ static int value_list(const basis_t *basis, const char *path) {
     char row[256];
     FILE *list = fopen(path, "r");
     if (list == NULL) {
-        fprintf(stderr, "value_members: %s: %s\n", path, strerror(errno));
+        fprintf(stderr, PROGRAM ": %s: %s\n", path, strerror(errno));
         return 1;
     }
     if (fgets(row, sizeof row, list) == NULL || strcmp(row, "member,age,deferment,year\n") != 0) {
-        fprintf(stderr, "value_members: %s does not begin with the row member,age,deferment,year\n", path);
+        fprintf(stderr, PROGRAM ": %s does not begin with the row member,age,deferment,year\n", path);
         fclose(list);
         return 1;
     }
@@ -154,7 +97,7 @@ static int value_list(const basis_t *basis, const char *path) {
         if (sscanf(row, "%23[^,],%4" SCNu32 ",%4" SCNu32 ",%4" SCNu32 "%n", member->name, &member->question.age,
                    &member->question.deferment, &member->question.year, &length) != 4
             || (row[length] != '\n' && row[length] != '\0')) {
-            fprintf(stderr, "value_members: %s, line %lu is not a member, an age, a deferment and a year\n", path, line);
+            fprintf(stderr, PROGRAM ": %s, line %lu is not a member, an age, a deferment and a year\n", path, line);
             fclose(list);
             return 1;
         }
@@ -176,7 +119,7 @@ int main(int count, char **words) {
     }
     /* A minor version may change answers, so none is given by a library of another. */
     if (parvusek_version() / 100 != PARVUSEK_VERSION / 100) {
-        fprintf(stderr, "value_members: compiled for version %u, linked with %" PRIu32 "\n", PARVUSEK_VERSION,
+        fprintf(stderr, PROGRAM ": compiled for version %u, linked with %" PRIu32 "\n", PARVUSEK_VERSION,
                 parvusek_version());
         return 1;
     }

@@ -7,8 +7,7 @@ use parvusek_bench::engine::sets::{self, GRID, Record};
 use parvusek_bench::engine::valuation::Kind;
 use parvusek_bench::engine::{enquiries, file, short_form};
 use parvusek_bench::ffi::{self, Question, Questions, Records};
-use parvusek_bench::timing::{Timing, race, race_cold};
-use std::env;
+use parvusek_bench::timing::{Settings, Timing, race, race_cold, settings};
 use std::hint::black_box;
 use std::time::Duration;
 
@@ -249,18 +248,6 @@ fn slow_basis() -> Draft {
         }
     }
     draft
-}
-
-struct Settings {
-    rounds: usize,
-    markdown: bool,
-}
-
-fn settings() -> Settings {
-    let words: Vec<String> = env::args().skip(1).collect();
-    let after = words.iter().position(|word| word == "--rounds").and_then(|place| words.get(place + 1));
-    let rounds = after.and_then(|text| text.parse().ok()).unwrap_or(200);
-    Settings { rounds, markdown: words.iter().any(|word| word == "--markdown") }
 }
 
 /// What a table sets against each other: the heading of its ratios, the names of the two, and the digits worth showing.

@@ -6,8 +6,7 @@ use parvusek_bench::engine::enquiries;
 use parvusek_bench::engine::roll::{self, COUNT, Joiner, LENGTH, MEMBERS, NUMBERS};
 use parvusek_bench::engine::valuation::Kind;
 use parvusek_bench::ffi::{self, Question};
-use parvusek_bench::timing::{Timing, race};
-use std::env;
+use parvusek_bench::timing::{Settings, Timing, race, settings};
 use std::hint::black_box;
 use std::time::Duration;
 
@@ -126,18 +125,6 @@ const WORKS: [(&str, Work); 9] = [
     ("leave of the last of 500", Work::LeaveLast),
     ("total of 500", Work::Total),
 ];
-
-struct Settings {
-    rounds: usize,
-    markdown: bool,
-}
-
-fn settings() -> Settings {
-    let words: Vec<String> = env::args().skip(1).collect();
-    let after = words.iter().position(|word| word == "--rounds").and_then(|place| words.get(place + 1));
-    let rounds = after.and_then(|text| text.parse().ok()).unwrap_or(200);
-    Settings { rounds, markdown: words.iter().any(|word| word == "--markdown") }
-}
 
 /// Beside the annuity, and what the roll takes: all of the call, or what is beyond the annuity that it works out.
 fn print_beside_annuity(settings: &Settings, name: &str, work: Work, timing: &Timing) {

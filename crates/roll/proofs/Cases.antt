@@ -10,7 +10,8 @@ use lib.IntN.{ℤ}
 use lib.ListN.{length, take, drop, length-drop}
 use lib.Seq.{length-take-le}
 use borrow.Author.Tests.{le-leb, lt-leb, lt-ltb, le-ltb, leb-true, ltb-true, not-true}
-use Rattle.basis.specs.Outcome.{passed, refusedBy, value, refusal, checked}
+use Rattle.basis.specs.declared.Refusal.{Refusal}
+use Rattle.basis.specs.Outcome.{passed, refusedBy, value, refused, refusal}
 use Rattle.basis.specs.Refusals.{isListed}
 use Rattle.basis.proofs.Outcome.{unless-passed, both-passed, checked-value}
 use Rattle.roll.specs.Roll.{joinCheck, leaveCheck, liabilityOn, liabilityJoining}
@@ -93,15 +94,31 @@ module _ (numbers : List ℕ) (number : ℕ) where
   unfolding leaveCheck
   leave-passed h = listed-place number numbers (unless-passed (isListed numbers number) _ h)
 
+-- ---- what a join comes to: the roll's own refusals first, then the liability
+module _ (numbers : List ℕ) (year : ℕ) (run history : List ℕ) (number age pension : ℕ) where
+  pub own-refused : (r : Refusal) → joinCheck numbers number pension ≡ refusedBy r → liabilityJoining numbers year run history number age pension ≡ refused r
+  unfolding liabilityJoining
+  own-refused r h = rw h refl
+
+  pub own-passed : joinCheck numbers number pension ≡ passed
+      → liabilityJoining numbers year run history number age pension ≡ liabilityOn run history year age pension
+  unfolding liabilityJoining
+  own-passed h = rw h refl
+
+  pub own-value : (l : ℤ) → liabilityJoining numbers year run history number age pension ≡ value l
+      → MayJoin numbers number pension × (liabilityOn run history year age pension ≡ value l)
+  unfolding liabilityJoining
+  own-value l h = let p = checked-value _ _ l h in (may-join numbers number pension (p .0), p .1)
+
 -- ---- what an answered call says of the list: it has room, and a place more or the place that is named
 pub joining-value : (roll run history : List ℕ) (number age pension : ℕ) (l : ℤ) → joining roll run history number age pension ≡ value l
     → (2002 ≤ length roll) × (countIn roll < 500)
-unfolding joining liabilityJoining
+unfolding joining
 joining-value roll run history number age pension l h =
-    let w = checked-value (rollCheck roll) (checked (joinCheck (numbersIn roll) number pension) (liabilityOn run history (yearIn roll) age pension)) l h in
-    let v = checked-value (joinCheck (numbersIn roll) number pension) (liabilityOn run history (yearIn roll) age pension) l (w .1) in
+    let w = checked-value _ _ l h in
     let room = room-passed roll (w .0) in
-    (room, omega (arith, length-numbers roll room, may-join (numbersIn roll) number pension (v .0) .space))
+    let may = own-value (numbersIn roll) (yearIn roll) run history number age pension l (w .1) .0 in
+    (room, omega (arith, length-numbers roll room, may .space))
 
 pub leaving-passed : (roll : List ℕ) (number : ℕ) → leaving roll number ≡ passed → (2002 ≤ length roll) × (placeOf number (numbersIn roll) < countIn roll)
 unfolding leaving

@@ -8,12 +8,11 @@ use lib.IntN.{ℤ, pos, natAbs}
 use Rattle.arithmetic.specs.Fraction.{U}
 use Rattle.arithmetic.proofs.Rounding.{round-abs-le}
 use Rattle.basis.specs.Outcome.{Outcome, value, refused, andThen}
-use Rattle.basis.proofs.Outcome.{checked-value}
 use Rattle.survivorship.specs.declared.Kind.the-variants.{Cohort}
 use Rattle.enquiry.specs.Enquiry.{annuityEnquiry}
 use Rattle.enquiry.proofs.Bounded.{annuity-bounded}
-use Rattle.roll.specs.Roll.{joinCheck, liabilityOf, liabilityOn, liabilityJoining}
-use Rattle.roll.proofs.Cases.{MayJoin, may-join}
+use Rattle.roll.specs.Roll.{liabilityOf, liabilityOn, liabilityJoining}
+use Rattle.roll.proofs.Cases.{MayJoin, own-value}
 
 -- the largest liability
 abbrev pub largest : ℕ
@@ -41,9 +40,7 @@ liability-value run history year age pension l small h = by (annuityEnquiry run 
 pub join-value : (numbers : List ℕ) (year : ℕ) (run history : List ℕ) (number age pension : ℕ) (l : ℤ)
     → liabilityJoining numbers year run history number age pension ≡ value l
     → MayJoin numbers number pension × (l ≡ pos (natAbs l)) × (natAbs l ≤ largest)
-unfolding liabilityJoining
 join-value numbers year run history number age pension l h =
-    let p = checked-value (joinCheck numbers number pension) (liabilityOn run history year age pension) l h in
-    let may = may-join numbers number pension (p .0) in
-    let v = liability-value run history year age pension l (may .limited) (p .1) in
-    (may, v .0, v .1)
+    let p = own-value numbers year run history number age pension l h in
+    let v = liability-value run history year age pension l (p .0 .limited) (p .1) in
+    (p .0, v .0, v .1)

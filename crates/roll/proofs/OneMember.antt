@@ -48,7 +48,8 @@ module _ (roll : List ℕ) (room : 2002 ≤ length roll) where
         let e = with-front 1 (omega arith) ∙ getD-set-same roll 1 (countIn roll + 1) 0 l in
         rw e (omega arith)
 
-    pub with-area : (j : ℕ) → j < 4 → areaIn j (withMember number age pension liability roll) ≡ areaIn j roll ++ getD (number ∷ age ∷ pension ∷ liability ∷ []) j 0 ∷ []
+    pub with-area : (j : ℕ) → j < 4
+        → areaIn j (withMember number age pension liability roll) ≡ areaIn j roll ++ getD (number ∷ age ∷ pension ∷ liability ∷ []) j 0 ∷ []
     unfolding fields counted
     with-area j h =
         ap (λ m. take m (drop (areaFrom j) (withMember number age pension liability roll))) with-count

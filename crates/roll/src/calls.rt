@@ -44,8 +44,8 @@ pub fn join(
     pension: u32,
 ) -> Answer
     ensures { λ r. ⌜ meaning r ≡ totalSaid (joinedRoll (now (roll .entry)) (now (run .entry)) (now (history .entry)) number age pension) ⌝ }
-    ensures { λ _. ⌜ now (roll .exit) ≡ afterCall (now (roll .entry))
-        (joinedRoll (now (roll .entry)) (now (run .entry)) (now (history .entry)) number age pension) ⌝ }
+    ensures { λ _. ⌜ now (roll .exit) ≡
+        afterCall (now (roll .entry)) (joinedRoll (now (roll .entry)) (now (run .entry)) (now (history .entry)) number age pension) ⌝ }
 {
     match joining(roll, run, history, number, age, pension) {
         Answer::Value(liability) => {

@@ -23,7 +23,8 @@ UpTo most v = (n : ℕ) × (v ≡ pos n) × (n ≤ most)
 plus-small : (most k : ℕ) {a t c : ℤ} → UpTo (most * k) a → UpTo most t → c ≡ a +ℤ t → UpTo (most * suc k) c
 plus-small most k p q e = (p .0 + q .0, e ∙ rw (p .1, q .1) refl, omega (arith, p .2, q .2))
 
-sum-small : (term : ℕ → Outcome ℤ) (most n : ℕ) → ((k : ℕ) (t : ℤ) → k < n → term k ≡ value t → UpTo most t) → (s : ℤ) → sumOf term n ≡ value s → UpTo (most * n) s
+sum-small : (term : ℕ → Outcome ℤ) (most n : ℕ) → ((k : ℕ) (t : ℤ) → k < n → term k ≡ value t → UpTo most t)
+    → (s : ℤ) → sumOf term n ≡ value s → UpTo (most * n) s
 unfolding sumOf
 sum-small term most n each s h =
     along (addTo term) (pos 0) (λ k a. UpTo (most * k) a) n (0, refl, omega arith)

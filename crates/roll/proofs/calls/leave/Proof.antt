@@ -1,5 +1,6 @@
 -- What is decided says whether a member is taken out; the total is read afterwards.
-use mathlib.Core.Path.{_≡_, _∙_, sym, ap, refl}
+use mathlib.Core.Path.{_∙_, ap, refl}
+use native.Mathlib.Omega.{arith}
 use lib.IntN.{pos}
 use Rattle.basis.specs.Outcome.{value}
 use Rattle.basis.proofs.Outcome.{found}
@@ -24,7 +25,7 @@ without-member-requires : tie.Need-without-member-requires
 without-member-requires c κs =
     let t = c .before .before .before in
     let v = leaving-passed _ _ (found (t .before .before .leaving .ensures) (t .enum-told .given .1)) in
-    (v .0, rw (c .before .place-in .ensures) (v .1))
+    (v .0, omega (arith, c .before .place-in .ensures, v .1))
 
 total-in-requires : tie.Need-total-in-requires
 total-in-requires c κs =

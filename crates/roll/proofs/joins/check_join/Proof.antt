@@ -45,13 +45,13 @@ refused-requires-3 c κs = search needs
 returns-3 : tie.Need-returns-3
 returns-3 c =
     let a = c .before .before .before in
-    sym (join-passes _ _ _ (off a (omega (arith, c .before .before .if1 .left))) (omega (arith, counted a, c .before .if2 .left)) (c .if3 .taken))
+    sym (join-passes _ _ _ (off a (omega (arith, c .before .before .if1 .left))) (omega (arith, counted a, c .before .if2 .left)) (omega (arith, c .if3 .taken)))
 
 returns-4 : tie.Need-returns-4
 returns-4 c =
     let a = c .before .before .before .before in
     let unlisted = off a (omega (arith, c .before .before .before .if1 .left)) in
-    c .refused3 .ensures ∙ sym (join-over _ _ _ unlisted (omega (arith, counted a, c .before .before .if2 .left)) (c .before .if3 .left))
+    c .refused3 .ensures ∙ sym (join-over _ _ _ unlisted (omega (arith, counted a, c .before .before .if2 .left)) (omega (arith, c .before .if3 .left)))
 
 pub check-join-spec : {M : Type 1} → statement M
 check-join-spec =

@@ -1,8 +1,7 @@
 -- The roll's own checks first, then the liability.
-use mathlib.Core.Path.{_∙_, sym, ap}
-use Rattle.basis.proofs.Outcome.{found, checked-passed, checked-refused}
-use Rattle.roll.specs.Roll.{liabilityOn, liabilityJoining}
-use Rattle.roll.proofs.Cases.{may-join}
+use mathlib.Core.Path.{_∙_, sym}
+use Rattle.basis.proofs.Outcome.{found}
+use Rattle.roll.proofs.Cases.{may-join, own-passed, own-refused}
 use borrow.Author.Needs.{needs}
 use Rattle.roll.proofs.joins.liability_joining.Statement.{statement}
 use Rattle.roll.proofs.joins.liability_joining.Tie as tie
@@ -25,14 +24,13 @@ enum-known-r : tie.Need-enum-known-r
 enum-known-r c = search needs
 
 returns : tie.Need-returns
-unfolding liabilityJoining
 returns c =
     let t = c .before .before in
-    rw (c .before .year-in .ensures) at (c .liability-on .ensures) ∙ sym (checked-passed _ _ (found (t .before .before .check-join .ensures) (t .enum-told .given .1)))
+    let e = found (t .before .before .check-join .ensures) (t .enum-told .given .1) in
+    rw (c .before .year-in .ensures) at (c .liability-on .ensures) ∙ sym (own-passed _ _ _ _ _ _ _ e)
 
 returns-2 : tie.Need-returns-2
-unfolding liabilityJoining
-returns-2 c = sym (checked-refused _ _ _ (found (c .before .before .before .check-join .ensures) (c .before .r .given .1)))
+returns-2 c = sym (own-refused _ _ _ _ _ _ _ _ (found (c .before .before .before .check-join .ensures) (c .before .r .given .1)))
 
 pub liability-joining-spec : {M : Type 1} → statement M
 liability-joining-spec =
