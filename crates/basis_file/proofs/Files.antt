@@ -5,10 +5,10 @@ use Prim.Native.Nat.{ℕ, zero, suc, _+_, _*_, _≤_}
 use native.Mathlib.Omega.{arith}
 use lib.ListN.{length, take, drop, length-take, length-drop, length-append}
 use borrow.Author.Tests.{eqb-true, eq-eqb, ne-eqb}
-use Rattle.basis.specs.declared.Refusal.{Refusal}
-use Rattle.basis.specs.Outcome.{Finding, passed, refusedBy, refusal, firstOf}
+use Rattle.outcome.specs.declared.Refusal.{Refusal}
+use Rattle.outcome.specs.Outcome.{Finding, passed, refusedBy, refusal, firstOf}
 use Rattle.run_check.specs.Run.{runCheck}
-use Rattle.basis.proofs.Outcome.{unless-passed, both-passed, first-stands, first-passed, first-together}
+use Rattle.outcome.proofs.Outcome.{unless-passed, both-passed, first-stands, first-passed, first-together}
 use Rattle.run_check.proofs.Acceptance.{accepted}
 use Rattle.lent.specs.Lent.{roomCheck}
 use Rattle.lent.proofs.Lent.{room-passed}

@@ -4,8 +4,8 @@ use mathlib.Core.List.{List}
 use Prim.Native.Nat.{ℕ}
 use lib.Dec.{eqb}
 use lib.ListN.{length}
-use Rattle.basis.specs.Refusals.{numbers, isListed, RefusesBy}
-use Rattle.basis.proofs.Refusals.{unless-by, first-by}
+use Rattle.outcome.specs.Refusals.{numbers, isListed, RefusesBy}
+use Rattle.outcome.proofs.Refusals.{unless-by, first-by}
 use Rattle.run_check.proofs.Numbered.{run-numbered}
 use Rattle.block.proofs.Numbered.{blocks-numbered}
 use Rattle.basis_file.specs.File.{runIn, outerCheck, fileCheck}

@@ -7,14 +7,14 @@ use native.Mathlib.Omega.{arith}
 use lib.ListN.{length, take, drop, getD, length-take, length-drop, take-append-drop}
 use lib.Seq.{take-at, drop-at, take-take, getD-take, getD-drop}
 use Rattle.run_check.specs.Run.{runCheck}
-use Rattle.basis.proofs.Outcome.{both-passed}
+use Rattle.outcome.proofs.Outcome.{both-passed}
 use Rattle.block.specs.Block.{blockCheck, blockOf}
 use Rattle.block.proofs.Blocks.{block-length, data-stand, block-accepted, block-back}
 use Rattle.block.specs.Blocks.{partsOf, blocksOf, blocksCheck}
 use Rattle.basis_file.specs.File.{runIn, fileOf, fileCheck}
 use Rattle.basis_file.specs.RoundTrips.{RoundTrips}
 use Rattle.basis_file.proofs.Files.{file-length, right-size, outer-passed, file-passed, accepted-run}
-use Rattle.basis.specs.Outcome.{passed}
+use Rattle.outcome.specs.Outcome.{passed}
 
 -- ---- from a run to its file and back
 parts-back : (n place : ℕ) (run : List ℕ) → length run ≡ 506 * n → partsOf n (blocksOf place n run) ≡ run

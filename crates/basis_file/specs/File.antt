@@ -3,7 +3,7 @@ use Prim.Native.Nat.{ℕ}
 use mathlib.Core.List.{List}
 use lib.ListN.{length}
 use lib.Dec.{eqb}
-use Rattle.basis.specs.Outcome.{Finding, refusal, unless, firstOf}
+use Rattle.outcome.specs.Outcome.{Finding, refusal, unless, firstOf}
 use Rattle.run_check.specs.Run.{runCheck}
 use Rattle.block.specs.Blocks.{partsOf, blocksOf, blocksCheck}
 

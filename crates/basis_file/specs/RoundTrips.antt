@@ -5,7 +5,7 @@ use Prim.Native.Nat.{ℕ, _<_}
 use lib.ListN.{getD}
 use Rattle.run_check.specs.Run.{runCheck}
 use Rattle.basis_file.specs.File.{runIn, fileOf, fileCheck}
-use Rattle.basis.specs.Outcome.{passed}
+use Rattle.outcome.specs.Outcome.{passed}
 
 pub record RoundTrips : Type 0 where
   -- read and written back: the file of the run in an accepted file is that file (its elements are bytes, as those of every lent file are)

@@ -1,11 +1,11 @@
 // Reading: the data run of a basis file, given out only when nothing refuses the file.
 ghost use mathlib.Core.Path.{_≡_};
 ghost use lib.ListN.{length};
-ghost use Rattle.basis.specs.Outcome.{firstOf, finding};
+ghost use Rattle.outcome.specs.Outcome.{firstOf, finding};
 ghost use Rattle.lent.specs.Lent.{roomCheck, written};
 ghost use Rattle.basis_file.specs.File.{runIn, nineCheck, outerCheck, fileCheck};
-use basis::Check;
-use basis::Refusal;
+use outcome::Check;
+use outcome::Refusal;
 
 // The nine blocks, ascending.
 fn check_nine(file: &[u8]) -> Check
@@ -48,7 +48,7 @@ pub fn read_file(file: &[u8], run: &mut [u8]) -> Check
     ensures { λ r. ⌜ finding r ≡ firstOf (roomCheck 4554 (now (run .entry))) (fileCheck (now (file .entry))) ⌝ }
     ensures { λ r. ⌜ now (run .exit) ≡ written (finding r) (runIn (now (file .entry))) (now (run .entry)) ⌝ }
 {
-    let outer = basis::first_of(lent::check_room(4554, run.len()), check_outer(file));
+    let outer = outcome::first_of(lent::check_room(4554, run.len()), check_outer(file));
     if let Check::Refused(_) = outer {
         return outer;
     }

@@ -2,11 +2,11 @@
 ghost use mathlib.Core.Path.{_≡_};
 ghost use Prim.Native.Nat.{_≤_};
 ghost use lib.ListN.{length};
-ghost use Rattle.basis.specs.Outcome.{firstOf, finding};
+ghost use Rattle.outcome.specs.Outcome.{firstOf, finding};
 ghost use Rattle.run_check.specs.Run.{runCheck};
 ghost use Rattle.lent.specs.Lent.{roomCheck, written, placed};
 ghost use Rattle.basis_file.specs.File.{fileOf};
-use basis::Check;
+use outcome::Check;
 
 // The nine blocks, in the front of `file`.
 fn write_blocks(run: &[u8], file: &mut [u8])
@@ -26,7 +26,7 @@ pub fn write_file(run: &[u8], file: &mut [u8]) -> Check
     ensures { λ r. ⌜ finding r ≡ firstOf (roomCheck 4608 (now (file .entry))) (runCheck (now (run .entry))) ⌝ }
     ensures { λ r. ⌜ now (file .exit) ≡ written (finding r) (fileOf (now (run .entry))) (now (file .entry)) ⌝ }
 {
-    let c = basis::first_of(
+    let c = outcome::first_of(
         lent::check_room(4608, file.len()),
         run_check::check_run(run),
     );

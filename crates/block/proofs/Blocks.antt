@@ -7,8 +7,8 @@ use lib.ListN.{length, take, drop, getD, length-take, length-drop, length-append
 use lib.Seq.{take-at, take-add, getD-drop, getD-append-add}
 use borrow.Author.Tests.{eqb-true}
 use Rattle.little_endian.specs.Bytes.{u16At, u32At, u16Bytes, u32Bytes}
-use Rattle.basis.proofs.Outcome.{unless-passed, both-passed}
-use Rattle.basis.specs.Outcome.{passed}
+use Rattle.outcome.proofs.Outcome.{unless-passed, both-passed}
+use Rattle.outcome.specs.Outcome.{passed}
 use Rattle.little_endian.proofs.Bytes.{u16-back, u32-back, bytes-of-u16, bytes-of-u32}
 use Rattle.block.specs.Block.{checkOf, blockCheck, blockOf}
 use Rattle.block.proofs.WordSums.{check-local, check-fits}

@@ -6,7 +6,7 @@ use native.Mathlib.Omega.{arith}
 use native.Mathlib.Nat.{add-sub-cancel-left}
 use lib.ListN.{length, take, drop, length-take, length-drop, length-append}
 use lib.Seq.{drop-drop, take-at, drop-at}
-use Rattle.basis.specs.Outcome.{Finding, firstOf}
+use Rattle.outcome.specs.Outcome.{Finding, firstOf}
 use Rattle.block.specs.Block.{blockCheck}
 use Rattle.block.specs.Blocks.{partsOf, blocksCheck}
 

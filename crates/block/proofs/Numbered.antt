@@ -5,8 +5,8 @@ use Prim.Native.Nat.{ℕ, zero, suc, _+_}
 use lib.Dec.{eqb}
 use lib.ListN.{take, drop}
 use Rattle.little_endian.specs.Bytes.{u16At, u32At}
-use Rattle.basis.specs.Refusals.{numbers, isListed, RefusesBy}
-use Rattle.basis.proofs.Refusals.{passed-by, unless-by, first-by}
+use Rattle.outcome.specs.Refusals.{numbers, isListed, RefusesBy}
+use Rattle.outcome.proofs.Refusals.{passed-by, unless-by, first-by}
 use Rattle.block.specs.Block.{checkOf, blockCheck}
 use Rattle.block.specs.Blocks.{blocksCheck}
 

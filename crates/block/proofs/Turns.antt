@@ -8,7 +8,7 @@ use native.Mathlib.Omega.{arith}
 use lib.ListN.{length, take, drop, length-append}
 use borrow.Author.Tests.{eq-eqb, ne-eqb}
 use Rattle.little_endian.specs.Bytes.{u16At, u32At, u16Bytes, u32Bytes}
-use Rattle.basis.specs.Outcome.{passed, refusedBy, refusal}
+use Rattle.outcome.specs.Outcome.{passed, refusedBy, refusal}
 use Rattle.lent.specs.Lent.{placed}
 use Rattle.lent.proofs.Lent.{placed-there, then}
 use Rattle.block.specs.Block.{checkOf, blockCheck, blockOf}

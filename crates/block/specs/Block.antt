@@ -3,7 +3,7 @@ use Prim.Native.Nat.{ℕ, zero, suc, _+_, _*_, _%_}
 use mathlib.Core.List.{List, _++_}
 use lib.Dec.{eqb}
 use Rattle.little_endian.specs.Bytes.{u16At, u32At, u16Bytes, u32Bytes}
-use Rattle.basis.specs.Outcome.{Finding, refusal, unless, firstOf}
+use Rattle.outcome.specs.Outcome.{Finding, refusal, unless, firstOf}
 
 -- the first n four-byte words, each times its place 1 to n, summed
 unfoldable pub wordSum : List ℕ → ℕ → ℕ

@@ -2,7 +2,7 @@
 use Prim.Native.Nat.{ℕ, zero, suc, _+_}
 use mathlib.Core.List.{List, [], _++_}
 use lib.ListN.{take, drop}
-use Rattle.basis.specs.Outcome.{Finding, passed, firstOf}
+use Rattle.outcome.specs.Outcome.{Finding, passed, firstOf}
 use Rattle.block.specs.Block.{blockCheck, blockOf}
 
 -- the data parts of n blocks, joined

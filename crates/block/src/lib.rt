@@ -2,12 +2,12 @@
 ghost use mathlib.Core.Path.{_≡_};
 ghost use Prim.Native.Nat.{_+_, _*_, _%_, _≤_, _<_};
 ghost use lib.ListN.{length};
-ghost use Rattle.basis.specs.Outcome.{finding};
+ghost use Rattle.outcome.specs.Outcome.{finding};
 ghost use Rattle.lent.specs.Lent.{placed};
 ghost use Rattle.block.specs.Block.{checkOf, blockCheck, blockOf};
 ghost use Rattle.block.specs.Blocks.{blocksCheck};
-use basis::Check;
-use basis::Refusal;
+use outcome::Check;
+use outcome::Refusal;
 
 // A product modulo 4,294,967,296.
 fn wrapping_product(a: u32, b: u32) -> u32

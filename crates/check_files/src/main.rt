@@ -9,12 +9,12 @@
 ghost use mathlib.Core.Path.{_≡_};
 ghost use Prim.Native.Nat.{_≤_, _<_};
 ghost use lib.ListN.{length};
-use basis::Check;
-use basis::Refusal;
 use basis_file::read;
 use basis_file::write;
 use libc::STDIN_FILENO;
 use libc::STDOUT_FILENO;
+use outcome::Check;
+use outcome::Refusal;
 use reply_text::digits;
 
 // ---- the input and the output of a case

@@ -8,10 +8,10 @@ ghost use mathlib.Core.Path.{_≡_};
 ghost use Prim.Native.Nat.{_≤_};
 ghost use lib.ListN.{length};
 ghost use Rattle.history.specs.History.{Workable};
-use basis::Check;
-use basis::Refusal;
 use libc::STDIN_FILENO;
 use libc::STDOUT_FILENO;
+use outcome::Check;
+use outcome::Refusal;
 use reply_text::digits;
 use reply_text::reply;
 
@@ -76,7 +76,7 @@ fn sweep_years(run: &[u8], history: &[u8])
 }
 
 fn sweep_case(run: &[u8], history: &[u8]) {
-    match history::check::check_basis(run, history) {
+    match history::check::check_run_and_history(run, history) {
         Check::Passed => sweep_years(run, history),
         Check::Refused(r) => print_refused(r),
     }

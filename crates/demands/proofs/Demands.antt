@@ -9,9 +9,9 @@ use lib.IntN.{ℤ, pos}
 use lib.ListN.{length}
 use borrow.Author.Tests.{le-leb}
 use Rattle.lent.specs.Lent.{countCheck, written}
-use Rattle.basis.specs.declared.Refusal.{Refusal}
-use Rattle.basis.specs.Outcome.{Finding, passed, refusedBy, Outcome, value, refused, firstOf, andThen}
-use Rattle.basis.proofs.Outcome.{both-passed, checked-passed, first-refused}
+use Rattle.outcome.specs.declared.Refusal.{Refusal}
+use Rattle.outcome.specs.Outcome.{Finding, passed, refusedBy, Outcome, value, refused, firstOf, andThen}
+use Rattle.outcome.proofs.Outcome.{both-passed, checked-passed, first-refused}
 use Rattle.run_check.proofs.Acceptance.{accepted, passes}
 use Rattle.basis_file.specs.File.{runIn, fileOf}
 use Rattle.arithmetic.proofs.Rounding.{ties-go-up}
@@ -24,11 +24,11 @@ use Rattle.short_form.proofs.Accepted.{short-form-stands}
 use Rattle.lifeline.proofs.Survivorship.{is-cohort-survivorship}
 use Rattle.enquiry_text.proofs.Says.{line-says}
 use Rattle.figures.proofs.Computed.{figures-hold}
-use Rattle.history.specs.History.{basisWith, basisCheck}
+use Rattle.history.specs.History.{basisWith, runAndHistoryCheck}
 use Rattle.short_form.specs.ShortForm.{shortFormOf}
 use Rattle.sweep.proofs.Steps.{each-step}
 use Rattle.sweep.proofs.Fixed.{held-is-fixed}
-use Rattle.workings.proofs.Fixed.{workings-are-fixed}
+use Rattle.factor_table.proofs.Fixed.{factor-table-is-fixed}
 use Rattle.survivorship.specs.Survivorship.{survivorsAfterYear}
 use Rattle.enquiry.specs.Enquiry.{improvementEnquiry, factorEnquiry, rateEnquiry, survivorshipEnquiry, expectationEnquiry, annuityEnquiry}
 use Rattle.model_points.specs.Point.{pointAnswerOf, pointOf}
@@ -60,20 +60,20 @@ left-alone : (roll : List ℕ) (call : Outcome (List ℕ)) (r : Refusal) → cal
 left-alone roll call r h = rw h refl
 
 module _ (run history : List ℕ) where
-  grid-refused : (r : Refusal) → basisCheck run history ≡ refusedBy r → (count : ℕ) → 119 ≤ count → gridCheck run history count ≡ refusedBy r
+  grid-refused : (r : Refusal) → runAndHistoryCheck run history ≡ refusedBy r → (count : ℕ) → 119 ≤ count → gridCheck run history count ≡ refusedBy r
   unfolding gridCheck countCheck
   grid-refused r h count l = rw (le-leb 119 count l, h) refl
 
-  join-refused : (r : Refusal) → basisCheck run history ≡ refusedBy r → (roll : List ℕ) (number age pension : ℕ)
+  join-refused : (r : Refusal) → runAndHistoryCheck run history ≡ refusedBy r → (roll : List ℕ) (number age pension : ℕ)
       → firstOf (rollCheck roll) (joinCheck (numbersIn roll) number pension) ≡ passed → joinedRoll roll run history number age pension ≡ refused r
   unfolding joining liabilityJoining liabilityOn annuityEnquiry
   join-refused r h roll number age pension k =
       let own = both-passed (rollCheck roll) (joinCheck (numbersIn roll) number pension) k in rw (own .0, own .1, h) refl
 
-  refused-by : (r : Refusal) → basisCheck run history ≡ refusedBy r → RefusedThroughout run history r
+  refused-by : (r : Refusal) → runAndHistoryCheck run history ≡ refusedBy r → RefusedThroughout run history r
   unfolding improvementEnquiry factorEnquiry rateEnquiry survivorshipEnquiry expectationEnquiry annuityEnquiry
   refused-by r h =
-      let first : (next : Finding) → firstOf (basisCheck run history) next ≡ refusedBy r = λ next. first-refused (basisCheck run history) next r h in
+      let first : (next : Finding) → firstOf (runAndHistoryCheck run history) next ≡ refusedBy r = λ next. first-refused (runAndHistoryCheck run history) next r h in
       record {
         improvement = λ age year. rw h refl;
         factor = λ age year. rw h refl;
@@ -145,7 +145,7 @@ module _ (run history : List ℕ) where
         furtherKept = further-kept;
         sweep = each-step run history;
         heldIsFixed = held-is-fixed;
-        workingsAreFixed = workings-are-fixed;
+        factorTableIsFixed = factor-table-is-fixed;
         roundTrips = round-trips;
         historyAccepted = history-acceptance;
         actualAnswered = actual-answered run history;

@@ -5,8 +5,8 @@ use Prim.Native.Nat.{ℕ, _^_, _≤_, _<_}
 use native.Mathlib.Omega.{arith}
 use lib.IntN.{ℤ, pos}
 use lib.ListN.{length}
-use Rattle.basis.specs.Outcome.{Outcome, value, refused, andThen}
-use Rattle.basis.specs.Refusals.{numbers, RefusedBy}
+use Rattle.outcome.specs.Outcome.{Outcome, value, refused, andThen}
+use Rattle.outcome.specs.Refusals.{numbers, RefusedBy}
 use Rattle.roll.specs.Roll.{Member, Call, joins, leaves, membersBy, afterCall, membersAfter, totalOf}
 use Rattle.roll.specs.Kept.{openedRoll, totalSaid, rollBy, rollAfter}
 use Rattle.roll.proofs.RunningTotal.{running-total}

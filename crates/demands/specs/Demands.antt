@@ -8,13 +8,13 @@ use lib.IntN.{ℤ, pos, natAbs}
 use lib.ListN.{length}
 use Rattle.arithmetic.specs.Rounding.{TiesGoUp}
 use Rattle.lent.specs.Lent.{written}
-use Rattle.basis.specs.declared.Refusal.{Refusal}
+use Rattle.outcome.specs.declared.Refusal.{Refusal}
 use Rattle.basis.specs.Basis.{Accepted}
-use Rattle.basis.specs.Outcome.{passed, refusedBy, value, refused, firstOf, andThen}
+use Rattle.outcome.specs.Outcome.{passed, refusedBy, value, refused, firstOf, andThen}
 use Rattle.run_check.specs.Run.{runCheck}
 use Rattle.basis_file.specs.File.{runIn, fileOf}
 use Rattle.basis_file.specs.RoundTrips.{RoundTrips}
-use Rattle.history.specs.History.{basisWith, basisCheck}
+use Rattle.history.specs.History.{basisWith, runAndHistoryCheck}
 use Rattle.history.specs.Accepted.{HistoryAcceptance}
 use Rattle.short_form.specs.ShortForm.{shortFormOf, ShortFormStands}
 use Rattle.improvement.specs.Improvement.{firstYear, improvementOf, improvementNeeded}
@@ -27,10 +27,10 @@ use Rattle.survivorship.specs.declared.Kind.{Kind}
 use Rattle.survivorship.specs.declared.Kind.the-variants.{Cohort}
 use Rattle.survivorship.specs.Survivorship.{survivorsOf}
 use Rattle.valuation.specs.Valuation.{expectationOf, annuityOf}
-use Rattle.workings.specs.Fixed.{WorkingsAreFixed}
+use Rattle.factor_table.specs.Fixed.{FactorTableIsFixed}
 use Rattle.question.specs.Question.{cellCheck, questionCheck}
 use Rattle.enquiry.specs.Enquiry.{valuationCheck, improvementEnquiry, factorEnquiry, rateEnquiry, survivorshipEnquiry, expectationEnquiry, annuityEnquiry}
-use Rattle.model_points.specs.declared.Question.{Question}
+use Rattle.question.specs.declared.Question.{Question}
 use Rattle.model_points.specs.Point.{resultsOf, noResults, pointAnswerOf, pointOf}
 use Rattle.small_set.specs.declared.Questions.{Questions}
 use Rattle.small_set.specs.SmallSet.{smallSetOf}
@@ -71,7 +71,7 @@ pub record Demand1 (run history : List ℕ) : Type 0 where
   pub numbered : NumberedRefusals run history
   pub zeroIsNone : ZeroIsNone
   -- "checks all it is given"
-  pub checked : (r : Refusal) → basisCheck run history ≡ refusedBy r → RefusedThroughout run history r
+  pub checked : (r : Refusal) → runAndHistoryCheck run history ≡ refusedBy r → RefusedThroughout run history r
   -- "and on a refusal writes no byte of lent output": reading, writing, the short form, the grid; and a lifeline stays where it stands
   pub readUnchanged : (file out : List ℕ) (r : Refusal) → readCheck file out ≡ refusedBy r → written (readCheck file out) (runIn file) out ≡ out
   pub writeUnchanged : (out : List ℕ) (r : Refusal) → writeCheck run out ≡ refusedBy r → written (writeCheck run out) (fileOf run) out ≡ out
@@ -103,11 +103,11 @@ pub record Demand2 (run history : List ℕ) : Type 0 where
   pub lines : LineSays
   -- "with exactly the number of the model under the paper's rounding rules": after its checks an enquiry is the model's work, which is
   -- refused by 9 and 10 alone
-  pub improvement : (age year : ℕ) → firstOf (basisCheck run history) (cellCheck (firstYear (basisWith run history)) age year) ≡ passed →
+  pub improvement : (age year : ℕ) → firstOf (runAndHistoryCheck run history) (cellCheck (firstYear (basisWith run history)) age year) ≡ passed →
       improvementEnquiry run history age year ≡ improvementNeeded age year (improvementOf (basisWith run history) age year)
-  pub factor : (age year : ℕ) → firstOf (basisCheck run history) (cellCheck (basisWith run history .base) age year) ≡ passed →
+  pub factor : (age year : ℕ) → firstOf (runAndHistoryCheck run history) (cellCheck (basisWith run history .base) age year) ≡ passed →
       factorEnquiry run history age year ≡ factorOf (basisWith run history) age year
-  pub rate : (age year : ℕ) → firstOf (basisCheck run history) (cellCheck (basisWith run history .base) age year) ≡ passed →
+  pub rate : (age year : ℕ) → firstOf (runAndHistoryCheck run history) (cellCheck (basisWith run history .base) age year) ≡ passed →
       rateEnquiry run history age year ≡ rateOf (basisWith run history) age year
   pub survivorship : (kind : Kind) (age deferment year : ℕ) → valuationCheck run history age deferment year ≡ passed →
       survivorshipEnquiry run history kind age deferment year ≡ survivorsOf (basisWith run history) kind age year deferment
@@ -140,9 +140,9 @@ pub record Demand2 (run history : List ℕ) : Type 0 where
   pub figures : FiguresHold
   -- the sweep holds what the direct engine answers (02, change 5)
   pub sweep : EachStep run history
-  -- and what it and the workings of the grid hold leaves no number of a lent list free
+  -- and what it and the factor table hold leaves no number of a lent list free
   pub heldIsFixed : HeldIsFixed
-  pub workingsAreFixed : WorkingsAreFixed
+  pub factorTableIsFixed : FactorTableIsFixed
   -- "A basis read and written back is the same file; written and read back, the same basis"
   pub roundTrips : RoundTrips
 

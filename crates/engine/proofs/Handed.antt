@@ -4,9 +4,9 @@ use mathlib.Core.Path.{_≡_, ap, refl}
 use Prim.Native.Nat.{ℕ}
 use native.Mathlib.Omega.{arith}
 use lib.IntN.{ℤ, pos}
-use Rattle.basis.specs.Outcome.{Outcome, value, refused}
-use Rattle.basis.specs.Refusals.{numbers, RefusedBy}
-use Rattle.basis.proofs.Refusals.{never-zero}
+use Rattle.outcome.specs.Outcome.{Outcome, value, refused}
+use Rattle.outcome.specs.Refusals.{numbers, RefusedBy}
+use Rattle.outcome.proofs.Refusals.{never-zero}
 use Rattle.engine.specs.Enquiry.{answerOf, signedAnswerOf}
 
 pub value-handed : (work : Outcome ℤ) → RefusedBy numbers work → ((v : ℤ) → work ≡ value v → (m : ℕ) × (v ≡ pos m)) → answerOf work .refusal .number ≡ 0 → work ≡ value (pos (answerOf work .value))

@@ -2,9 +2,9 @@
 use Prim.Native.Nat.{ℕ}
 use mathlib.Core.List.{List}
 use lib.IntN.{ℤ, pos, natAbs}
-use Rattle.basis.specs.declared.Refusal.{Refusal}
+use Rattle.outcome.specs.declared.Refusal.{Refusal}
 use Rattle.lent.specs.Lent.{roomCheck}
-use Rattle.basis.specs.Outcome.{Finding, passed, refusedBy, Outcome, value, refused, refusal, firstOf, noRefusal}
+use Rattle.outcome.specs.Outcome.{Finding, passed, refusedBy, Outcome, value, refused, refusal, firstOf, noRefusal}
 use Rattle.run_check.specs.Run.{runCheck}
 use Rattle.basis_file.specs.File.{fileCheck}
 use Rattle.short_form.specs.ShortForm.{shortFormCheck}

@@ -1,7 +1,7 @@
 -- What C is handed of a lifeline: where it stands, the refusal, and whether it has ended (1).
 use Prim.Native.Nat.{ℕ}
-use Rattle.basis.specs.Outcome.{Outcome, value, refused, noRefusal}
-use Rattle.basis.specs.declared.Refusal.{Refusal}
+use Rattle.outcome.specs.Outcome.{Outcome, value, refused, noRefusal}
+use Rattle.outcome.specs.declared.Refusal.{Refusal}
 use Rattle.lifeline.specs.Said.{Start, Said, advanced, ended, Step}
 use Rattle.engine.specs.declared.CLifeline.{CLifeline}
 use Rattle.engine.specs.Enquiry.{refusalOf}

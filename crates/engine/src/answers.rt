@@ -1,13 +1,13 @@
 // Checks and answers as C takes them: structs instead of enums, with refusal number 0 for none.
 ghost use mathlib.Core.Path.{_≡_};
-ghost use Rattle.basis.specs.Outcome.{finding, meaning, signedMeaning};
+ghost use Rattle.outcome.specs.Outcome.{finding, meaning, signedMeaning};
 ghost use Rattle.engine.specs.Enquiry.{refusalOf, answerOf, signedAnswerOf};
 use crate::CAnswer;
 use crate::CSignedAnswer;
-use basis::Answer;
-use basis::Check;
-use basis::Refusal;
-use basis::SignedAnswer;
+use outcome::Answer;
+use outcome::Check;
+use outcome::Refusal;
+use outcome::SignedAnswer;
 
 pub const NO_REFUSAL: Refusal = Refusal {
     number: 0,

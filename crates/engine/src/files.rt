@@ -6,7 +6,7 @@ ghost use Rattle.basis_file.specs.File.{runIn, fileOf};
 ghost use Rattle.short_form.specs.ShortForm.{shortFormOf};
 ghost use Rattle.engine.specs.Enquiry.{refusalOf, readCheck, writeCheck, shortCheck};
 use crate::answers;
-use basis::Refusal;
+use outcome::Refusal;
 
 #[no_mangle]
 pub extern "C" fn parvusek_check_basis(run: &[u8]) -> Refusal

@@ -9,7 +9,7 @@ pub mod rolls;
 pub mod values;
 pub mod version;
 
-use basis::Refusal;
+use outcome::Refusal;
 
 // The answer of an enquiry: a value and a refusal of number 0, or a refusal and value 0.
 #[repr(C)]

@@ -5,8 +5,8 @@ ghost use Rattle.small_set.specs.SmallSet.{smallSetOf};
 ghost use Rattle.grid.specs.Grid.{gridCheck, gridOf};
 ghost use Rattle.engine.specs.Enquiry.{refusalOf};
 use crate::answers;
-use basis::Refusal;
 use grid_record::Point;
+use outcome::Refusal;
 use small_set::Questions;
 use small_set::SmallSet;
 

@@ -5,7 +5,7 @@ ghost use Rattle.roll.specs.Kept.{rollCheck, openedRoll, joinedRoll, leftRoll, 
 ghost use Rattle.engine.specs.Enquiry.{refusalOf, answerOf};
 use crate::CAnswer;
 use crate::answers;
-use basis::Refusal;
+use outcome::Refusal;
 use roll::calls;
 
 #[no_mangle]

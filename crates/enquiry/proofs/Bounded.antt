@@ -4,8 +4,8 @@ use mathlib.Core.List.{List}
 use Prim.Native.Nat.{ℕ, _≤_}
 use native.Mathlib.Omega.{arith}
 use lib.IntN.{ℤ, pos}
-use Rattle.basis.specs.Outcome.{value}
-use Rattle.basis.proofs.Outcome.{checked-value}
+use Rattle.outcome.specs.Outcome.{value}
+use Rattle.outcome.proofs.Outcome.{checked-value}
 use Rattle.history.specs.History.{basisWith}
 use Rattle.history.proofs.With.{limits-with}
 use Rattle.survivorship.specs.declared.Kind.{Kind}

@@ -3,8 +3,8 @@
 use Prim.Native.Nat.{ℕ}
 use mathlib.Core.List.{List}
 use lib.IntN.{ℤ}
-use Rattle.basis.specs.Outcome.{Finding, Outcome, firstOf, checked}
-use Rattle.history.specs.History.{basisWith, basisCheck}
+use Rattle.outcome.specs.Outcome.{Finding, Outcome, firstOf, checked}
+use Rattle.history.specs.History.{basisWith, runAndHistoryCheck}
 use Rattle.improvement.specs.Improvement.{firstYear, improvementOf, improvementNeeded}
 use Rattle.projection.specs.Projection.{factorOf, rateOf}
 use Rattle.survivorship.specs.declared.Kind.{Kind}
@@ -14,24 +14,24 @@ use Rattle.question.specs.Question.{cellCheck, questionCheck}
 
 -- every enquiry checks its data run and its history afresh
 abbrev pub valuationCheck : List ℕ → List ℕ → ℕ → ℕ → ℕ → Finding
-valuationCheck run history age deferment year = firstOf (basisCheck run history) (questionCheck (basisWith run history .base) age deferment year)
+valuationCheck run history age deferment year = firstOf (runAndHistoryCheck run history) (questionCheck (basisWith run history .base) age deferment year)
 
 -- an improvement is asked for from the first year that has one
 unfoldable pub improvementEnquiry : List ℕ → List ℕ → ℕ → ℕ → Outcome ℤ
 improvementEnquiry run history age year =
     let b = basisWith run history in
-    checked (firstOf (basisCheck run history) (cellCheck (firstYear b) age year)) (improvementNeeded age year (improvementOf b age year))
+    checked (firstOf (runAndHistoryCheck run history) (cellCheck (firstYear b) age year)) (improvementNeeded age year (improvementOf b age year))
 
 -- a factor and a rate from B on
 unfoldable pub factorEnquiry : List ℕ → List ℕ → ℕ → ℕ → Outcome ℤ
 factorEnquiry run history age year =
     let b = basisWith run history in
-    checked (firstOf (basisCheck run history) (cellCheck (b .base) age year)) (factorOf b age year)
+    checked (firstOf (runAndHistoryCheck run history) (cellCheck (b .base) age year)) (factorOf b age year)
 
 unfoldable pub rateEnquiry : List ℕ → List ℕ → ℕ → ℕ → Outcome ℤ
 rateEnquiry run history age year =
     let b = basisWith run history in
-    checked (firstOf (basisCheck run history) (cellCheck (b .base) age year)) (rateOf b age year)
+    checked (firstOf (runAndHistoryCheck run history) (cellCheck (b .base) age year)) (rateOf b age year)
 
 -- an enquiry for survivorship names its number of years as the deferment
 unfoldable pub survivorshipEnquiry : List ℕ → List ℕ → Kind → ℕ → ℕ → ℕ → Outcome ℤ

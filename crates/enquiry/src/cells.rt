@@ -1,20 +1,20 @@
 // Enquiries for single cells of the projection: an improvement, a factor, a rate.
 ghost use mathlib.Core.Path.{_≡_};
-ghost use Rattle.basis.specs.Outcome.{firstOf, meaning, signedMeaning, finding};
-ghost use Rattle.history.specs.History.{basisWith, basisCheck};
+ghost use Rattle.outcome.specs.Outcome.{firstOf, meaning, signedMeaning, finding};
+ghost use Rattle.history.specs.History.{basisWith, runAndHistoryCheck};
 ghost use Rattle.improvement.specs.Improvement.{firstYear};
 ghost use Rattle.question.specs.Question.{cellCheck};
 ghost use Rattle.enquiry.specs.Enquiry.{improvementEnquiry, factorEnquiry, rateEnquiry};
-use basis::Answer;
-use basis::Check;
-use basis::SignedAnswer;
+use outcome::Answer;
+use outcome::Check;
+use outcome::SignedAnswer;
 
 // The data run and its history afresh, the age, and the year from the first that has an improvement.
 fn check_from_first(run: &[u8], history: &[u8], age: u32, year: u32) -> Check
     ensures { λ r. ⌜ finding r
-        ≡ firstOf (basisCheck (now (run .entry)) (now (history .entry))) (cellCheck (firstYear (basisWith (now (run .entry)) (now (history .entry)))) age year) ⌝ }
+        ≡ firstOf (runAndHistoryCheck (now (run .entry)) (now (history .entry))) (cellCheck (firstYear (basisWith (now (run .entry)) (now (history .entry)))) age year) ⌝ }
 {
-    match history::check::check_basis(run, history) {
+    match history::check::check_run_and_history(run, history) {
         Check::Passed => question::check_cell(improvement::first_year(run), age, year),
         Check::Refused(r) => Check::Refused(r),
     }
@@ -22,9 +22,9 @@ fn check_from_first(run: &[u8], history: &[u8], age: u32, year: u32) -> Check
 
 // The same with the year from B on.
 fn check_from_base(run: &[u8], history: &[u8], age: u32, year: u32) -> Check
-    ensures { λ r. ⌜ finding r ≡ firstOf (basisCheck (now (run .entry)) (now (history .entry))) (cellCheck (basisWith (now (run .entry)) (now (history .entry)) .base) age year) ⌝ }
+    ensures { λ r. ⌜ finding r ≡ firstOf (runAndHistoryCheck (now (run .entry)) (now (history .entry))) (cellCheck (basisWith (now (run .entry)) (now (history .entry)) .base) age year) ⌝ }
 {
-    match history::check::check_basis(run, history) {
+    match history::check::check_run_and_history(run, history) {
         Check::Passed => question::check_cell(basis::fields::base_year(run), age, year),
         Check::Refused(r) => Check::Refused(r),
     }

@@ -1,16 +1,16 @@
 // Enquiries for the values of a life: survivorship, expectation and annuity, each period and cohort.
 ghost use mathlib.Core.Path.{_≡_};
-ghost use Rattle.basis.specs.Outcome.{meaning, finding};
+ghost use Rattle.outcome.specs.Outcome.{meaning, finding};
 ghost use Rattle.enquiry.specs.Enquiry.{valuationCheck, survivorshipEnquiry, expectationEnquiry, annuityEnquiry};
-use basis::Answer;
-use basis::Check;
+use outcome::Answer;
+use outcome::Check;
 use survivorship::Kind;
 
 // The data run and its history afresh, then the question.
 pub fn check_valuation(run: &[u8], history: &[u8], age: u32, deferment: u32, year: u32) -> Check
     ensures { λ r. ⌜ finding r ≡ valuationCheck (now (run .entry)) (now (history .entry)) age deferment year ⌝ }
 {
-    match history::check::check_basis(run, history) {
+    match history::check::check_run_and_history(run, history) {
         Check::Passed => question::check_question(run, age, deferment, year),
         Check::Refused(r) => Check::Refused(r),
     }

@@ -5,14 +5,14 @@ use mathlib.Core.List.{List, _++_, append-nil}
 use native.Mathlib.Omega.{arith}
 use lib.ListN.{length, drop-of-length-le}
 use Rattle.basis.specs.Basis.{basisOf, Accepted}
-use Rattle.basis.specs.Outcome.{Finding, passed, firstOf}
-use Rattle.basis.proofs.Outcome.{both-passed}
+use Rattle.outcome.specs.Outcome.{Finding, passed, firstOf}
+use Rattle.outcome.proofs.Outcome.{both-passed}
 use Rattle.lent.specs.Lent.{roomCheck, written}
 use Rattle.lent.proofs.Lent.{roomy, filled}
 use Rattle.run_check.proofs.Acceptance.{accepted}
 use Rattle.basis_file.specs.File.{fileCheck, runIn}
 use Rattle.basis_file.proofs.RoundTrip.{run-accepted}
-use Rattle.history.specs.History.{historyCheck, basisCheck, Workable}
+use Rattle.history.specs.History.{historyCheck, runAndHistoryCheck, Workable}
 use Rattle.history.proofs.Acceptance.{accepted-workable}
 use Rattle.enquiry_lines.specs.Output.{filesCheck}
 
@@ -32,8 +32,8 @@ read-check file room l c e = sym (roomy 4554 room (fileCheck file) (omega arith)
 
 -- the run with its history
 module _ (file history : List ℕ) where
-  both : filesCheck file history ≡ passed → (fileCheck file ≡ passed) × (basisCheck (runIn file) history ≡ passed)
-  unfolding basisCheck
+  both : filesCheck file history ≡ passed → (fileCheck file ≡ passed) × (runAndHistoryCheck (runIn file) history ≡ passed)
+  unfolding runAndHistoryCheck
   both h = let p = both-passed (fileCheck file) (historyCheck (basisOf (runIn file)) history) h in (p .0, rw (run-accepted file (p .0)) (p .1))
 
   pub opened-run : (run : List ℕ) → length run ≡ 4554 → (c : Finding) → c ≡ filesCheck file history → c ≡ passed → written c (runIn file) run ≡ runIn file

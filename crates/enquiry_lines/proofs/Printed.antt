@@ -5,10 +5,10 @@ use mathlib.Core.List.{List, [], _++_, append-nil}
 use native.Mathlib.Omega.{arith}
 use lib.ListN.{length, take}
 use lib.Seq.{take-take}
-use Rattle.basis.specs.declared.Refusal.{Refusal}
+use Rattle.outcome.specs.declared.Refusal.{Refusal}
 use Rattle.basis.specs.Basis.{Basis}
 use Rattle.basis_file.specs.File.{runIn}
-use Rattle.basis.specs.Outcome.{passed, refusedBy}
+use Rattle.outcome.specs.Outcome.{passed, refusedBy}
 use Rattle.history.specs.History.{basisWith}
 use Rattle.reply_text.specs.Reply.{headerLine}
 use Rattle.enquiry_lines.specs.Lines.{ended, unfinished, lastLine, linesOf, replies}

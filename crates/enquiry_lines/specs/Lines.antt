@@ -5,8 +5,8 @@ use mathlib.Core.List.{List, [], _∷_, _++_}
 use lib.Dec.{eqb}
 use lib.ListN.{length}
 use Rattle.basis.specs.Basis.{Basis}
-use Rattle.basis.specs.Outcome.{Outcome, value, refused}
-use Rattle.model_points.specs.declared.Question.{Question}
+use Rattle.outcome.specs.Outcome.{Outcome, value, refused}
+use Rattle.question.specs.declared.Question.{Question}
 use Rattle.model_points.specs.Point.{pointOf}
 use Rattle.enquiry_text.specs.Line.{lineOf}
 use Rattle.reply_text.specs.Reply.{replyOf, refusalLine}

@@ -2,7 +2,7 @@
 use Prim.Native.Nat.{ℕ}
 use mathlib.Core.List.{List, _++_}
 use Rattle.basis.specs.Basis.{basisOf}
-use Rattle.basis.specs.Outcome.{Finding, passed, refusedBy, firstOf}
+use Rattle.outcome.specs.Outcome.{Finding, passed, refusedBy, firstOf}
 use Rattle.basis_file.specs.File.{fileCheck, runIn}
 use Rattle.history.specs.History.{basisWith, historyCheck}
 use Rattle.reply_text.specs.Reply.{headerLine, refusalLine}

@@ -1,6 +1,6 @@
 // The points program's text: the opening line by the basis file, and the input answered line by line as it comes in
 // parts.
-use basis::Check;
+use outcome::Check;
 
 pub mod lines;
 pub mod open_basis;

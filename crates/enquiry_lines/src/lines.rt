@@ -5,37 +5,37 @@ ghost use mathlib.Core.List.{[]};
 ghost use Prim.Native.Nat.{_+_, _*_, _≤_, _<_};
 ghost use lib.ListN.{length};
 ghost use Rattle.history.specs.History.{basisWith, Workable};
-ghost use Rattle.workings.specs.Workings.{Workings, WorkedOut};
+ghost use Rattle.factor_table.specs.FactorTable.{FactorTable, Tabled};
 ghost use Rattle.enquiry_text.specs.Line.{lineOf};
 ghost use Rattle.reply_text.specs.Inner.Put.{Put};
 ghost use Rattle.enquiry_lines.specs.Lines.{ended, unfinished, lastLine, replyTo, replies};
 ghost use Rattle.enquiry_lines.specs.Inner.State.{kept, pendingOf, Sound};
 use crate::Fed;
 use crate::Pending;
-use basis::Refusal;
 use enquiry_text::Line;
 use enquiry_text::parse;
+use outcome::Refusal;
 use reply_text::reply;
 
 // The reply to a line by its number from 1.
 fn put_line(
     run: &[u8],
     history: &[u8],
-    workings: &[u32],
+    table: &[u32],
     out: &mut [u8],
     at: usize,
     number: u64,
     text: &[u8],
 ) -> usize
     requires { ⌜ Workable (now run) (now history) ⌝ }
-    requires { ⌜ Workings (basisWith (now run) (now history)) (now workings) ⌝ }
+    requires { ⌜ FactorTable (basisWith (now run) (now history)) (now table) ⌝ }
     requires { ⌜ at + 192 ≤ length (now out) ⌝ }
     ensures { λ r. ⌜ Put (now (out .entry)) at (replyTo (basisWith (now (run .entry)) (now (history .entry))) (lineOf number (now (text .entry)))) (now (out .exit)) r ⌝ }
     ensures { λ r. ⌜ r ≤ at + 192 ⌝ }
 {
     match parse::parse_line(text) {
         Line::Enquiry(q) => {
-            let a = swept_points::points::point_at(run, history, workings, q);
+            let a = swept_points::points::point_at(run, history, table, q);
             reply::put_reply(out, at, q, a)
         }
         Line::Malformed => {
@@ -65,13 +65,13 @@ pub fn begin() -> Pending
 pub fn feed(
     run: &[u8],
     history: &[u8],
-    workings: &[u32],
+    table: &[u32],
     s: Pending,
     part: &[u8],
     out: &mut [u8],
     from: usize,
 ) -> Fed
-    requires { ⌜ WorkedOut (now run) (now history) (now workings) ⌝ }
+    requires { ⌜ Tabled (now run) (now history) (now table) ⌝ }
     requires { ⌜ from + 192 * length (now part) ≤ length (now out) ⌝ }
     requires { ⌜ Sound s ⌝ }
     requires { ⌜ s .complete + length (now part) < 18446744073709551616 ⌝ }
@@ -90,7 +90,7 @@ pub fn feed(
         let b = part[i];
         i += 1;
         if b == b'\n' {
-            at = put_line(run, history, workings, out, at, complete + 1, &bytes[..len]);
+            at = put_line(run, history, table, out, at, complete + 1, &bytes[..len]);
             bytes = [0; 16];
             len = 0;
             complete += 1;
@@ -116,12 +116,12 @@ pub fn feed(
 pub fn finish(
     run: &[u8],
     history: &[u8],
-    workings: &[u32],
+    table: &[u32],
     s: Pending,
     out: &mut [u8],
     from: usize,
 ) -> usize
-    requires { ⌜ WorkedOut (now run) (now history) (now workings) ⌝ }
+    requires { ⌜ Tabled (now run) (now history) (now table) ⌝ }
     requires { ⌜ from + 192 ≤ length (now out) ⌝ }
     requires { ⌜ Sound s ⌝ }
     requires { ⌜ s .complete + 1 < 18446744073709551616 ⌝ }
@@ -135,7 +135,7 @@ pub fn finish(
     put_line(
         run,
         history,
-        workings,
+        table,
         out,
         from,
         s.complete + 1,

@@ -3,14 +3,14 @@ ghost use mathlib.Core.Path.{_≡_};
 ghost use mathlib.Core.List.{[]};
 ghost use Prim.Native.Nat.{_≤_};
 ghost use lib.ListN.{length};
-ghost use Rattle.basis.specs.Outcome.{finding};
+ghost use Rattle.outcome.specs.Outcome.{finding};
 ghost use Rattle.lent.specs.Lent.{written};
 ghost use Rattle.basis_file.specs.File.{runIn};
 ghost use Rattle.reply_text.specs.Inner.Put.{Put};
 ghost use Rattle.enquiry_lines.specs.Output.{filesCheck, printed};
 use crate::Opening;
-use basis::Check;
 use basis_file::read;
+use outcome::Check;
 use reply_text::reply;
 
 // The file's data run, put into `run` where neither the file nor the history is refused. It is read into an array of its

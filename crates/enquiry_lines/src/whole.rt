@@ -4,7 +4,7 @@ ghost use mathlib.Core.List.{[]};
 ghost use Prim.Native.Nat.{_+_, _*_, _≤_, _<_};
 ghost use lib.ListN.{length};
 ghost use Rattle.history.specs.History.{basisWith};
-ghost use Rattle.workings.specs.Workings.{WorkedOut};
+ghost use Rattle.factor_table.specs.FactorTable.{Tabled};
 ghost use Rattle.reply_text.specs.Inner.Put.{Put};
 ghost use Rattle.enquiry_lines.specs.Lines.{ended, unfinished, replies};
 ghost use Rattle.enquiry_lines.specs.Output.{outputOf};
@@ -12,7 +12,7 @@ ghost use Rattle.enquiry_lines.specs.Inner.State.{pendingOf};
 use crate::Fed;
 use crate::lines;
 use crate::open_basis;
-use basis::Check;
+use outcome::Check;
 
 fn least(a: usize, b: usize) -> usize
     ensures { λ r. ⌜ (r ≤ a) × (r ≤ b) ⌝ }
@@ -24,13 +24,13 @@ fn least(a: usize, b: usize) -> usize
 fn feed_parts(
     run: &[u8],
     history: &[u8],
-    workings: &[u32],
+    table: &[u32],
     text: &[u8],
     lengths: &[usize],
     out: &mut [u8],
     from: usize,
 ) -> Fed
-    requires { ⌜ WorkedOut (now run) (now history) (now workings) ⌝ }
+    requires { ⌜ Tabled (now run) (now history) (now table) ⌝ }
     requires { ⌜ from + 192 * length (now text) ≤ length (now out) ⌝ }
     requires { ⌜ (length (now text) < 18446744073709551615) × (length (now lengths) < 2305843009213693952) ⌝ }
     ensures { λ r. ⌜ r .pending ≡ pendingOf (unfinished [] (now (text .entry))) (length (ended [] (now (text .entry)))) ⌝ }
@@ -43,14 +43,14 @@ fn feed_parts(
     let mut k: usize = 0;
     while k < lengths.len() {
         let end = i + least(lengths[k], text.len() - i);
-        let f = lines::feed(run, history, workings, pending, &text[i..end], out, at);
+        let f = lines::feed(run, history, table, pending, &text[i..end], out, at);
         let next = f.pending;
         pending = next;
         at = f.at;
         i = end;
         k += 1;
     }
-    lines::feed(run, history, workings, pending, &text[i..], out, at)
+    lines::feed(run, history, table, pending, &text[i..], out, at)
 }
 
 // What the points program prints on a basis file, a history file and a text, into the front of `out`: 192 bytes of room for
@@ -61,14 +61,14 @@ pub fn output(file: &[u8], history: &[u8], text: &[u8], lengths: &[usize], out: 
     ensures { λ r. ⌜ Put (now (out .entry)) 0 (outputOf (now (file .entry)) (now (history .entry)) (now (text .entry))) (now (out .exit)) r ⌝ }
 {
     let mut run = [0u8; 4554];
-    let mut workings = [0u32; 18340];
+    let mut table = [0u32; 18340];
     let o = open_basis::open_files(file, history, &mut run, out);
     let at = o.at;
     let check = o.check;
     let Check::Passed = check else {
         return at;
     };
-    workings::work_out(&run, history, &mut workings);
-    let f = feed_parts(&run, history, &workings, text, lengths, out, at);
-    lines::finish(&run, history, &workings, f.pending, out, f.at)
+    factor_table::fill_table(&run, history, &mut table);
+    let f = feed_parts(&run, history, &table, text, lengths, out, at);
+    lines::finish(&run, history, &table, f.pending, out, f.at)
 }

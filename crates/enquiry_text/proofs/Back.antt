@@ -9,8 +9,8 @@ use lib.Dec.{ltb}
 use lib.ListN.{length, getD}
 use borrow.Author.Tests.{ne-eqb, lt-ltb, le-ltb, ltb-true, ltb-false}
 use Rattle.arithmetic.specs.Fraction.{U}
-use Rattle.basis.specs.Outcome.{value}
-use Rattle.model_points.specs.declared.Question.{Question}
+use Rattle.outcome.specs.Outcome.{value}
+use Rattle.question.specs.declared.Question.{Question}
 use Rattle.reply_text.specs.Ascii.{ascii}
 use Rattle.reply_text.specs.Decimal.{digits, placesFrom, digitsOf, decimalOf}
 use Rattle.reply_text.specs.Reply.{questionText}

@@ -2,7 +2,7 @@
 use mathlib.Core.Path.{refl}
 use mathlib.Core.List.{List}
 use Prim.Native.Nat.{ℕ}
-use Rattle.basis.specs.Refusals.{numbers, isListed, RefusedBy}
+use Rattle.outcome.specs.Refusals.{numbers, isListed, RefusedBy}
 use Rattle.enquiry_text.specs.Line.{lineOf}
 use Rattle.enquiry_text.proofs.Says.{line-says}
 

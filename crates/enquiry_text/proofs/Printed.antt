@@ -7,9 +7,9 @@ use native.Mathlib.Omega.{arith}
 use lib.Dec.{ltb, eqb}
 use lib.ListN.{length, getD, length-append}
 use borrow.Author.Tests.{eq-eqb, ne-eqb, le-ltb, ltb-false, eqb-true}
-use Rattle.basis.specs.declared.Refusal.{Refusal}
-use Rattle.basis.specs.Outcome.{Outcome, value, refused}
-use Rattle.model_points.specs.declared.Question.{Question}
+use Rattle.outcome.specs.declared.Refusal.{Refusal}
+use Rattle.outcome.specs.Outcome.{Outcome, value, refused}
+use Rattle.question.specs.declared.Question.{Question}
 use Rattle.reply_text.specs.Decimal.{digits, placesFrom, digitsOf}
 use Rattle.reply_text.specs.Reply.{questionText}
 use Rattle.reply_text.proofs.Numerals.{ten, places-exact}

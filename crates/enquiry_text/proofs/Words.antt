@@ -9,8 +9,8 @@ use lib.Dec.{ltb, eqb}
 use lib.ListN.{length, getD, take, drop, length-drop, drop-of-length-le}
 use lib.Seq.{drop-cons, take-suc, take-all}
 use borrow.Author.Tests.{eq-eqb, ne-eqb, lt-ltb, le-ltb}
-use Rattle.basis.specs.Outcome.{Outcome}
-use Rattle.model_points.specs.declared.Question.{Question}
+use Rattle.outcome.specs.Outcome.{Outcome}
+use Rattle.question.specs.declared.Question.{Question}
 use Rattle.enquiry_text.specs.Line.{numeral, other, wordsFrom, digitsFrom, numberOf, malformed, enquiryOf, lineOf}
 
 -- ---- the first word, of which i bytes are passed: a space, another byte, or the end

@@ -4,8 +4,8 @@ use mathlib.Core.Bool.{Bool, false, cond}
 use mathlib.Core.List.{List, [], _∷_, _++_}
 use lib.Dec.{ltb, eqb}
 use lib.ListN.{length, getD}
-use Rattle.basis.specs.Outcome.{Outcome, value, refused, refusal}
-use Rattle.model_points.specs.declared.Question.{Question}
+use Rattle.outcome.specs.Outcome.{Outcome, value, refused, refusal}
+use Rattle.question.specs.declared.Question.{Question}
 
 -- the words of a text that goes on a first word; two spaces together have an empty word between them
 unfoldable pub wordsFrom : List ℕ → List ℕ → List (List ℕ)

@@ -1,7 +1,7 @@
 -- What the code's answers stand for, in the paper's number and values for every case.
 use Prim.Native.Nat.{ℕ}
-use Rattle.basis.specs.Outcome.{Outcome, value}
-use Rattle.model_points.specs.declared.Question.{Question}
+use Rattle.outcome.specs.Outcome.{Outcome, value}
+use Rattle.question.specs.declared.Question.{Question}
 use Rattle.enquiry_text.specs.declared.Word.{Word}
 use Rattle.enquiry_text.specs.declared.Word.the-variants.{Number, Other}
 use Rattle.enquiry_text.specs.declared.Line.{Line}

@@ -2,9 +2,9 @@
 use Prim.Native.Nat.{ℕ, _<_}
 use mathlib.Core.Path.{_≡_}
 use mathlib.Core.List.{List}
-use Rattle.basis.specs.declared.Refusal.{Refusal}
-use Rattle.basis.specs.Outcome.{value, refused, refusal}
-use Rattle.model_points.specs.declared.Question.{Question}
+use Rattle.outcome.specs.declared.Refusal.{Refusal}
+use Rattle.outcome.specs.Outcome.{value, refused, refusal}
+use Rattle.question.specs.declared.Question.{Question}
 use Rattle.reply_text.specs.Reply.{questionText}
 use Rattle.enquiry_text.specs.Line.{lineOf}
 

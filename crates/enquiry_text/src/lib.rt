@@ -1,5 +1,5 @@
 // Reading for the points program: a line of bytes as an enquiry.
-use model_points::Question;
+use question::Question;
 
 pub mod parse;
 

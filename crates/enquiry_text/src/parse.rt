@@ -9,7 +9,7 @@ ghost use Rattle.enquiry_text.specs.Line.{wordsFrom, digitsFrom, isPadde
 ghost use Rattle.enquiry_text.specs.Meaning.{wordMeaning, lineMeaning};
 use crate::Line;
 use crate::Word;
-use model_points::Question;
+use question::Question;
 
 // The enquiry that a line of bytes is, its byte 10 not among them.
 pub fn parse_line(text: &[u8]) -> Line

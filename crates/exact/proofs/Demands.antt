@@ -7,10 +7,10 @@ use native.Mathlib.Omega.{arith}
 use lib.IntN.{ℤ}
 use Rattle.arithmetic.proofs.Distance.{within-more}
 use Rattle.basis.specs.Basis.{Limited}
-use Rattle.history.specs.History.{basisWith, basisCheck}
+use Rattle.history.specs.History.{basisWith, runAndHistoryCheck}
 use Rattle.history.proofs.With.{limits-with}
-use Rattle.basis.specs.Outcome.{value, firstOf}
-use Rattle.basis.proofs.Outcome.{checked-value}
+use Rattle.outcome.specs.Outcome.{value, firstOf}
+use Rattle.outcome.proofs.Outcome.{checked-value}
 use Rattle.improvement.specs.Improvement.{firstYear, improvementOf, improvementNeeded}
 use Rattle.improvement.proofs.Cases.{first-late, needed-value}
 use Rattle.projection.specs.Projection.{factorOf, rateOf}
@@ -51,7 +51,7 @@ demand-3 run history =
     let b = basisWith run history in
     record {
       improvement = λ age year i answered.
-          let h = checked-value (firstOf (basisCheck run history) (cellCheck (firstYear b) age year)) (improvementNeeded age year (improvementOf b age year)) i answered in
+          let h = checked-value (firstOf (runAndHistoryCheck run history) (cellCheck (firstYear b) age year)) (improvementNeeded age year (improvementOf b age year)) i answered in
           let p = cell-passed run history (firstYear b) age year (h .0) in
           let limits = limits-with (p .0) in
           let first = first-late b (limits .foundation-low) (limits .base-low) in
@@ -60,11 +60,11 @@ demand-3 run history =
           let near = improvement-within b age year (byAge .period-low) (byBirthYear .period-low) in
           rw (← needed-value age year (improvementOf b age year) i (h .1)) (within-more near (omega arith));
       factor = λ age year f answered improving.
-          let h = checked-value (firstOf (basisCheck run history) (cellCheck (b .base) age year)) (factorOf b age year) f answered in
+          let h = checked-value (firstOf (runAndHistoryCheck run history) (cellCheck (b .base) age year)) (factorOf b age year) f answered in
           let p = cell-passed run history (b .base) age year (h .0) in
           within-more (factor-within b age year (limits-with (p .0)) (p .1) (p .2) improving f (h .1)) (omega arith);
       rate = λ age year q answered improving.
-          let h = checked-value (firstOf (basisCheck run history) (cellCheck (b .base) age year)) (rateOf b age year) q answered in
+          let h = checked-value (firstOf (runAndHistoryCheck run history) (cellCheck (b .base) age year)) (rateOf b age year) q answered in
           let p = cell-passed run history (b .base) age year (h .0) in
           within-more (rate-within b age year (limits-with (p .0)) (p .1) (p .2) improving q (h .1)) (omega arith);
       survivorship = λ kind age n year s answered improving.

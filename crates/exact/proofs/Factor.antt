@@ -9,8 +9,8 @@ use Rattle.arithmetic.proofs.Distance.{within-whole, within-more, within-differ
 use Rattle.arithmetic.proofs.UnitRange.{InUnit, unit-whole, unit-abs, unit-mul, unit-rest, unit-lesser}
 use Rattle.arithmetic.proofs.Chain.{Chained, chained-first, chained-next}
 use Rattle.basis.specs.Basis.{Basis, ConvergenceLimits, Limited}
-use Rattle.basis.specs.Outcome.{value}
-use Rattle.basis.proofs.Outcome.{along, came}
+use Rattle.outcome.specs.Outcome.{value}
+use Rattle.outcome.proofs.Outcome.{along, came}
 use Rattle.improvement.specs.Improvement.{improvementOf}
 use Rattle.projection.specs.Projection.{factorNext, factorStep, factorOf, rateFrom, rateOf}
 use Rattle.projection.proofs.Cases.{year-value, held-late}

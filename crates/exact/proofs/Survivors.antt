@@ -8,8 +8,8 @@ use Rattle.arithmetic.proofs.Distance.{within-whole, within-more, within-differ
 use Rattle.arithmetic.proofs.UnitRange.{unit-rest}
 use Rattle.arithmetic.proofs.Chain.{Chained, chained-first, chained-next}
 use Rattle.basis.specs.Basis.{Basis, Limited}
-use Rattle.basis.specs.Outcome.{value}
-use Rattle.basis.proofs.Outcome.{along, came}
+use Rattle.outcome.specs.Outcome.{value}
+use Rattle.outcome.proofs.Outcome.{along, came}
 use Rattle.projection.specs.Projection.{rateOf}
 use Rattle.projection.proofs.Years.{rate-small}
 use Rattle.survivorship.specs.Survivorship.{yearOn, survivorsNext, survivorsAfterYear, survivorsStep, survivorsOf}

@@ -11,8 +11,8 @@ use Rattle.arithmetic.proofs.Distance.{within-whole, within-more, within-sum, w
 use Rattle.arithmetic.proofs.UnitRange.{unit-abs}
 use Rattle.arithmetic.proofs.Sums.{sumℕ, total-first, total-next, sum-linear, sum-tail}
 use Rattle.basis.specs.Basis.{Basis, Limited}
-use Rattle.basis.specs.Outcome.{Outcome, value, sumOf, addTo}
-use Rattle.basis.proofs.Outcome.{along, came}
+use Rattle.outcome.specs.Outcome.{Outcome, value, sumOf, addTo}
+use Rattle.outcome.proofs.Outcome.{along, came}
 use Rattle.survivorship.specs.Survivorship.{yearOn, survivorsOf}
 use Rattle.valuation.specs.Valuation.{curtateOf, expectationOf, discountAfter, payment, paymentAfter, annuityOf}
 use Rattle.survivorship.specs.declared.Kind.{Kind}

@@ -9,7 +9,7 @@ use lib.Signed.{_≤ℤ_, _<ℤ_}
 use Rattle.arithmetic.specs.Fraction.{Fraction, Within}
 use Rattle.basis.specs.Basis.{Basis}
 use Rattle.history.specs.History.{basisWith}
-use Rattle.basis.specs.Outcome.{value}
+use Rattle.outcome.specs.Outcome.{value}
 use Rattle.projection.specs.Projection.{heldYear}
 use Rattle.survivorship.specs.Survivorship.{yearOn}
 use Rattle.enquiry.specs.Enquiry.{improvementEnquiry, factorEnquiry, rateEnquiry, survivorshipEnquiry, expectationEnquiry, annuityEnquiry}

@@ -3,8 +3,8 @@ use mathlib.Core.Path.{_≡_, refl, sym, ap, _∙_}
 use mathlib.Core.Bool.{Bool, _&&_}
 use mathlib.Core.List.{List, [], _∷_, _++_}
 use Prim.Native.Nat.{ℕ}
-use Rattle.basis.specs.Outcome.{Finding, passed, refusedBy, firstOf, passes}
-use Rattle.basis.proofs.Outcome.{both-passed, both-pass, first-together}
+use Rattle.outcome.specs.Outcome.{Finding, passed, refusedBy, firstOf, passes}
+use Rattle.outcome.proofs.Outcome.{both-passed, both-pass, first-together}
 use Rattle.field_check.specs.declared.Field.{Field}
 use Rattle.field_check.specs.Field.{fieldCheck, fieldsCheck}
 use Rattle.field_check.proofs.Holds.{Holds, field-holds, field-passes}

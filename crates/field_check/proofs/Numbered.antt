@@ -4,8 +4,8 @@ use mathlib.Core.Bool.{Bool, true, false, _&&_, false≢true}
 use mathlib.Core.List.{List, [], _∷_}
 use Prim.Native.Nat.{ℕ, zero, suc, _+_}
 use lib.IntN.{ℤ}
-use Rattle.basis.specs.Refusals.{isListed, Listed, RefusesBy}
-use Rattle.basis.proofs.Refusals.{passed-by, refused-by, cond-by, first-by}
+use Rattle.outcome.specs.Refusals.{isListed, Listed, RefusesBy}
+use Rattle.outcome.proofs.Refusals.{passed-by, refused-by, cond-by, first-by}
 use Rattle.field_check.specs.declared.Number.{Number}
 use Rattle.field_check.specs.declared.Field.{Field}
 use Rattle.field_check.specs.Field.{widthOf, valueAt, between, entriesCheck, fieldCheck, fieldsCheck}

@@ -6,8 +6,8 @@ use Prim.Native.Nat.{ℕ, zero, suc, _+_, _*_, _-_, _<_}
 use native.Mathlib.Nat.{not-suc-le-zero, suc-mul}
 use native.Mathlib.Numerals.{sub-one}
 use lib.IntN.{ℤ}
-use Rattle.basis.specs.declared.Refusal.{Refusal}
-use Rattle.basis.specs.Outcome.{Finding, refusedBy, refusal, passes}
+use Rattle.outcome.specs.declared.Refusal.{Refusal}
+use Rattle.outcome.specs.Outcome.{Finding, refusedBy, refusal, passes}
 use Rattle.field_check.specs.declared.Number.{Number}
 use Rattle.field_check.specs.Field.{widthOf, valueAt, between, entriesCheck}
 

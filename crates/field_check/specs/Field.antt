@@ -5,7 +5,7 @@ use mathlib.Core.List.{List, [], _∷_}
 use lib.IntN.{ℤ, pos}
 use lib.Signed.{leZ}
 use Rattle.little_endian.specs.Bytes.{byteAt, u16At, u32At, i32At}
-use Rattle.basis.specs.Outcome.{Finding, passed, refusedBy, refusal, firstOf}
+use Rattle.outcome.specs.Outcome.{Finding, passed, refusedBy, refusal, firstOf}
 use Rattle.field_check.specs.declared.Number.{Number}
 use Rattle.field_check.specs.declared.Number.the-variants.{Byte, Half, Word, SignedWord}
 use Rattle.field_check.specs.declared.Field.{Field}

@@ -2,10 +2,10 @@
 ghost use mathlib.Core.Path.{_≡_};
 ghost use Prim.Native.Nat.{_+_, _*_, _≤_};
 ghost use lib.ListN.{length};
-ghost use Rattle.basis.specs.Outcome.{passes, finding};
+ghost use Rattle.outcome.specs.Outcome.{passes, finding};
 ghost use Rattle.field_check.specs.Field.{widthOf, valueAt, between, fieldCheck};
-use basis::Check;
-use basis::Refusal;
+use outcome::Check;
+use outcome::Refusal;
 
 // A kind of number in a data run: a byte, 2 bytes, 4 bytes, 4 bytes signed.
 pub enum Number {

@@ -1,7 +1,7 @@
 -- The figures of the papers hold, by computation of the definitions. Assumes nothing.
 use mathlib.Core.Path.{refl}
 use Rattle.basis.specs.Basis.{accumulationOf}
-use Rattle.basis.specs.Outcome.{steps, sumOf}
+use Rattle.outcome.specs.Outcome.{steps, sumOf}
 use Rattle.component.specs.Component.{componentOf}
 use Rattle.improvement.specs.Improvement.{additionOf, componentsOf, projectedOf, improvementOf, improvementNeeded}
 use Rattle.projection.specs.Projection.{factorNeeded, factorFrom, heldYear, factorOf, rateOf}

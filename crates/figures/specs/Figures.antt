@@ -7,7 +7,7 @@ use mathlib.Core.List.{List, [], _∷_, _++_, map}
 use lib.ListN.{length}
 use lib.IntN.{ℤ, pos, negsuc}
 use Rattle.basis.specs.Basis.{Basis}
-use Rattle.basis.specs.Outcome.{Outcome, value, refused, refusal}
+use Rattle.outcome.specs.Outcome.{Outcome, value, refused, refusal}
 use Rattle.basis.specs.declared.Convergence.{Convergence}
 use Rattle.component.specs.Component.{terms}
 use Rattle.short_form.specs.ShortForm.{longTermOf}

@@ -7,10 +7,10 @@ use lib.Dec.{leb}
 use lib.ListN.{length, getD, set}
 use borrow.Author.Tests.{leb-true}
 use Rattle.basis.specs.Basis.{Basis}
-use Rattle.history.specs.History.{basisWith, basisCheck, Workable}
+use Rattle.history.specs.History.{basisWith, runAndHistoryCheck, Workable}
 use Rattle.history.proofs.Acceptance.{accepted-workable}
-use Rattle.basis.proofs.Outcome.{both-passed, unless-passed}
-use Rattle.basis.specs.Outcome.{Finding, passed, refusedBy}
+use Rattle.outcome.proofs.Outcome.{both-passed, unless-passed}
+use Rattle.outcome.specs.Outcome.{Finding, passed, refusedBy}
 use Rattle.grid_record.specs.declared.Point.{Point}
 use Rattle.grid_record.specs.Record.{answeredOf}
 use Rattle.lent.specs.Lent.{countCheck}
@@ -52,10 +52,10 @@ module _ (run history : List ℕ) (count : ℕ) where
   records-fit = by (gridCheck run history count) refl
     where
       by : (check : Finding) → gridCheck run history count ≡ check → recordsOf check ≤ count
-      by passed h = leb-true 119 count (unless-passed (leb 119 count) _ (both-passed (countCheck 119 count) (basisCheck run history) h .0))
+      by passed h = leb-true 119 count (unless-passed (leb 119 count) _ (both-passed (countCheck 119 count) (runAndHistoryCheck run history) h .0))
       by (refusedBy r) h = zero-le
 
   -- and the run is accepted with its history
   pub turn-accepted : (i : ℕ) → i < recordsOf (gridCheck run history count) → Workable run history
   unfolding gridCheck
-  turn-accepted i h = accepted-workable run history (both-passed (countCheck 119 count) (basisCheck run history) (passes (gridCheck run history count) i h) .1)
+  turn-accepted i h = accepted-workable run history (both-passed (countCheck 119 count) (runAndHistoryCheck run history) (passes (gridCheck run history count) i h) .1)

@@ -3,8 +3,8 @@ use Prim.Native.Nat.{ℕ, zero, suc}
 use mathlib.Core.List.{List, [], _∷_}
 use lib.ListN.{length}
 use Rattle.basis.specs.Basis.{Basis}
-use Rattle.basis.specs.Outcome.{Finding, passed, refusedBy, firstOf, finding}
-use Rattle.history.specs.History.{basisWith, basisCheck}
+use Rattle.outcome.specs.Outcome.{Finding, passed, refusedBy, firstOf, finding}
+use Rattle.history.specs.History.{basisWith, runAndHistoryCheck}
 use Rattle.lent.specs.Lent.{countCheck}
 use Rattle.grid_record.specs.declared.Point.{Point}
 use Rattle.grid_record.specs.Record.{answeredOf}
@@ -12,7 +12,7 @@ use Rattle.grid.specs.declared.GridStart.{GridStart}
 
 -- a list shorter than 119 is refused as 11 with 119 for the bytes, before the basis and its history are looked at
 unfoldable pub gridCheck : List ℕ → List ℕ → ℕ → Finding
-gridCheck run history count = firstOf (countCheck 119 count) (basisCheck run history)
+gridCheck run history count = firstOf (countCheck 119 count) (runAndHistoryCheck run history)
 
 -- how many records are answered: 119, and none of a refused grid
 abbrev pub recordsOf : Finding → ℕ

@@ -2,12 +2,12 @@
 ghost use mathlib.Core.Path.{_≡_};
 ghost use Prim.Native.Nat.{_≤_, _<_};
 ghost use lib.ListN.{length};
-ghost use Rattle.basis.specs.Outcome.{finding};
+ghost use Rattle.outcome.specs.Outcome.{finding};
 ghost use Rattle.history.specs.History.{basisWith};
-ghost use Rattle.workings.specs.Workings.{WorkedOut};
+ghost use Rattle.factor_table.specs.FactorTable.{Tabled};
 ghost use Rattle.grid.specs.Grid.{gridCheck, gridStart, gridStartMeaning, answers, gridOf};
-use basis::Check;
 use grid_record::Point;
+use outcome::Check;
 
 // What the grid's checks let it do: their answer, and how many records are answered.
 pub struct GridStart {
@@ -20,7 +20,7 @@ fn check_grid(run: &[u8], history: &[u8], count: usize) -> Check
     ensures { λ r. ⌜ finding r ≡ gridCheck (now (run .entry)) (now (history .entry)) count ⌝ }
 {
     match lent::check_room(119, count) {
-        Check::Passed => history::check::check_basis(run, history),
+        Check::Passed => history::check::check_run_and_history(run, history),
         Check::Refused(r) => Check::Refused(r),
     }
 }
@@ -42,27 +42,27 @@ pub fn start_grid(run: &[u8], history: &[u8], count: usize) -> GridStart
 }
 
 // The same, and the sweep of the factors where the grid is not refused.
-fn begin_grid(run: &[u8], history: &[u8], count: usize, workings: &mut [u32]) -> GridStart
-    requires { ⌜ length (now workings) ≡ 18340 ⌝ }
+fn begin_grid(run: &[u8], history: &[u8], count: usize, table: &mut [u32]) -> GridStart
+    requires { ⌜ length (now table) ≡ 18340 ⌝ }
     ensures { λ r. ⌜ gridStartMeaning r ≡ gridStart (gridCheck (now (run .entry)) (now (history .entry)) count) ⌝ }
-    ensures { λ r. ⌜ (0 < r .records → WorkedOut (now (run .entry)) (now (history .entry)) (now (workings .exit))) ⌝ }
+    ensures { λ r. ⌜ (0 < r .records → Tabled (now (run .entry)) (now (history .entry)) (now (table .exit))) ⌝ }
 {
     let start = start_grid(run, history, count);
     let n = start.records;
     if 0 < n {
-        workings::work_out(run, history, workings);
+        factor_table::fill_table(run, history, table);
     }
     start
 }
 
 // The first n records answered, each in its place.
-fn fill_records(run: &[u8], history: &[u8], workings: &[u32], n: usize, points: &mut [Point])
-    requires { ⌜ (n ≤ length (now points)) × (0 < n → WorkedOut (now run) (now history) (now workings)) ⌝ }
+fn fill_records(run: &[u8], history: &[u8], table: &[u32], n: usize, points: &mut [Point])
+    requires { ⌜ (n ≤ length (now points)) × (0 < n → Tabled (now run) (now history) (now table)) ⌝ }
     ensures { λ _. ⌜ now (points .exit) ≡ answers (basisWith (now (run .entry)) (now (history .entry))) n (now (points .entry)) ⌝ }
 {
     let mut i: usize = 0;
     while i < n {
-        points[i] = swept_points::points::answered(run, history, workings, points[i]);
+        points[i] = swept_points::points::answered(run, history, table, points[i]);
         i = i + 1;
     }
 }
@@ -72,8 +72,8 @@ pub fn fill(run: &[u8], history: &[u8], points: &mut [Point]) -> Check
     ensures { λ r. ⌜ finding r ≡ gridCheck (now (run .entry)) (now (history .entry)) (length (now (points .entry))) ⌝ }
     ensures { λ _. ⌜ now (points .exit) ≡ gridOf (now (run .entry)) (now (history .entry)) (now (points .entry)) ⌝ }
 {
-    let mut workings: [u32; 18340] = [0; 18340];
-    let start = begin_grid(run, history, points.len(), &mut workings);
-    fill_records(run, history, &workings, start.records, points);
+    let mut table: [u32; 18340] = [0; 18340];
+    let start = begin_grid(run, history, points.len(), &mut table);
+    fill_records(run, history, &table, start.records, points);
     start.check
 }

@@ -1,6 +1,6 @@
 -- A record of the grid (01, "a lent list of 119 point records"): a question, and its answer in place of what the record held.
 use Rattle.basis.specs.Basis.{Basis}
-use Rattle.model_points.specs.declared.Question.{Question}
+use Rattle.question.specs.declared.Question.{Question}
 use Rattle.model_points.specs.declared.PointAnswer.{PointAnswer}
 use Rattle.model_points.specs.Point.{pointOf}
 use Rattle.grid_record.specs.declared.Point.{Point}

@@ -3,7 +3,7 @@ ghost use mathlib.Core.Path.{_≡_};
 ghost use Rattle.history.specs.History.{basisWith, Workable};
 ghost use Rattle.grid_record.specs.Record.{recordOf, answeredOf};
 use model_points::PointAnswer;
-use model_points::Question;
+use question::Question;
 
 // A record of the grid: a question and its answer in 64 bytes, the refusal's places last.
 #[repr(C)]

@@ -5,10 +5,10 @@ use mathlib.Core.List.{List}
 use Prim.Native.Nat.{ℕ}
 use native.Mathlib.Omega.{arith}
 use lib.IntN.{ℤ, pos}
-use Rattle.basis.specs.Outcome.{passed, Outcome, value, firstOf}
-use Rattle.basis.specs.Refusals.{numbers, RefusedBy}
-use Rattle.basis.proofs.Outcome.{checked-value}
-use Rattle.history.specs.History.{basisWith, basisCheck}
+use Rattle.outcome.specs.Outcome.{passed, Outcome, value, firstOf}
+use Rattle.outcome.specs.Refusals.{numbers, RefusedBy}
+use Rattle.outcome.proofs.Outcome.{checked-value}
+use Rattle.history.specs.History.{basisWith, runAndHistoryCheck}
 use Rattle.projection.specs.Projection.{factorOf, rateOf}
 use Rattle.projection.proofs.Years.{factor-natural, rate-small}
 use Rattle.survivorship.specs.declared.Kind.{Kind}
@@ -35,13 +35,13 @@ module _ (run history : List ℕ) where
   unfolding factorEnquiry
   factor-answer age year f h =
       let b = basisWith run history in
-      factor-natural b age year f (checked-value (firstOf (basisCheck run history) (cellCheck (b .base) age year)) (factorOf b age year) f h .1)
+      factor-natural b age year f (checked-value (firstOf (runAndHistoryCheck run history) (cellCheck (b .base) age year)) (factorOf b age year) f h .1)
 
   pub rate-answer : (age year : ℕ) (q : ℤ) → rateEnquiry run history age year ≡ value q → Natural q
   unfolding rateEnquiry
   rate-answer age year q h =
       let b = basisWith run history in
-      let n = rate-small b age year q (checked-value (firstOf (basisCheck run history) (cellCheck (b .base) age year)) (rateOf b age year) q h .1) in
+      let n = rate-small b age year q (checked-value (firstOf (runAndHistoryCheck run history) (cellCheck (b .base) age year)) (rateOf b age year) q h .1) in
       (n .0, n .1)
 
   module _ (kind : Kind) (age deferment year : ℕ) where

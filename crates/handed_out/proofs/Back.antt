@@ -4,7 +4,7 @@ use mathlib.Core.List.{List}
 use Prim.Native.Nat.{ℕ}
 use native.Mathlib.Omega.{arith}
 use lib.IntN.{ℤ, pos}
-use Rattle.basis.specs.Outcome.{Outcome, value}
+use Rattle.outcome.specs.Outcome.{Outcome, value}
 use Rattle.engine.specs.Enquiry.{answerOf, signedAnswerOf}
 use Rattle.survivorship.specs.declared.Kind.{Kind}
 use Rattle.enquiry.specs.Enquiry.{improvementEnquiry, factorEnquiry, rateEnquiry, survivorshipEnquiry, expectationEnquiry, annuityEnquiry}

@@ -9,9 +9,9 @@ use lib.Dec.{eqb}
 use lib.IntN.{pos}
 use borrow.Author.Tests.{le-leb, eqb-false}
 use Rattle.arithmetic.proofs.Distance.{within-more}
-use Rattle.basis.specs.Outcome.{Finding, passed, refusedBy, value}
-use Rattle.basis.proofs.Outcome.{both-passed}
-use Rattle.history.specs.History.{basisWith, basisCheck}
+use Rattle.outcome.specs.Outcome.{Finding, passed, refusedBy, value}
+use Rattle.outcome.proofs.Outcome.{both-passed}
+use Rattle.history.specs.History.{basisWith, runAndHistoryCheck}
 use Rattle.survivorship.specs.declared.Kind.the-variants.{Cohort}
 use Rattle.question.specs.Question.{defermentCheck, questionCheck}
 use Rattle.question.proofs.Passed.{question-parts}
@@ -65,7 +65,7 @@ module _ (run history : List ℕ) (age year : ℕ) where
   asked : (n : ℕ) → valuationCheck run history age 0 year ≡ passed → Advances run history age year n → valuationCheck run history age n year ≡ passed
   unfolding defermentCheck questionCheck
   asked n h a =
-      let p = both-passed (basisCheck run history) (questionCheck (basisWith run history .base) age 0 year) h in
+      let p = both-passed (runAndHistoryCheck run history) (questionCheck (basisWith run history .base) age 0 year) h in
       let q = question-parts (basisWith run history .base) age 0 year (p .1) in
       rw (p .0, q .0, q .2, le-leb (age + n) 150 (old n a)) refl
     where

@@ -4,8 +4,8 @@ use Prim.Native.Nat.{ℕ, zero, suc, _+_, _*_, _-_, _/_}
 use lib.IntN.{ℤ, pos, natAbs, _+ℤ_}
 use Rattle.arithmetic.specs.Fraction.{U}
 use Rattle.basis.specs.Basis.{Basis, accumulationOf}
-use Rattle.basis.specs.Outcome.{Outcome, value, addTo, sumOf}
-use Rattle.basis.proofs.Outcome.{came, along}
+use Rattle.outcome.specs.Outcome.{Outcome, value, addTo, sumOf}
+use Rattle.outcome.proofs.Outcome.{came, along}
 use Rattle.survivorship.specs.declared.Kind.{Kind}
 use Rattle.survivorship.specs.Survivorship.{survivorsOf}
 use Rattle.survivorship.proofs.Survivors.{survivors-natural}

@@ -8,16 +8,16 @@ use native.Mathlib.Omega.{arith}
 use lib.IntN.{ℤ, pos, natAbs}
 use lib.ListN.{length, getD}
 use Rattle.basis.specs.Basis.{Basis}
-use Rattle.basis.specs.Outcome.{passed, Outcome, value, refused}
-use Rattle.basis.proofs.Outcome.{both-passed, checked-value, came}
+use Rattle.outcome.specs.Outcome.{passed, Outcome, value, refused}
+use Rattle.outcome.proofs.Outcome.{both-passed, checked-value, came}
 use Rattle.lent.specs.Lent.{countCheck}
-use Rattle.history.specs.History.{basisWith, basisCheck}
+use Rattle.history.specs.History.{basisWith, runAndHistoryCheck}
 use Rattle.survivorship.specs.declared.Kind.{Kind}
 use Rattle.survivorship.specs.declared.Kind.the-variants.{Period, Cohort}
 use Rattle.valuation.specs.Valuation.{expectationOf, annuityOf}
 use Rattle.question.specs.Question.{questionCheck}
 use Rattle.enquiry.specs.Enquiry.{valuationCheck}
-use Rattle.model_points.specs.declared.Question.{Question}
+use Rattle.question.specs.declared.Question.{Question}
 use Rattle.model_points.specs.declared.PointAnswer.{PointAnswer}
 use Rattle.model_points.specs.Point.{fourOf, resultsOf, pointAnswerOf, pointOf}
 use Rattle.small_set.specs.declared.Questions.{Questions}
@@ -49,7 +49,7 @@ four-came (value i) (value j) (refused r) fourth results h = let z : _≡_ {A = 
 four-came (value i) (refused r) third fourth results h = let z : _≡_ {A = ℕ} 0 1 = cc in absurd (omega arith)
 four-came (refused r) second third fourth results h = let z : _≡_ {A = ℕ} 0 1 = cc in absurd (omega arith)
 
-module _ (run history : List ℕ) (accepted : basisCheck run history ≡ passed) where
+module _ (run history : List ℕ) (accepted : runAndHistoryCheck run history ≡ passed) where
   -- a point, by the numbers of its question
   module _ (age deferment year : ℕ) (asked : questionCheck (basisWith run history .base) age deferment year ≡ passed) where
     valued : valuationCheck run history age deferment year ≡ passed
@@ -106,7 +106,7 @@ module _ (run history : List ℕ) where
   record-near points filled i l past none =
       let b = basisWith run history in
       let g = zero-is-none .check (gridCheck run history (length points)) (numbered-refusals run history .grid (length points)) filled in
-      let accepted = both-passed (countCheck 119 (length points)) (basisCheck run history) g .1 in
+      let accepted = both-passed (countCheck 119 (length points)) (runAndHistoryCheck run history) g .1 in
       let all = ap recordsOf g in
       let fit = records-fit run history (length points) in
       let is : getD (gridOf run history points) i past ≡ answeredOf b (getD points i past) = rw all (answers-at b 119 i points past l (omega (arith, fit, all))) in
@@ -124,7 +124,7 @@ module _ (run history : List ℕ) where
   unfolding smallSetOf
   set-near questions filled i l noQuestion noAnswer none =
       let b = basisWith run history in
-      let accepted = zero-is-none .check (basisCheck run history) (numbered-refusals run history .withHistory)
+      let accepted = zero-is-none .check (runAndHistoryCheck run history) (numbered-refusals run history .withHistory)
       (sym (ap (λ r. r .number) (numbered-refusals run history .smallSet questions)) ∙ filled) in
       let is : getD (smallSetOf run history questions .points) i noAnswer ≡ pointOf b (getD (questions .points) i noQuestion) =
       rw accepted (getD-map (pointOf b) (questions .points) i noQuestion noAnswer l) in

@@ -8,12 +8,12 @@ use lib.ListN.{length, getD}
 use lib.Signed.{_≤ℤ_, _<ℤ_}
 use Rattle.arithmetic.specs.Fraction.{Within}
 use Rattle.basis.specs.Basis.{Basis}
-use Rattle.basis.specs.Outcome.{value}
+use Rattle.outcome.specs.Outcome.{value}
 use Rattle.history.specs.History.{basisWith}
 use Rattle.survivorship.specs.declared.Kind.{Kind}
 use Rattle.survivorship.specs.declared.Kind.the-variants.{Period, Cohort}
 use Rattle.enquiry.specs.Enquiry.{improvementEnquiry, factorEnquiry, rateEnquiry, survivorshipEnquiry, expectationEnquiry, annuityEnquiry}
-use Rattle.model_points.specs.declared.Question.{Question}
+use Rattle.question.specs.declared.Question.{Question}
 use Rattle.model_points.specs.declared.PointAnswer.{PointAnswer}
 use Rattle.small_set.specs.declared.Questions.{Questions}
 use Rattle.small_set.specs.SmallSet.{smallSetOf}

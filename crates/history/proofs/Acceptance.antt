@@ -13,8 +13,8 @@ use borrow.Author.Tests.{eqb-true, le-leb, lt-leb}
 use Rattle.arithmetic.proofs.Difference.{≤-parts}
 use Rattle.little_endian.specs.Bytes.{byteAt, i32At}
 use Rattle.basis.specs.Basis.{Basis, basisOf}
-use Rattle.basis.proofs.Outcome.{unless-passed, both-passed, first-passed}
-use Rattle.basis.specs.Outcome.{passed}
+use Rattle.outcome.proofs.Outcome.{unless-passed, both-passed, first-passed}
+use Rattle.outcome.specs.Outcome.{passed}
 use Rattle.field_check.specs.Field.{fieldCheck, fieldsCheck}
 use Rattle.field_check.proofs.Limits.{Between, most, natural, sized}
 use Rattle.field_check.proofs.Holds.{Holds, field-holds, field-passes}
@@ -22,7 +22,7 @@ use Rattle.run_check.specs.Run.{runCheck}
 use Rattle.run_check.proofs.Acceptance as runs
 use Rattle.block.specs.Blocks.{blocksCheck}
 use Rattle.history.specs.History.{actualYears, lengthNeeded, historyData, placeOf, actualOf, movedTo, yearlyFields, historyFields}
-use Rattle.history.specs.History.{youngerAges, firstRemaining, olderAges, secondRemaining, historyCheck, basisCheck, Workable}
+use Rattle.history.specs.History.{youngerAges, firstRemaining, olderAges, secondRemaining, historyCheck, runAndHistoryCheck, Workable}
 use Rattle.history.specs.Accepted.{AcceptedHistory, HistoryAcceptance}
 use Rattle.history.proofs.RightBlocks.{blocks-right, blocks-pass}
 use Rattle.history.proofs.Yearly.{each-year, years-pass}
@@ -156,7 +156,7 @@ module _ (b : Basis) (history : List ℕ) where
 
 -- ---- the theorem
 pub history-acceptance : HistoryAcceptance
-unfolding basisCheck
+unfolding runAndHistoryCheck
 history-acceptance =
     record {
       accepted = accepted;
@@ -168,7 +168,7 @@ history-acceptance =
     }
 
 -- ---- what the work asks of it
-pub accepted-workable : (run history : List ℕ) → basisCheck run history ≡ passed → Workable run history
+pub accepted-workable : (run history : List ℕ) → runAndHistoryCheck run history ≡ passed → Workable run history
 accepted-workable run history h =
     let a = history-acceptance .basis-accepted run history h in
     record { basis = a .by-run; size = a .by-history .size; actual = a .by-history .actual }

@@ -5,14 +5,14 @@ use Prim.Native.Nat.{ℕ, zero, suc, _+_, _*_}
 use lib.Dec.{eqb}
 use lib.ListN.{length}
 use Rattle.basis.specs.Basis.{Basis, basisOf}
-use Rattle.basis.specs.Refusals.{numbers, isListed, Listed, RefusesBy}
-use Rattle.basis.proofs.Refusals.{passed-by, unless-by, first-by}
+use Rattle.outcome.specs.Refusals.{numbers, isListed, Listed, RefusesBy}
+use Rattle.outcome.proofs.Refusals.{passed-by, unless-by, first-by}
 use Rattle.field_check.specs.declared.Field.{Field}
 use Rattle.field_check.specs.Field.{fieldsCheck}
 use Rattle.field_check.proofs.Numbered.{field-by}
 use Rattle.run_check.proofs.Numbered.{run-numbered}
 use Rattle.block.proofs.Numbered.{blocks-numbered}
-use Rattle.history.specs.History.{actualYears, lengthNeeded, historyData, movedTo, yearlyFields, historyFields, historyCheck, basisCheck}
+use Rattle.history.specs.History.{actualYears, lengthNeeded, historyData, movedTo, yearlyFields, historyFields, historyCheck, runAndHistoryCheck}
 use Rattle.history.specs.History.{youngerAges, olderAges, firstRemaining, secondRemaining}
 use Rattle.history.proofs.Ways.{fields-parts}
 
@@ -33,6 +33,6 @@ unfolding historyCheck numbers isListed
 history-numbered b history =
     first-by (unless-by (eqb (length history) (lengthNeeded b)) _ refl) (first-by (blocks-numbered 0 (2 * actualYears b) history) (fields-numbered (historyData b history) (actualYears b)))
 
-pub basis-numbered : (run history : List ℕ) → RefusesBy numbers (basisCheck run history)
-unfolding basisCheck
+pub basis-numbered : (run history : List ℕ) → RefusesBy numbers (runAndHistoryCheck run history)
+unfolding runAndHistoryCheck
 basis-numbered run history = first-by (run-numbered run) (history-numbered (basisOf run) history)

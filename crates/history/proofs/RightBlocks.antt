@@ -6,8 +6,8 @@ use native.Mathlib.Omega.{arith}
 use lib.ListN.{take, drop}
 use lib.Seq.{drop-drop}
 use borrow.Author.Tests.{eqb-true, eq-eqb}
-use Rattle.basis.proofs.Outcome.{unless-passed, both-passed}
-use Rattle.basis.specs.Outcome.{passed}
+use Rattle.outcome.proofs.Outcome.{unless-passed, both-passed}
+use Rattle.outcome.specs.Outcome.{passed}
 use Rattle.block.specs.Block.{blockCheck}
 use Rattle.block.specs.Blocks.{blocksCheck}
 use Rattle.history.specs.Accepted.{RightBlock}

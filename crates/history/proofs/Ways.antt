@@ -5,7 +5,7 @@ use Prim.Native.Nat.{ℕ, _*_}
 use lib.ListN.{length}
 use borrow.Author.Tests.{eq-eqb, ne-eqb}
 use Rattle.basis.specs.Basis.{Basis}
-use Rattle.basis.specs.Outcome.{refusedBy, refusal, firstOf}
+use Rattle.outcome.specs.Outcome.{refusedBy, refusal, firstOf}
 use Rattle.field_check.specs.Field.{fieldsCheck}
 use Rattle.field_check.proofs.Fields.{rows-join}
 use Rattle.block.specs.Blocks.{partsOf, blocksCheck}

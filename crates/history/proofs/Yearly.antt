@@ -4,8 +4,8 @@ use mathlib.Core.List.{List}
 use Prim.Native.Nat.{ℕ, zero, suc, _+_, _*_, _-_, _<_, _≤_}
 use native.Mathlib.Omega.{arith}
 use lib.ListN.{length}
-use Rattle.basis.specs.Outcome.{Finding, passed, firstOf}
-use Rattle.basis.proofs.Outcome.{both-passed, first-together}
+use Rattle.outcome.specs.Outcome.{Finding, passed, firstOf}
+use Rattle.outcome.proofs.Outcome.{both-passed, first-together}
 use Rattle.field_check.specs.declared.Field.{Field}
 use Rattle.field_check.specs.Field.{widthOf, fieldCheck, fieldsCheck}
 use Rattle.block.specs.Blocks.{partsOf}

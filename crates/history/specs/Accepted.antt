@@ -6,9 +6,9 @@ use lib.ListN.{length, take, drop}
 use lib.IntN.{natAbs}
 use Rattle.little_endian.specs.Bytes.{byteAt, u16At, u32At}
 use Rattle.basis.specs.Basis.{Basis, basisOf, Accepted}
-use Rattle.basis.specs.Outcome.{passed}
+use Rattle.outcome.specs.Outcome.{passed}
 use Rattle.block.specs.Block.{checkOf}
-use Rattle.history.specs.History.{historyData, actualOf, historyCheck, basisCheck}
+use Rattle.history.specs.History.{historyData, actualOf, historyCheck, runAndHistoryCheck}
 
 -- a block whose check is right, and whose number is its place
 pub record RightBlock (place : ℕ) (block : List ℕ) : Type 0 where
@@ -38,5 +38,5 @@ pub record AcceptedBasis (run history : List ℕ) : Type 0 where
 pub record HistoryAcceptance : Type 0 where
   pub accepted : (b : Basis) (history : List ℕ) → historyCheck b history ≡ passed → AcceptedHistory b history
   pub passes : (b : Basis) (history : List ℕ) → AcceptedHistory b history → historyCheck b history ≡ passed
-  pub basis-accepted : (run history : List ℕ) → basisCheck run history ≡ passed → AcceptedBasis run history
-  pub basis-passes : (run history : List ℕ) → AcceptedBasis run history → basisCheck run history ≡ passed
+  pub basis-accepted : (run history : List ℕ) → runAndHistoryCheck run history ≡ passed → AcceptedBasis run history
+  pub basis-passes : (run history : List ℕ) → AcceptedBasis run history → runAndHistoryCheck run history ≡ passed

@@ -7,7 +7,7 @@ use lib.ListN.{length}
 use lib.Dec.{eqb, leb}
 use lib.IntN.{ℤ, pos, negℤ, natAbs}
 use Rattle.little_endian.specs.Bytes.{i32At}
-use Rattle.basis.specs.Outcome.{Finding, refusal, unless, firstOf}
+use Rattle.outcome.specs.Outcome.{Finding, refusal, unless, firstOf}
 use Rattle.basis.specs.Basis.{Basis, basisOf, Accepted}
 use Rattle.field_check.specs.declared.Field.{Field}
 use Rattle.field_check.specs.declared.Number.the-variants.{Byte, SignedWord}
@@ -93,8 +93,8 @@ historyCheck b history =
     (firstOf (blocksCheck 0 (2 * actualYears b) history) (fieldsCheck (historyData b history) (historyFields (actualYears b))))
 
 -- the data run afresh, then the history
-unfoldable pub basisCheck : List ℕ → List ℕ → Finding
-basisCheck run history = firstOf (runCheck run) (historyCheck (basisOf run) history)
+unfoldable pub runAndHistoryCheck : List ℕ → List ℕ → Finding
+runAndHistoryCheck run history = firstOf (runCheck run) (historyCheck (basisOf run) history)
 
 -- what the work asks of a data run and its history: the run's own acceptance, the history's length, and the limits of its improvements.
 -- An accepted history has more, right blocks and zero bytes (`AcceptedHistory`), of which nothing is read

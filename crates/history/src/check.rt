@@ -3,15 +3,15 @@ ghost use mathlib.Core.Path.{_≡_};
 ghost use Prim.Native.Nat.{_+_, _*_, _≤_, _<_};
 ghost use lib.ListN.{length};
 ghost use Rattle.basis.specs.Basis.{basisOf, Accepted};
-ghost use Rattle.basis.specs.Outcome.{passes, finding};
+ghost use Rattle.outcome.specs.Outcome.{passes, finding};
 ghost use Rattle.field_check.specs.Field.{widthOf, fieldsCheck};
 ghost use Rattle.block.specs.Blocks.{partsOf};
-ghost use Rattle.history.specs.History.{actualYears, historyFields, historyCheck, basisCheck};
+ghost use Rattle.history.specs.History.{actualYears, historyFields, historyCheck, runAndHistoryCheck};
 ghost use Rattle.history.specs.Inner.Part.{partCheck};
-use basis::Check;
-use basis::Refusal;
 use field_check::Field;
 use field_check::Number;
+use outcome::Check;
+use outcome::Refusal;
 
 // The years from B + 1 to F.
 fn years_needed(run: &[u8]) -> usize
@@ -74,18 +74,18 @@ fn check_fields(history: &[u8], years: usize) -> Check
         if zero & within {
             continue;
         }
-        let four = basis::first_of(
+        let four = outcome::first_of(
             check_part(history, b, zeros),
             check_part(history, b + 1, more_zeros),
         );
-        let five = basis::first_of(
+        let five = outcome::first_of(
             check_part(history, b, younger),
             check_part(history, b + 1, older),
         );
-        fours = basis::first_of(four, fours);
-        fives = basis::first_of(five, fives);
+        fours = outcome::first_of(four, fours);
+        fives = outcome::first_of(five, fives);
     }
-    basis::first_of(fours, fives)
+    outcome::first_of(fours, fives)
 }
 
 // The length (13), the blocks, then the fields.
@@ -109,8 +109,8 @@ pub fn check_history(run: &[u8], history: &[u8]) -> Check
 }
 
 // The data run afresh, then its history.
-pub fn check_basis(run: &[u8], history: &[u8]) -> Check
-    ensures { λ r. ⌜ finding r ≡ basisCheck (now (run .entry)) (now (history .entry)) ⌝ }
+pub fn check_run_and_history(run: &[u8], history: &[u8]) -> Check
+    ensures { λ r. ⌜ finding r ≡ runAndHistoryCheck (now (run .entry)) (now (history .entry)) ⌝ }
 {
     match run_check::check_run(run) {
         Check::Passed => check_history(run, history),

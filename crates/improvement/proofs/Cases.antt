@@ -14,7 +14,7 @@ use Rattle.arithmetic.specs.Fraction.{_+ᶠ_, round}
 use Rattle.basis.specs.Basis.{Basis, basisOf, ConvergenceLimits, Limited}
 use Rattle.history.specs.History.{actualOf, basisWith}
 use Rattle.history.proofs.Acceptance.{accepted-workable}
-use Rattle.basis.specs.Outcome.{value, refused, refusal}
+use Rattle.outcome.specs.Outcome.{value, refused, refusal}
 use Rattle.basis.specs.declared.Convergence.{Convergence}
 use Rattle.component.specs.Component.{componentOf}
 use Rattle.improvement.specs.Improvement.{additionOf, birthTerms, componentsOf, projectedOf, isActual, improvementOf, firstYear, improvementLimit, usable, improvementNeeded}

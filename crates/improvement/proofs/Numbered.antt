@@ -2,8 +2,8 @@
 use mathlib.Core.Path.{refl}
 use Prim.Native.Nat.{ℕ}
 use lib.IntN.{ℤ}
-use Rattle.basis.specs.Refusals.{recordNumbers, isListed, RefusedBy}
-use Rattle.basis.proofs.Refusals.{value-by, work-by, work-cond-by}
+use Rattle.outcome.specs.Refusals.{recordNumbers, isListed, RefusedBy}
+use Rattle.outcome.proofs.Refusals.{value-by, work-by, work-cond-by}
 use Rattle.improvement.specs.Improvement.{usable, improvementNeeded}
 
 pub needed-numbered : (age year : ℕ) (i : ℤ) → RefusedBy recordNumbers (improvementNeeded age year i)

@@ -7,8 +7,8 @@ use lib.IntN.{pos, negsuc, _*ℤ_}
 use lib.Signed.{_≤ℤ_, _<ℤ_}
 use Rattle.arithmetic.specs.Fraction.{Fraction, round}
 use Rattle.basis.specs.Basis.{basisOf}
-use Rattle.basis.specs.Outcome.{passed, value}
-use Rattle.history.specs.History.{actualOf, basisWith, basisCheck}
+use Rattle.outcome.specs.Outcome.{passed, value}
+use Rattle.history.specs.History.{actualOf, basisWith, runAndHistoryCheck}
 use Rattle.improvement.specs.Improvement.{usable, improvementOf, improvementNeeded}
 
 -- an exact number from −500,000,000.5 on and below 500,000,000.5
@@ -23,5 +23,5 @@ pub record Edges : Type 0 where
 
 -- an improvement from B + 1 to F is answered from the history (02, change 2)
 pub record ActualAnswered (run history : List ℕ) : Type 0 where
-  pub answered : (age year : ℕ) → basisCheck run history ≡ passed → 20 ≤ age → age ≤ 150 → basisOf run .base < year → year ≤ basisOf run .foundation
+  pub answered : (age year : ℕ) → runAndHistoryCheck run history ≡ passed → 20 ≤ age → age ≤ 150 → basisOf run .base < year → year ≤ basisOf run .foundation
       → improvementNeeded age year (improvementOf (basisWith run history) age year) ≡ value (actualOf (basisOf run) history age year)

@@ -4,7 +4,7 @@ use mathlib.Core.Bool.{Bool, cond, _&&_}
 use lib.Dec.{ltb, leb}
 use lib.IntN.{ℤ, pos, natAbs, _+ℤ_}
 use Rattle.arithmetic.specs.Fraction.{Fraction, _+ᶠ_, round}
-use Rattle.basis.specs.Outcome.{Outcome, value, refused, refusal}
+use Rattle.outcome.specs.Outcome.{Outcome, value, refused, refusal}
 use Rattle.basis.specs.Basis.{Basis}
 use Rattle.basis.specs.declared.Convergence.{Convergence}
 use Rattle.component.specs.Component.{componentOf}

@@ -6,12 +6,12 @@ ghost use lib.IntN.{_+ℤ_};
 ghost use Rattle.arithmetic.specs.Fraction.{_+ᶠ_, round};
 ghost use Rattle.basis.specs.Basis.{basisOf, Accepted, ConvergenceLimits};
 ghost use Rattle.history.specs.History.{basisWith, Workable};
-ghost use Rattle.basis.specs.Outcome.{signedMeaning};
+ghost use Rattle.outcome.specs.Outcome.{signedMeaning};
 ghost use Rattle.component.specs.Component.{componentOf};
 ghost use Rattle.improvement.specs.Improvement.{additionOf, birthTerms, projectedOf, isActual, firstYear, improvementOf, improvementNeeded, usable};
 use basis::Convergence;
-use basis::Refusal;
-use basis::SignedAnswer;
+use outcome::Refusal;
+use outcome::SignedAnswer;
 
 // The constant addition of a year.
 fn addition_in(run: &[u8], year: u32) -> i32

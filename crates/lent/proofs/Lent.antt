@@ -8,9 +8,9 @@ use native.Mathlib.Omega.{arith}
 use lib.ListN.{length, take, drop, set, length-append, length-drop, take-append-drop, drop-of-length-le}
 use lib.Seq.{length-take-le, take-at, drop-at, drop-drop, take-suc-set, drop-set-lt}
 use borrow.Author.Tests.{le-leb, leb-true}
-use Rattle.basis.specs.declared.Refusal.{Refusal}
-use Rattle.basis.specs.Outcome.{Finding, passed, refusedBy, firstOf}
-use Rattle.basis.proofs.Outcome.{unless-passed, both-passed}
+use Rattle.outcome.specs.declared.Refusal.{Refusal}
+use Rattle.outcome.specs.Outcome.{Finding, passed, refusedBy, firstOf}
+use Rattle.outcome.proofs.Outcome.{unless-passed, both-passed}
 use Rattle.lent.specs.Lent.{countCheck, roomCheck, written, placed}
 
 -- the room comes before every other check

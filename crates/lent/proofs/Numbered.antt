@@ -2,8 +2,8 @@
 use mathlib.Core.Path.{refl}
 use Prim.Native.Nat.{ℕ}
 use lib.Dec.{leb}
-use Rattle.basis.specs.Refusals.{numbers, isListed, RefusesBy}
-use Rattle.basis.proofs.Refusals.{unless-by}
+use Rattle.outcome.specs.Refusals.{numbers, isListed, RefusesBy}
+use Rattle.outcome.proofs.Refusals.{unless-by}
 use Rattle.lent.specs.Lent.{countCheck}
 
 pub count-numbered : (needed lent : ℕ) → RefusesBy numbers (countCheck needed lent)

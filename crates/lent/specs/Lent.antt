@@ -3,7 +3,7 @@ use Prim.Native.Nat.{ℕ, _+_}
 use mathlib.Core.List.{List, _++_}
 use lib.ListN.{length, take, drop}
 use lib.Dec.{leb}
-use Rattle.basis.specs.Outcome.{Finding, passed, refusedBy, refusal, unless}
+use Rattle.outcome.specs.Outcome.{Finding, passed, refusedBy, refusal, unless}
 
 -- too short (11): fewer elements are lent than are needed
 unfoldable pub countCheck : ℕ → ℕ → Finding

@@ -2,10 +2,10 @@
 ghost use mathlib.Core.Path.{_≡_};
 ghost use Prim.Native.Nat.{_+_, _≤_};
 ghost use lib.ListN.{length, replicate};
-ghost use Rattle.basis.specs.Outcome.{finding};
+ghost use Rattle.outcome.specs.Outcome.{finding};
 ghost use Rattle.lent.specs.Lent.{countCheck, placed};
-use basis::Check;
-use basis::Refusal;
+use outcome::Check;
+use outcome::Refusal;
 
 // Whether as many elements are lent as are needed: the first check of every call that fills a lent output.
 pub fn check_room(needed: usize, lent: usize) -> Check

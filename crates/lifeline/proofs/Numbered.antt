@@ -3,8 +3,8 @@ use mathlib.Core.Path.{refl}
 use Prim.Native.Nat.{ℕ}
 use lib.Dec.{leb}
 use Rattle.arithmetic.specs.Fraction.{U}
-use Rattle.basis.specs.Refusals.{numbers, isListed, RefusesBy}
-use Rattle.basis.proofs.Refusals.{unless-by, first-by, check-among, record-numbers}
+use Rattle.outcome.specs.Refusals.{numbers, isListed, RefusesBy}
+use Rattle.outcome.proofs.Refusals.{unless-by, first-by, check-among, record-numbers}
 use Rattle.question.specs.Question.{inRange}
 use Rattle.question.proofs.Numbered.{age-numbered}
 use Rattle.lifeline.specs.Lifeline.{lastStandingYear, standingYearCheck, survivorsCheck, standingCheck}

@@ -7,10 +7,10 @@ use lib.Dec.{eqb, leb}
 use lib.IntN.{pos}
 use borrow.Author.Tests.{leb-true}
 use Rattle.arithmetic.specs.Fraction.{U}
-use Rattle.basis.specs.declared.Refusal.{Refusal}
-use Rattle.basis.specs.Outcome.{passed, refusedBy, value, refused, firstOf}
-use Rattle.basis.proofs.Outcome.{unless-passed, both-passed}
-use Rattle.history.specs.History.{basisWith, basisCheck, Workable}
+use Rattle.outcome.specs.declared.Refusal.{Refusal}
+use Rattle.outcome.specs.Outcome.{passed, refusedBy, value, refused, firstOf}
+use Rattle.outcome.proofs.Outcome.{unless-passed, both-passed}
+use Rattle.history.specs.History.{basisWith, runAndHistoryCheck, Workable}
 use Rattle.history.proofs.Acceptance.{accepted-workable}
 use Rattle.question.specs.Question.{inRange, ageCheck}
 use Rattle.enquiry.specs.Enquiry.{valuationCheck}
@@ -32,7 +32,7 @@ pub step-passed : (run history : List ℕ) (age year survivors : ℕ) → stepCh
 unfolding standingCheck
 step-passed run history age year survivors h =
     let base = basisWith run history .base in
-    let p = both-passed (basisCheck run history) (standingCheck base age year survivors) h in
+    let p = both-passed (runAndHistoryCheck run history) (standingCheck base age year survivors) h in
     let q = both-passed (ageCheck age) (firstOf (standingYearCheck base age year) (survivorsCheck survivors)) (p .1) in
     let s = both-passed (standingYearCheck base age year) (survivorsCheck survivors) (q .1) in
     let a = age-passed age (q .0) in

@@ -7,8 +7,8 @@ use lib.Dec.{eqb, leb}
 use lib.IntN.{ℤ, pos, natAbs}
 use Rattle.arithmetic.specs.Fraction.{U}
 use Rattle.basis.specs.Basis.{Basis}
-use Rattle.history.specs.History.{basisWith, basisCheck}
-use Rattle.basis.specs.Outcome.{Finding, passed, refusedBy, Outcome, value, refused, refusal, unless, firstOf}
+use Rattle.history.specs.History.{basisWith, runAndHistoryCheck}
+use Rattle.outcome.specs.Outcome.{Finding, passed, refusedBy, Outcome, value, refused, refusal, unless, firstOf}
 use Rattle.question.specs.Question.{inRange, ageCheck}
 use Rattle.enquiry.specs.Enquiry.{valuationCheck}
 use Rattle.survivorship.specs.Survivorship.{survivorsAfterYear}
@@ -47,7 +47,7 @@ standingCheck base age year survivors = firstOf (ageCheck age) (firstOf (standin
 
 -- first of all the data run, and directly after it the history
 abbrev pub stepCheck : List ℕ → List ℕ → ℕ → ℕ → ℕ → Finding
-stepCheck run history age year survivors = firstOf (basisCheck run history) (standingCheck (basisWith run history .base) age year survivors)
+stepCheck run history age year survivors = firstOf (runAndHistoryCheck run history) (standingCheck (basisWith run history .base) age year survivors)
 
 -- ---- the step
 abbrev pub moved : ℕ → ℕ → ℕ → Outcome Said → Step

@@ -1,7 +1,7 @@
 -- Where a lifeline stands at its start and after a step, and what these say, in the paper's words and numbers (01, "Each step applies one
 -- year of cohort survivorship"); and what the engine's answers stand for, in every one of their cases.
 use Prim.Native.Nat.{ℕ}
-use Rattle.basis.specs.Outcome.{Finding, Outcome, value, refused, finding}
+use Rattle.outcome.specs.Outcome.{Finding, Outcome, value, refused, finding}
 use Rattle.lifeline.specs.declared.Status.{Status}
 use Rattle.lifeline.specs.declared.Status.the-variants as status
 use Rattle.lifeline.specs.declared.Begun.{Begun}

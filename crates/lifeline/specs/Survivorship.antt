@@ -6,7 +6,7 @@ use mathlib.Core.List.{List}
 use Prim.Native.Nat.{ℕ, _+_, _<_}
 use lib.Dec.{eqb}
 use lib.IntN.{pos}
-use Rattle.basis.specs.Outcome.{passed, value, checked, andThen}
+use Rattle.outcome.specs.Outcome.{passed, value, checked, andThen}
 use Rattle.history.specs.History.{basisWith}
 use Rattle.survivorship.specs.declared.Kind.the-variants.{Cohort}
 use Rattle.survivorship.specs.Survivorship.{survivorsAfterYear, survivorsOf}

@@ -2,7 +2,7 @@
 ghost use mathlib.Core.Path.{_≡_};
 ghost use Prim.Native.Nat.{_+_, _≤_, _<_};
 ghost use lib.IntN.{pos};
-ghost use Rattle.basis.specs.Outcome.{finding};
+ghost use Rattle.outcome.specs.Outcome.{finding};
 ghost use Rattle.basis.specs.Basis.{basisOf, Accepted};
 ghost use Rattle.history.specs.History.{basisWith, Workable};
 ghost use Rattle.question.specs.Question.{inRange};
@@ -12,11 +12,10 @@ ghost use Rattle.lifeline.specs.Lifeline.{startAt, lastStandingYear, sta
 use crate::Begun;
 use crate::Moved;
 use crate::Status;
-use basis::Answer;
-use basis::Check;
-use basis::Refusal;
-
-const UNIT: u64 = 1_000_000_000;
+use arithmetic::UNIT;
+use outcome::Answer;
+use outcome::Check;
+use outcome::Refusal;
 
 // U at an age and year, checked as an enquiry with deferment 0.
 pub fn start_at(run: &[u8], history: &[u8], age: u32, year: u32) -> Begun
@@ -81,9 +80,9 @@ fn check_standing(run: &[u8], age: u32, year: u32, survivors: u64) -> Check
     ensures { λ r. ⌜ finding r ≡ standingCheck (basisOf (now (run .entry)) .base) age year survivors ⌝ }
 {
     let of_year = check_standing_year(basis::fields::base_year(run), age, year);
-    basis::first_of(
+    outcome::first_of(
         question::check_age(age),
-        basis::first_of(of_year, check_survivors(survivors)),
+        outcome::first_of(of_year, check_survivors(survivors)),
     )
 }
 
@@ -91,7 +90,7 @@ fn check_standing(run: &[u8], age: u32, year: u32, survivors: u64) -> Check
 fn check_step(run: &[u8], history: &[u8], age: u32, year: u32, survivors: u64) -> Check
     ensures { λ r. ⌜ finding r ≡ stepCheck (now (run .entry)) (now (history .entry)) age year survivors ⌝ }
 {
-    match history::check::check_basis(run, history) {
+    match history::check::check_run_and_history(run, history) {
         Check::Passed => check_standing(run, age, year, survivors),
         Check::Refused(r) => Check::Refused(r),
     }

@@ -1,8 +1,8 @@
 // A lifeline (the paper's word): the survivors of one cohort, year by year, each year checked anew.
 pub mod cohort;
 
-use basis::Check;
-use basis::Refusal;
+use outcome::Check;
+use outcome::Refusal;
 
 // What a step did.
 pub enum Status {

@@ -3,7 +3,7 @@ use mathlib.Core.Path.{_≡_, refl}
 use mathlib.Core.List.{List}
 use Prim.Native.Nat.{ℕ, suc}
 use denote.Ref.{RefT, now}
-use Rattle.basis.specs.Outcome.{finding}
+use Rattle.outcome.specs.Outcome.{finding}
 use Rattle.lifeline_reader.specs.declared.Lifeline.{Lifeline}
 use Rattle.lifeline_reader.specs.declared.Started.{Started}
 use Rattle.lifeline_reader.specs.declared.Stepped.{Stepped}

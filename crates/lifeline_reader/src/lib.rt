@@ -1,14 +1,14 @@
 // The lifeline reader (the paper's words): a small struct that holds the lent data run itself. Its start and its step have the
 // work done by the numbers, and hold the same run again; the history is lent to each of them.
 ghost use mathlib.Core.Path.{_≡_};
-ghost use Rattle.basis.specs.Outcome.{finding};
+ghost use Rattle.outcome.specs.Outcome.{finding};
 ghost use Rattle.lifeline.specs.Said.{statusMeaning};
 ghost use Rattle.lifeline.specs.Lifeline.{startAt, standAfter};
 ghost use Rattle.lifeline_reader.specs.Reader.{lineStarted, stepOf, lineStepped};
-use basis::Check;
 use lifeline::Stand;
 use lifeline::Status;
 use lifeline::cohort;
+use outcome::Check;
 
 // A lifeline over the run that it was lent.
 pub struct Lifeline<'a> {

@@ -3,11 +3,11 @@ use Prim.Native.Nat.{ℕ}
 use mathlib.Core.List.{List, [], _∷_}
 use lib.IntN.{ℤ, natAbs}
 use Rattle.basis.specs.Basis.{Basis}
-use Rattle.basis.specs.Outcome.{Outcome, value, refused, checked, andThen, noRefusal}
+use Rattle.outcome.specs.Outcome.{Outcome, value, refused, checked, andThen, noRefusal}
 use Rattle.survivorship.specs.declared.Kind.the-variants.{Period, Cohort}
 use Rattle.valuation.specs.Valuation.{expectationOf, annuityOf}
 use Rattle.question.specs.Question.{questionCheck}
-use Rattle.model_points.specs.declared.Question.{Question}
+use Rattle.question.specs.declared.Question.{Question}
 use Rattle.model_points.specs.declared.PointAnswer.{PointAnswer}
 
 -- four results in their order, the first refusal of the four deciding; no result is below zero, so its size is the result itself

@@ -2,22 +2,15 @@
 ghost use mathlib.Core.Path.{_≡_};
 ghost use Prim.Native.Nat.{_+_, _≤_};
 ghost use Rattle.history.specs.History.{basisWith, Workable};
-ghost use Rattle.basis.specs.Outcome.{meaning, refused};
+ghost use Rattle.outcome.specs.Outcome.{meaning, refused};
 ghost use Rattle.model_points.specs.Point.{fourOf, resultsOf, pointAnswerOf, pointOf};
-use basis::Answer;
-use basis::Check;
-use basis::Refusal;
+use outcome::Answer;
+use outcome::Check;
+use outcome::Refusal;
+use question::Question;
 use survivorship::Kind;
 
-// A question: an age, a deferment and a year, whatever they hold.
-#[repr(C)]
-pub struct Question {
-    pub age: u32,
-    pub deferment: u32,
-    pub year: u32,
-}
-
-// Its answer: period and cohort expectation, period and cohort annuity, and a refusal of number 0; or the first refusal
+// A question's answer: period and cohort expectation, period and cohort annuity, and a refusal of number 0; or the first refusal
 // of the four, and four results of 0.
 #[repr(C)]
 pub struct PointAnswer {

@@ -4,16 +4,16 @@ ghost use mathlib.Core.Path.{_≡_};
 ghost use Prim.Native.Nat.{_+_, _*_, _≤_};
 ghost use lib.ListN.{length};
 ghost use Rattle.history.specs.History.{Workable};
-ghost use Rattle.workings.specs.Workings.{WorkedOut};
+ghost use Rattle.factor_table.specs.FactorTable.{Tabled};
 ghost use Rattle.io.specs.Counts.{Counts};
 ghost use Rattle.enquiry_lines.specs.Inner.State.{Sound};
-use basis::Check;
 use enquiry_lines::Pending;
 use enquiry_lines::lines;
 use enquiry_lines::open_basis;
 use libc::ENOENT;
 use libc::STDIN_FILENO;
 use libc::STDOUT_FILENO;
+use outcome::Check;
 
 // What a block leaves: the unfinished line, whether it was the last block, and whether it was read and its replies were
 // written.
@@ -58,7 +58,7 @@ fn reply_room() -> [u8; 196608]
 }
 
 // Room for the factors of all ages and years, and the discounts.
-fn workings_room() -> [u32; 18340]
+fn table_room() -> [u32; 18340]
     ensures { λ r. ⌜ 18340 ≡ length r ⌝ }
 {
     [0; 18340]
@@ -110,13 +110,13 @@ fn write_out(part: &[u8]) -> bool {
 fn answer_block(
     run: &[u8],
     history: &[u8],
-    workings: &[u32],
+    table: &[u32],
     s: Pending,
     part: &mut [u8],
     out: &mut [u8],
     blocks: u64,
 ) -> Turn
-    requires { ⌜ WorkedOut (now run) (now history) (now workings) ⌝ }
+    requires { ⌜ Tabled (now run) (now history) (now table) ⌝ }
     requires { ⌜ (length (now part) ≤ 1024) × (196608 ≤ length (now out)) ⌝ }
     requires { ⌜ (Sound s) × (s .complete + 1024 * (blocks + 1) ≤ 1024000000000000000) ⌝ }
     ensures { λ r. ⌜ (Sound (r .pending)) × (r .pending .complete + 1024 * blocks ≤ 1024000000000000000) ⌝ }
@@ -131,7 +131,7 @@ fn answer_block(
         };
     }
     let n = io::count(got, part);
-    let f = lines::feed(run, history, workings, s, &part[..n], out, 0);
+    let f = lines::feed(run, history, table, s, &part[..n], out, 0);
     let at = f.at;
     let is_written = write_out(&out[..at]);
     let pending = f.pending;
@@ -143,14 +143,8 @@ fn answer_block(
 }
 
 // Nothing says that the input ends, so the blocks are counted down from a number that no run uses up.
-fn answer_blocks(
-    run: &[u8],
-    history: &[u8],
-    workings: &[u32],
-    part: &mut [u8],
-    out: &mut [u8],
-) -> Turn
-    requires { ⌜ WorkedOut (now run) (now history) (now workings) ⌝ }
+fn answer_blocks(run: &[u8], history: &[u8], table: &[u32], part: &mut [u8], out: &mut [u8]) -> Turn
+    requires { ⌜ Tabled (now run) (now history) (now table) ⌝ }
     requires { ⌜ (length (now part) ≤ 1024) × (196608 ≤ length (now out)) ⌝ }
     ensures { λ r. ⌜ (Sound (r .pending)) × (r .pending .complete ≤ 1024000000000000000) ⌝ }
 {
@@ -159,7 +153,7 @@ fn answer_blocks(
     let mut blocks: u64 = 1_000_000_000_000_000;
     while 0 < blocks {
         blocks -= 1;
-        let t = answer_block(run, history, workings, pending, part, out, blocks);
+        let t = answer_block(run, history, table, pending, part, out, blocks);
         let next = t.pending;
         pending = next;
         is_whole = t.is_whole;
@@ -176,16 +170,16 @@ fn answer_blocks(
 
 // All of standard input: its blocks, then a last line that lacks its byte 10. The basis stays the same, so that the factors
 // of all ages and years are worked out once, before the first line.
-fn answer_input(run: &[u8], history: &[u8], workings: &mut [u32], part: &mut [u8], out: &mut [u8])
-    requires { ⌜ Workable (now run) (now history) × (length (now workings) ≡ 18340) ⌝ }
+fn answer_input(run: &[u8], history: &[u8], table: &mut [u32], part: &mut [u8], out: &mut [u8])
+    requires { ⌜ Workable (now run) (now history) × (length (now table) ≡ 18340) ⌝ }
     requires { ⌜ (length (now part) ≤ 1024) × (196608 ≤ length (now out)) ⌝ }
 {
-    workings::work_out(run, history, workings);
-    let t = answer_blocks(run, history, workings, part, out);
+    factor_table::fill_table(run, history, table);
+    let t = answer_blocks(run, history, table, part, out);
     if !t.is_whole {
         return;
     }
-    let at = lines::finish(run, history, workings, t.pending, out, 0);
+    let at = lines::finish(run, history, table, t.pending, out, 0);
     write_out(&out[..at]);
 }
 
@@ -205,7 +199,7 @@ fn main() {
     };
     if is_written {
         let mut part = block_room();
-        let mut workings = workings_room();
-        answer_input(&run, &history[..m], &mut workings, &mut part, &mut out);
+        let mut table = table_room();
+        answer_input(&run, &history[..m], &mut table, &mut part, &mut out);
     }
 }

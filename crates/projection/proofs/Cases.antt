@@ -7,8 +7,8 @@ use native.Mathlib.Decide.{decLt}
 use lib.IntN.{ℤ, pos}
 use lib.Signed.{leZ}
 use borrow.Author.Tests.{lt-ltb, le-ltb, le-leb, lt-leb}
-use Rattle.basis.specs.declared.Refusal.{Refusal}
-use Rattle.basis.specs.Outcome.{value, refused, andThen, refusal}
+use Rattle.outcome.specs.declared.Refusal.{Refusal}
+use Rattle.outcome.specs.Outcome.{value, refused, andThen, refusal}
 use Rattle.improvement.specs.Improvement.{usable, improvementNeeded}
 use Rattle.improvement.proofs.Cases.{needed-usable, needed-beyond}
 use Rattle.projection.specs.Projection.{factorNeeded, factorNext, factorFrom, heldYear}

@@ -5,8 +5,8 @@ use lib.IntN.{ℤ, pos}
 use lib.Signed.{leZ}
 use Rattle.arithmetic.specs.Fraction.{U}
 use Rattle.basis.specs.Basis.{Basis}
-use Rattle.basis.specs.Refusals.{recordNumbers, isListed, RefusedBy}
-use Rattle.basis.proofs.Refusals.{value-by, work-by, work-cond-by, then-by, steps-by}
+use Rattle.outcome.specs.Refusals.{recordNumbers, isListed, RefusedBy}
+use Rattle.outcome.proofs.Refusals.{value-by, work-by, work-cond-by, then-by, steps-by}
 use Rattle.improvement.proofs.Numbered.{needed-numbered}
 use Rattle.projection.specs.Projection.{factorNext, factorNeeded, factorFrom, heldYear, factorOf, rateFrom, rateOf}
 

@@ -12,9 +12,9 @@ use Rattle.arithmetic.specs.Round.{roundDiv}
 use Rattle.arithmetic.specs.Fraction.{U, lesserℤ}
 use Rattle.arithmetic.proofs.Difference.{rest-natural}
 use Rattle.basis.specs.Basis.{Basis}
-use Rattle.basis.specs.Outcome.{Outcome, value, refused, steps}
-use Rattle.basis.specs.declared.Refusal.{Refusal}
-use Rattle.basis.proofs.Outcome.{next, along, came}
+use Rattle.outcome.specs.Outcome.{Outcome, value, refused, steps}
+use Rattle.outcome.specs.declared.Refusal.{Refusal}
+use Rattle.outcome.proofs.Outcome.{next, along, came}
 use Rattle.improvement.specs.Improvement.{improvementOf}
 use Rattle.projection.specs.Projection.{factorNext, factorFrom, factorStep, heldYear, factorOf, rateFrom, rateOf}
 use Rattle.projection.proofs.Cases.{year-value}

@@ -5,7 +5,7 @@ use lib.Dec.{ltb}
 use lib.IntN.{ℤ, pos, _-ℤ_, _*ℤ_}
 use lib.Signed.{leZ}
 use Rattle.arithmetic.specs.Fraction.{whole, _/ᶠ_, round, lesserℤ, U}
-use Rattle.basis.specs.Outcome.{Outcome, value, refused, andThen, refusal, steps}
+use Rattle.outcome.specs.Outcome.{Outcome, value, refused, andThen, refusal, steps}
 use Rattle.basis.specs.Basis.{Basis}
 use Rattle.improvement.specs.Improvement.{improvementOf, improvementNeeded}
 

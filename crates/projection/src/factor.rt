@@ -3,14 +3,13 @@ ghost use mathlib.Core.Path.{_≡_};
 ghost use Prim.Native.Nat.{_≤_};
 ghost use lib.IntN.{pos, natAbs};
 ghost use Rattle.history.specs.History.{basisWith, Workable};
-ghost use Rattle.basis.specs.Outcome.{meaning};
+ghost use Rattle.outcome.specs.Outcome.{meaning};
 ghost use Rattle.improvement.specs.Improvement.{firstYear, improvementOf};
 ghost use Rattle.projection.specs.Projection.{factorNext, factorFrom, heldYear, factorOf};
-use basis::Answer;
+use arithmetic::UNIT;
 use basis::Convergence;
-use basis::Refusal;
-
-const UNIT: u64 = 1_000_000_000;
+use outcome::Answer;
+use outcome::Refusal;
 
 // This year's factor from last year's and the improvement.
 fn factor_next(factor: u64, improvement: i64) -> u64

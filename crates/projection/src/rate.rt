@@ -3,13 +3,12 @@ ghost use mathlib.Core.Path.{_≡_};
 ghost use Prim.Native.Nat.{_≤_};
 ghost use lib.IntN.{pos};
 ghost use Rattle.basis.specs.Basis.{basisOf, Accepted};
-ghost use Rattle.basis.specs.Outcome.{meaning};
+ghost use Rattle.outcome.specs.Outcome.{meaning};
 ghost use Rattle.history.specs.History.{basisWith, Workable};
 ghost use Rattle.projection.specs.Projection.{factorOf, rateFrom, rateOf};
 use crate::factor;
-use basis::Answer;
-
-const UNIT: u64 = 1_000_000_000;
+use arithmetic::UNIT;
+use outcome::Answer;
 
 // The lesser of U and the base rate times the factor.
 fn rate_from(run: &[u8], age: u32, factor: u64) -> u64

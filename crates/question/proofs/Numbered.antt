@@ -2,8 +2,8 @@
 use mathlib.Core.Path.{refl}
 use Prim.Native.Nat.{ℕ, _+_}
 use lib.Dec.{leb}
-use Rattle.basis.specs.Refusals.{recordNumbers, isListed, RefusesBy}
-use Rattle.basis.proofs.Refusals.{unless-by, first-by}
+use Rattle.outcome.specs.Refusals.{recordNumbers, isListed, RefusesBy}
+use Rattle.outcome.proofs.Refusals.{unless-by, first-by}
 use Rattle.question.specs.Question.{inRange, ageCheck, defermentCheck, yearCheck, cellCheck, questionCheck}
 
 pub age-numbered : (age : ℕ) → RefusesBy recordNumbers (ageCheck age)

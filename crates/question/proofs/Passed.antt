@@ -5,8 +5,8 @@ use Prim.Native.Nat.{ℕ, _+_, _≤_}
 use native.Mathlib.Omega.{arith}
 use lib.Dec.{leb}
 use borrow.Author.Tests.{leb-true}
-use Rattle.basis.specs.Outcome.{passed, firstOf}
-use Rattle.basis.proofs.Outcome.{unless-passed, both-passed}
+use Rattle.outcome.specs.Outcome.{passed, firstOf}
+use Rattle.outcome.proofs.Outcome.{unless-passed, both-passed}
 use Rattle.question.specs.Question.{inRange, ageCheck, defermentCheck, yearCheck, cellCheck, questionCheck}
 
 pub in-range : (low high n : ℕ) → inRange low high n ≡ true → (low ≤ n) × (n ≤ high)

@@ -2,7 +2,7 @@
 use Prim.Native.Nat.{ℕ, _+_}
 use mathlib.Core.Bool.{Bool, _&&_}
 use lib.Dec.{leb}
-use Rattle.basis.specs.Outcome.{Finding, refusal, unless, firstOf}
+use Rattle.outcome.specs.Outcome.{Finding, refusal, unless, firstOf}
 
 abbrev pub inRange : ℕ → ℕ → ℕ → Bool
 inRange low high n = leb low n && leb n high

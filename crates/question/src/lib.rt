@@ -1,10 +1,18 @@
 // What an enquiry asks: its own checks, 6, 8 and 7.
 ghost use mathlib.Core.Path.{_≡_};
-ghost use Rattle.basis.specs.Outcome.{finding};
+ghost use Rattle.outcome.specs.Outcome.{finding};
 ghost use Rattle.basis.specs.Basis.{basisOf, Accepted};
 ghost use Rattle.question.specs.Question.{inRange, ageCheck, defermentCheck, yearCheck, cellCheck, questionCheck};
-use basis::Check;
-use basis::Refusal;
+use outcome::Check;
+use outcome::Refusal;
+
+// A question: an age, a deferment and a year, whatever they hold.
+#[repr(C)]
+pub struct Question {
+    pub age: u32,
+    pub deferment: u32,
+    pub year: u32,
+}
 
 fn is_in_range(low: u32, high: u32, n: u32) -> bool
     ensures { λ r. ⌜ r ≡ inRange low high n ⌝ }
@@ -63,7 +71,7 @@ pub fn check_cell(first: u32, age: u32, year: u32) -> Check
 {
     let of_age = check_age(age);
     let of_year = check_year(first, year);
-    basis::first_of(of_age, of_year)
+    outcome::first_of(of_age, of_year)
 }
 
 // 6, then 8, then 7, for years from B on.
@@ -72,8 +80,8 @@ pub fn check_question(run: &[u8], age: u32, deferment: u32, year: u32) -> Check
     ensures { λ r. ⌜ finding r ≡ questionCheck (basisOf (now (run .entry)) .base) age deferment year ⌝ }
 {
     let of_year = check_year(basis::fields::base_year(run), year);
-    basis::first_of(
+    outcome::first_of(
         check_age(age),
-        basis::first_of(check_deferment(age, deferment), of_year),
+        outcome::first_of(check_deferment(age, deferment), of_year),
     )
 }

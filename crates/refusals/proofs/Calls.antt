@@ -7,16 +7,16 @@ use native.Mathlib.Omega.{arith}
 use lib.Dec.{eqb}
 use lib.IntN.{ℤ, pos, natAbs}
 use borrow.Author.Tests.{ne-eqb}
-use Rattle.basis.specs.declared.Refusal.{Refusal}
+use Rattle.outcome.specs.declared.Refusal.{Refusal}
 use Rattle.basis.specs.Basis.{basisOf}
-use Rattle.basis.specs.Outcome.{Finding, passed, refusedBy, Outcome, value, refused, firstOf}
-use Rattle.basis.specs.Refusals.{numbers, recordNumbers, isListed, Listed, RefusesBy, RefusedBy}
-use Rattle.basis.proofs.Refusals.{first-by, value-by, checked-by, then-by, check-among, work-among, record-numbers, never-zero}
+use Rattle.outcome.specs.Outcome.{Finding, passed, refusedBy, Outcome, value, refused, firstOf}
+use Rattle.outcome.specs.Refusals.{numbers, recordNumbers, isListed, Listed, RefusesBy, RefusedBy}
+use Rattle.outcome.proofs.Refusals.{first-by, value-by, checked-by, then-by, check-among, work-among, record-numbers, never-zero}
 use Rattle.lent.proofs.Numbered.{count-numbered}
 use Rattle.run_check.proofs.Numbered.{run-numbered}
 use Rattle.basis_file.specs.File.{runIn}
 use Rattle.basis_file.proofs.Numbered.{file-numbered}
-use Rattle.history.specs.History.{basisWith, basisCheck}
+use Rattle.history.specs.History.{basisWith, runAndHistoryCheck}
 use Rattle.history.proofs.Numbered.{history-numbered, basis-numbered}
 use Rattle.short_form.proofs.Numbered.{short-form-numbered}
 use Rattle.improvement.specs.Improvement.{firstYear, improvementOf}
@@ -27,7 +27,7 @@ use Rattle.survivorship.specs.Survivorship.{survivorsAfterYear}
 use Rattle.question.specs.Question.{cellCheck}
 use Rattle.question.proofs.Numbered.{cell-numbered, question-numbered}
 use Rattle.enquiry.specs.Enquiry.{valuationCheck, improvementEnquiry, factorEnquiry, rateEnquiry, survivorshipEnquiry, expectationEnquiry, annuityEnquiry}
-use Rattle.model_points.specs.declared.Question.{Question}
+use Rattle.question.specs.declared.Question.{Question}
 use Rattle.model_points.specs.declared.PointAnswer.{PointAnswer}
 use Rattle.model_points.specs.Point.{pointAnswerOf, pointOf}
 use Rattle.small_set.specs.declared.Questions.{Questions}
@@ -49,7 +49,7 @@ use Rattle.refusals.proofs.Work.{year-numbered, survivors-numbered, exp
 
 -- what the checks of an enquiry give, and a question's are among them
 module _ (run history : List ℕ) where
-  cell-checked : (first age year : ℕ) → RefusesBy numbers (firstOf (basisCheck run history) (cellCheck first age year))
+  cell-checked : (first age year : ℕ) → RefusesBy numbers (firstOf (runAndHistoryCheck run history) (cellCheck first age year))
   cell-checked first age year = first-by (basis-numbered run history) (check-among record-numbers (cell-numbered first age year))
 
   valuation-checked : (age deferment year : ℕ) → RefusesBy numbers (valuationCheck run history age deferment year)
@@ -98,9 +98,9 @@ total-refusals : (roll : List ℕ) → RefusedBy numbers (totalAnswer roll)
 total-refusals roll = then-by (checked-by (room-numbered roll) (value-by roll)) (λ after. value-by (pos (totalIn after)))
 
 -- ---- the small set as a whole
-set-refusal : (run history : List ℕ) (questions : Questions) → smallSetOf run history questions .refusal ≡ refusalOf (basisCheck run history)
+set-refusal : (run history : List ℕ) (questions : Questions) → smallSetOf run history questions .refusal ≡ refusalOf (runAndHistoryCheck run history)
 unfolding smallSetOf
-set-refusal run history questions = by (basisCheck run history) _
+set-refusal run history questions = by (runAndHistoryCheck run history) _
   where
     by : (c : Finding) (points : List PointAnswer) → setOf c points .refusal ≡ refusalOf c
     by passed points = refl

@@ -4,16 +4,16 @@ use Prim.Native.Nat.{ℕ, suc, _+_, _-_, _/_}
 use lib.IntN.{ℤ, pos, natAbs, _+ℤ_}
 use Rattle.arithmetic.specs.Fraction.{U}
 use Rattle.basis.specs.Basis.{Basis}
-use Rattle.basis.specs.Outcome.{Outcome}
-use Rattle.basis.specs.Refusals.{recordNumbers, RefusedBy}
-use Rattle.basis.proofs.Refusals.{value-by, checked-by, then-by, steps-by, sum-by}
+use Rattle.outcome.specs.Outcome.{Outcome}
+use Rattle.outcome.specs.Refusals.{recordNumbers, RefusedBy}
+use Rattle.outcome.proofs.Refusals.{value-by, checked-by, then-by, steps-by, sum-by}
 use Rattle.projection.proofs.Numbered.{rate-numbered}
 use Rattle.survivorship.specs.declared.Kind.{Kind}
 use Rattle.survivorship.specs.declared.Kind.the-variants.{Period, Cohort}
 use Rattle.survivorship.specs.Survivorship.{yearOn, survivorsNext, survivorsAfterYear, survivorsOf}
 use Rattle.valuation.specs.Valuation.{curtateOf, expectationOf, discountAfter, payment, paymentAfter, annuityOf}
 use Rattle.question.proofs.Numbered.{question-numbered}
-use Rattle.model_points.specs.declared.Question.{Question}
+use Rattle.question.specs.declared.Question.{Question}
 use Rattle.model_points.specs.Point.{fourOf, resultsOf}
 use Rattle.refusals.specs.Numbered.{workOn}
 

@@ -5,19 +5,19 @@ use mathlib.Core.Bool.{false}
 use mathlib.Core.List.{List, _++_}
 use Prim.Native.Nat.{ℕ}
 use lib.IntN.{ℤ}
-use Rattle.basis.specs.declared.Refusal.{Refusal}
+use Rattle.outcome.specs.declared.Refusal.{Refusal}
 use Rattle.basis.specs.Basis.{Basis}
-use Rattle.basis.specs.Outcome.{Finding, passed, Outcome, value, refused, checked}
-use Rattle.basis.specs.Refusals.{numbers, recordNumbers, isListed, Listed, RefusesBy, RefusedBy}
+use Rattle.outcome.specs.Outcome.{Finding, passed, Outcome, value, refused, checked}
+use Rattle.outcome.specs.Refusals.{numbers, recordNumbers, isListed, Listed, RefusesBy, RefusedBy}
 use Rattle.run_check.specs.Run.{runCheck}
-use Rattle.history.specs.History.{basisWith, basisCheck}
+use Rattle.history.specs.History.{basisWith, runAndHistoryCheck}
 use Rattle.projection.specs.Projection.{factorOf, rateOf}
 use Rattle.survivorship.specs.declared.Kind.{Kind}
 use Rattle.survivorship.specs.Survivorship.{survivorsOf}
 use Rattle.valuation.specs.Valuation.{expectationOf, annuityOf}
 use Rattle.question.specs.Question.{questionCheck}
 use Rattle.enquiry.specs.Enquiry.{improvementEnquiry, factorEnquiry, rateEnquiry, survivorshipEnquiry, expectationEnquiry, annuityEnquiry}
-use Rattle.model_points.specs.declared.Question.{Question}
+use Rattle.question.specs.declared.Question.{Question}
 use Rattle.model_points.specs.Point.{resultsOf, pointAnswerOf, pointOf}
 use Rattle.small_set.specs.declared.Questions.{Questions}
 use Rattle.small_set.specs.SmallSet.{smallSetOf}
@@ -45,7 +45,7 @@ pub record NumberedRefusals (run history : List ℕ) : Type 0 where
   pub readBasis : (file out : List ℕ) → RefusesBy numbers (readCheck file out)
   pub writeBasis : (out : List ℕ) → RefusesBy numbers (writeCheck run out)
   pub shortForm : (rate : ℤ) (out : List ℕ) → RefusesBy numbers (shortCheck run rate out)
-  pub withHistory : RefusesBy numbers (basisCheck run history)
+  pub withHistory : RefusesBy numbers (runAndHistoryCheck run history)
   -- the work: 9 and 10 are among 6 to 10
   pub factorWork : (age year : ℕ) → RefusedBy recordNumbers (factorOf (basisWith run history) age year)
   pub rateWork : (age year : ℕ) → RefusedBy recordNumbers (rateOf (basisWith run history) age year)
@@ -60,7 +60,7 @@ pub record NumberedRefusals (run history : List ℕ) : Type 0 where
   pub expectation : (kind : Kind) (age deferment year : ℕ) → RefusedBy numbers (expectationEnquiry run history kind age deferment year)
   pub annuity : (kind : Kind) (age deferment year : ℕ) → RefusedBy numbers (annuityEnquiry run history kind age deferment year)
   -- the small set and the grid, each as a whole; then a point and a record
-  pub smallSet : (questions : Questions) → smallSetOf run history questions .refusal ≡ refusalOf (basisCheck run history)
+  pub smallSet : (questions : Questions) → smallSetOf run history questions .refusal ≡ refusalOf (runAndHistoryCheck run history)
   pub grid : (count : ℕ) → RefusesBy numbers (gridCheck run history count)
   pub point : (q : Question) → RefusedBy recordNumbers (workOn (basisWith run history) q) × (pointOf (basisWith run history) q ≡ pointAnswerOf (workOn (basisWith run history) q))
   pub gridRecord : (p : Point) → answeredOf (basisWith run history) p .refusal ≡ pointOf (basisWith run history) (questionOf p) .refusal .number

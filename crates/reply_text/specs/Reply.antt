@@ -4,8 +4,8 @@ use mathlib.Core.Bool.{cond}
 use mathlib.Core.List.{List, _++_}
 use lib.Dec.{eqb}
 use lib.ListN.{length, getD, replicate}
-use Rattle.basis.specs.declared.Refusal.{Refusal}
-use Rattle.model_points.specs.declared.Question.{Question}
+use Rattle.outcome.specs.declared.Refusal.{Refusal}
+use Rattle.question.specs.declared.Question.{Question}
 use Rattle.model_points.specs.declared.PointAnswer.{PointAnswer}
 use Rattle.reply_text.specs.declared.ReplyText.{ReplyText}
 use Rattle.reply_text.specs.Ascii.{ascii}

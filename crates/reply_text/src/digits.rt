@@ -6,8 +6,7 @@ ghost use lib.ListN.{length};
 ghost use Rattle.lent.specs.Lent.{placed};
 ghost use Rattle.reply_text.specs.Decimal.{digits, placesFrom, digitsOf, decimalOf};
 ghost use Rattle.reply_text.specs.Inner.Put.{Put};
-
-const UNIT: u64 = 1_000_000_000;
+use arithmetic::UNIT;
 
 // The last k digits of n.
 fn put_digits(out: &mut [u8], at: usize, n: u64, k: usize)

@@ -8,9 +8,9 @@ ghost use Rattle.reply_text.specs.Inner.Put.{Put};
 ghost use Rattle.reply_text.specs.Reply.{headerLine, questionText, resultsText, refusalLine, replyOf, replyText};
 use crate::ReplyText;
 use crate::digits;
-use basis::Refusal;
 use model_points::PointAnswer;
-use model_points::Question;
+use outcome::Refusal;
+use question::Question;
 
 pub fn put_header(out: &mut [u8], at: usize) -> usize
     requires { ⌜ at + 192 ≤ length (now out) ⌝ }

@@ -10,10 +10,10 @@ use lib.IntN.{ℤ}
 use lib.ListN.{length, take, drop, length-drop}
 use lib.Seq.{length-take-le}
 use borrow.Author.Tests.{le-leb, lt-leb, lt-ltb, le-ltb, leb-true, ltb-true, not-true}
-use Rattle.basis.specs.declared.Refusal.{Refusal}
-use Rattle.basis.specs.Outcome.{passed, refusedBy, value, refused, refusal}
-use Rattle.basis.specs.Refusals.{isListed}
-use Rattle.basis.proofs.Outcome.{unless-passed, both-passed, checked-value}
+use Rattle.outcome.specs.declared.Refusal.{Refusal}
+use Rattle.outcome.specs.Outcome.{passed, refusedBy, value, refused, refusal}
+use Rattle.outcome.specs.Refusals.{isListed}
+use Rattle.outcome.proofs.Outcome.{unless-passed, both-passed, checked-value}
 use Rattle.roll.specs.Roll.{joinCheck, leaveCheck, liabilityOn, liabilityJoining}
 use Rattle.roll.specs.Kept.{rollCheck, yearIn, countIn, numbersIn, placeOf, joining, leaving}
 use Rattle.roll.proofs.Numbers.{place-listed, listed-place}

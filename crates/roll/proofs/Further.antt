@@ -6,7 +6,7 @@ use native.Mathlib.Omega.{arith}
 use lib.IntN.{ℤ, natAbs}
 use lib.ListN.{drop, set}
 use lib.Seq.{drop-set-lt}
-use Rattle.basis.specs.Outcome.{Finding, passed, refusedBy, Outcome, value, refused, checked, andThen}
+use Rattle.outcome.specs.Outcome.{Finding, passed, refusedBy, Outcome, value, refused, checked, andThen}
 use Rattle.roll.specs.Roll.{Call, joins, leaves, afterCall}
 use Rattle.roll.specs.Kept.{rollCheck, countIn, numbersIn, opened, openedRoll, withMember, placeOf, withoutMember, joining, leaving, rollBy, rollAfter}
 use Rattle.roll.specs.Totals.{FurtherKept}

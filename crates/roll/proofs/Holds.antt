@@ -8,12 +8,12 @@ use native.Mathlib.Omega.{arith}
 use lib.IntN.{ℤ, pos, natAbs}
 use lib.ListN.{length, getD, set, length-set, length-map}
 use lib.Seq.{getD-set-same, getD-set-other}
-use Rattle.basis.specs.declared.Refusal.{Refusal}
-use Rattle.basis.specs.Outcome.{Finding, passed, refusedBy, Outcome, value, refused, checked, andThen}
+use Rattle.outcome.specs.declared.Refusal.{Refusal}
+use Rattle.outcome.specs.Outcome.{Finding, passed, refusedBy, Outcome, value, refused, checked, andThen}
 use Rattle.roll.specs.Roll.{Member, numbersOf, totalOf, leaveCheck, liabilityJoining, others, Call, joins, leaves, memberOf, membersBy, afterCall, membersAfter}
 use Rattle.roll.specs.Kept.{yearIn, countIn, areaIn, numbersIn, totalIn, opened, withMember, placeOf, without, withoutMember}
 use Rattle.roll.specs.Kept.{joining, leaving, totalSaid, rollBy, rollAfter}
-use Rattle.basis.proofs.Outcome.{checked-value}
+use Rattle.outcome.proofs.Outcome.{checked-value}
 use Rattle.roll.proofs.Places.{length-without, map-without}
 use Rattle.roll.proofs.OneMember.{with-length, with-year, with-area, out-length, out-year, out-area}
 use Rattle.roll.proofs.Numbers.{Distinct, distinct-joined, distinct-without, others-without}

@@ -7,7 +7,7 @@ use native.Mathlib.Omega.{arith}
 use lib.IntN.{ℤ, pos, natAbs}
 use Rattle.arithmetic.specs.Fraction.{U}
 use Rattle.arithmetic.proofs.Rounding.{round-abs-le}
-use Rattle.basis.specs.Outcome.{Outcome, value, refused, andThen}
+use Rattle.outcome.specs.Outcome.{Outcome, value, refused, andThen}
 use Rattle.survivorship.specs.declared.Kind.the-variants.{Cohort}
 use Rattle.enquiry.specs.Enquiry.{annuityEnquiry}
 use Rattle.enquiry.proofs.Bounded.{annuity-bounded}

@@ -5,8 +5,8 @@ use mathlib.Core.List.{List}
 use Prim.Native.Nat.{ℕ}
 use lib.Dec.{ltb, leb}
 use lib.ListN.{length}
-use Rattle.basis.specs.Refusals.{numbers, isListed, RefusesBy}
-use Rattle.basis.proofs.Refusals.{unless-by, first-by}
+use Rattle.outcome.specs.Refusals.{numbers, isListed, RefusesBy}
+use Rattle.outcome.proofs.Refusals.{unless-by, first-by}
 use Rattle.roll.specs.Roll.{joinCheck, leaveCheck}
 use Rattle.roll.specs.Kept.{rollCheck}
 

@@ -8,7 +8,7 @@ use native.Mathlib.Decide.{ℕ-discrete}
 use lib.Dec.{eqb, ltb}
 use lib.ListN.{length}
 use borrow.Author.Tests.{eq-eqb, ne-eqb, eqb-true, eqb-false, lt-ltb, ltb-true}
-use Rattle.basis.specs.Refusals.{isListed}
+use Rattle.outcome.specs.Refusals.{isListed}
 use Rattle.roll.specs.Roll.{Member, numbersOf, others}
 use Rattle.roll.specs.Kept.{placeOf, without}
 

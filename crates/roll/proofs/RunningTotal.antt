@@ -5,7 +5,7 @@ use mathlib.Core.List.{List, []}
 use Prim.Native.Nat.{ℕ}
 use native.Mathlib.Omega.{arith}
 use lib.IntN.{pos}
-use Rattle.basis.specs.Outcome.{value}
+use Rattle.outcome.specs.Outcome.{value}
 use Rattle.roll.specs.Roll.{Member, membersAfter}
 use Rattle.roll.specs.Kept.{opened, rollAfter}
 use Rattle.roll.specs.Totals.{Stands, RunningTotal}

@@ -6,7 +6,7 @@ use mathlib.Core.List.{List, [], _∷_, _++_}
 use lib.Dec.{eqb, leb}
 use lib.IntN.{ℤ, pos, natAbs}
 use lib.ListN.{length, getD, take, drop, set}
-use Rattle.basis.specs.Outcome.{Finding, Outcome, value, refusal, unless, firstOf, checked, andThen}
+use Rattle.outcome.specs.Outcome.{Finding, Outcome, value, refusal, unless, firstOf, checked, andThen}
 use Rattle.roll.specs.Roll.{added, leaveCheck, liabilityJoining, Call, joins, leaves, afterCall}
 
 -- ---- what a list holds

@@ -7,8 +7,8 @@ use lib.Dec.{eqb, ltb, leb}
 use lib.IntN.{ℤ, pos, natAbs, _*ℤ_}
 use lib.ListN.{length}
 use Rattle.arithmetic.specs.Fraction.{whole, _/ᶠ_, round, U}
-use Rattle.basis.specs.Outcome.{Finding, Outcome, value, refused, refusal, unless, firstOf, checked, andThen}
-use Rattle.basis.specs.Refusals.{isListed}
+use Rattle.outcome.specs.Outcome.{Finding, Outcome, value, refused, refusal, unless, firstOf, checked, andThen}
+use Rattle.outcome.specs.Refusals.{isListed}
 use Rattle.survivorship.specs.declared.Kind.the-variants.{Cohort}
 use Rattle.enquiry.specs.Enquiry.{annuityEnquiry}
 

@@ -5,7 +5,7 @@ use mathlib.Core.List.{List, [], map}
 use Prim.Native.Nat.{ℕ, _*_, _^_, _≤_, _<_}
 use lib.IntN.{pos}
 use lib.ListN.{length, drop}
-use Rattle.basis.specs.Outcome.{value, andThen}
+use Rattle.outcome.specs.Outcome.{value, andThen}
 use Rattle.roll.specs.Roll.{Member, numbersOf, totalOf, Call, leaves, membersBy, afterCall, membersAfter}
 use Rattle.roll.specs.Kept.{yearIn, numbersIn, agesIn, pensionsIn, liabilitiesIn, openedRoll, totalSaid, totalAnswer, rollBy, rollAfter}
 

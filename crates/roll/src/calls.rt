@@ -1,13 +1,13 @@
 // The four calls. Each decides first and writes afterwards, so that a refused one changes nothing.
 ghost use mathlib.Core.Path.{_≡_};
-ghost use Rattle.basis.specs.Outcome.{finding, meaning};
+ghost use Rattle.outcome.specs.Outcome.{finding, meaning};
 ghost use Rattle.roll.specs.Roll.{afterCall};
 ghost use Rattle.roll.specs.Kept.{rollCheck, openedRoll, joining, joinedRoll, leaving, leftRoll, totalSaid, totalAnswer};
 use crate::changes;
 use crate::joins;
 use crate::kept;
-use basis::Answer;
-use basis::Check;
+use outcome::Answer;
+use outcome::Check;
 
 // An empty roll for one valuation year, which is not checked here.
 pub fn open_roll(year: u32, roll: &mut [u64]) -> Check

@@ -3,16 +3,15 @@ ghost use mathlib.Core.Path.{_≡_};
 ghost use Prim.Native.Nat.{_≤_};
 ghost use lib.IntN.{pos};
 ghost use lib.ListN.{length};
-ghost use Rattle.basis.specs.Outcome.{finding, refusedBy, refusal, meaning};
+ghost use Rattle.outcome.specs.Outcome.{finding, refusedBy, refusal, meaning};
 ghost use Rattle.roll.specs.Roll.{joinCheck, leaveCheck, liabilityOf, liabilityOn, liabilityJoining};
 ghost use Rattle.roll.specs.Kept.{yearIn, numbersIn};
 use crate::kept;
-use basis::Answer;
-use basis::Check;
-use basis::Refusal;
+use arithmetic::UNIT;
+use outcome::Answer;
+use outcome::Check;
+use outcome::Refusal;
 use survivorship::Kind;
-
-const UNIT: u64 = 1_000_000_000;
 
 // A refusal that names a member.
 fn refused(number: u32, member: u32) -> Check

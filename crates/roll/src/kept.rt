@@ -2,11 +2,11 @@
 ghost use mathlib.Core.Path.{_≡_};
 ghost use Prim.Native.Nat.{_%_, _^_, _≤_};
 ghost use lib.ListN.{length};
-ghost use Rattle.basis.specs.Outcome.{finding};
+ghost use Rattle.outcome.specs.Outcome.{finding};
 ghost use Rattle.roll.specs.Roll.{added};
 ghost use Rattle.roll.specs.Kept.{rollCheck, yearIn, countIn, numbersIn, placeOf, totalIn};
-use basis::Check;
-use basis::Refusal;
+use outcome::Check;
+use outcome::Refusal;
 
 // 11: the list is too short.
 pub(crate) fn check_roll(roll: &[u64]) -> Check

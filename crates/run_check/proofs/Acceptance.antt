@@ -10,7 +10,7 @@ use lib.Seq.{getD-take}
 use lib.Dec.{eqb, eqb→eq}
 use lib.IntN.{pos, negℤ}
 use Rattle.little_endian.specs.Bytes.{byteAt, i32At}
-use Rattle.basis.specs.Outcome.{passed, refusedBy, refusal}
+use Rattle.outcome.specs.Outcome.{passed, refusedBy, refusal}
 use Rattle.basis.specs.Basis.{basisOf, termsAt, ConvergenceLimits, Accepted}
 use Rattle.field_check.specs.declared.Number.the-variants.{Byte, Word, SignedWord}
 use Rattle.field_check.specs.Field.{field, fieldsCheck}

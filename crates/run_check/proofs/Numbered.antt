@@ -4,8 +4,8 @@ use mathlib.Core.List.{List}
 use Prim.Native.Nat.{ℕ}
 use lib.Dec.{eqb}
 use lib.ListN.{length}
-use Rattle.basis.specs.Refusals.{numbers, isListed, RefusesBy}
-use Rattle.basis.proofs.Refusals.{refused-by, cond-by}
+use Rattle.outcome.specs.Refusals.{numbers, isListed, RefusesBy}
+use Rattle.outcome.proofs.Refusals.{refused-by, cond-by}
 use Rattle.field_check.proofs.Numbered.{areListed, fields-by}
 use Rattle.run_check.specs.Run.{runFields, runCheck}
 

@@ -4,7 +4,7 @@ use mathlib.Core.List.{List, _++_}
 use Prim.Native.Nat.{ℕ}
 use lib.ListN.{length, take, drop}
 use borrow.Author.Tests.{eq-eqb}
-use Rattle.basis.specs.Outcome.{Finding, firstOf}
+use Rattle.outcome.specs.Outcome.{Finding, firstOf}
 use Rattle.field_check.specs.Field.{fieldsCheck}
 use Rattle.field_check.proofs.Fields.{rows-join}
 use Rattle.run_check.specs.Run.{runFields, runCheck}

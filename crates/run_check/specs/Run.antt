@@ -5,7 +5,7 @@ use mathlib.Core.List.{List, [], _∷_}
 use lib.ListN.{length}
 use lib.Dec.{eqb}
 use lib.IntN.{pos, negℤ}
-use Rattle.basis.specs.Outcome.{Finding, refusedBy, refusal}
+use Rattle.outcome.specs.Outcome.{Finding, refusedBy, refusal}
 use Rattle.field_check.specs.declared.Field.{Field}
 use Rattle.field_check.specs.declared.Number.the-variants.{Byte, Half, Word, SignedWord}
 use Rattle.field_check.specs.Field.{field, fieldsCheck}

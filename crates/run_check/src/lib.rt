@@ -2,11 +2,11 @@
 mod rows;
 
 ghost use mathlib.Core.Path.{_≡_};
-ghost use Rattle.basis.specs.Outcome.{finding};
+ghost use Rattle.outcome.specs.Outcome.{finding};
 ghost use Rattle.run_check.specs.Run.{runCheck};
-use basis::Check;
-use basis::Refusal;
-use basis::first_of;
+use outcome::Check;
+use outcome::Refusal;
+use outcome::first_of;
 
 // The first refusal of a data run.
 pub fn check_run(run: &[u8]) -> Check

@@ -3,15 +3,15 @@
 // tables every number is looked at, several at a time, and only where one is outside its limits is the first such sought.
 ghost use mathlib.Core.Path.{_≡_};
 ghost use lib.ListN.{length, take, drop};
-ghost use Rattle.basis.specs.Outcome.{finding};
+ghost use Rattle.outcome.specs.Outcome.{finding};
 ghost use Rattle.field_check.specs.Field.{fieldsCheck};
 ghost use Rattle.run_check.specs.Run.{runFields};
-use basis::Check;
-use basis::first_of;
 use field_check::Field;
 use field_check::Number;
 use field_check::all_within;
 use field_check::check_field;
+use outcome::Check;
+use outcome::first_of;
 
 // The letters MPB1 and the zero bytes (4).
 pub(crate) fn check_mark(run: &[u8]) -> Check

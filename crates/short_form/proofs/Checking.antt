@@ -6,12 +6,12 @@ use mathlib.Core.List.{List}
 use Prim.Native.Nat.{ℕ, _-_, _≤_}
 use lib.ListN.{length}
 use lib.IntN.{ℤ, pos, negℤ, natAbs}
-use Rattle.basis.specs.declared.Refusal.{Refusal}
+use Rattle.outcome.specs.declared.Refusal.{Refusal}
 use Rattle.basis.specs.Basis.{Accepted}
-use Rattle.basis.specs.Outcome.{Finding, passed, refusedBy, refusal, unless, firstOf}
+use Rattle.outcome.specs.Outcome.{Finding, passed, refusedBy, refusal, unless, firstOf}
 use Rattle.field_check.specs.Field.{between}
 use Rattle.run_check.specs.Run.{runCheck}
-use Rattle.basis.proofs.Outcome.{first-stands, unless-passed, both-passed}
+use Rattle.outcome.proofs.Outcome.{first-stands, unless-passed, both-passed}
 use Rattle.field_check.proofs.Limits.{opened, size}
 use Rattle.run_check.proofs.Acceptance.{accepted}
 use Rattle.lent.specs.Lent.{roomCheck}

@@ -3,8 +3,8 @@ use mathlib.Core.Path.{refl}
 use mathlib.Core.List.{List}
 use Prim.Native.Nat.{ℕ}
 use lib.IntN.{ℤ, pos, negℤ}
-use Rattle.basis.specs.Refusals.{numbers, isListed, RefusesBy}
-use Rattle.basis.proofs.Refusals.{unless-by, first-by}
+use Rattle.outcome.specs.Refusals.{numbers, isListed, RefusesBy}
+use Rattle.outcome.proofs.Refusals.{unless-by, first-by}
 use Rattle.field_check.specs.Field.{between}
 use Rattle.run_check.proofs.Numbered.{run-numbered}
 use Rattle.short_form.specs.ShortForm.{shortFormCheck}

@@ -8,7 +8,7 @@ use lib.IntN.{ℤ, pos, negℤ, _*ℤ_}
 use Rattle.arithmetic.specs.Round.{roundDiv}
 use Rattle.basis.specs.declared.Convergence.{Convergence}
 use Rattle.little_endian.specs.Bytes.{i32Bytes}
-use Rattle.basis.specs.Outcome.{Finding, passed, refusal, unless, firstOf}
+use Rattle.outcome.specs.Outcome.{Finding, passed, refusal, unless, firstOf}
 use Rattle.field_check.specs.Field.{between}
 use Rattle.run_check.specs.Run.{runCheck}
 use Rattle.basis.specs.Basis.{Basis, basisOf}

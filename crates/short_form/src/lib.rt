@@ -4,11 +4,11 @@ mod parts;
 mod rates;
 
 ghost use mathlib.Core.Path.{_≡_};
-ghost use Rattle.basis.specs.Outcome.{firstOf, finding};
+ghost use Rattle.outcome.specs.Outcome.{firstOf, finding};
 ghost use Rattle.lent.specs.Lent.{roomCheck, written};
 ghost use Rattle.short_form.specs.ShortForm.{shortFormCheck, shortFormOf};
-use basis::Check;
-use basis::Refusal;
+use outcome::Check;
+use outcome::Refusal;
 
 // The run's own check, then S.
 fn check_short_form(run: &[u8], rate: i32) -> Check
@@ -34,7 +34,7 @@ pub fn short_form(run: &[u8], rate: i32, out: &mut [u8]) -> Check
     ensures { λ r. ⌜ finding r ≡ firstOf (roomCheck 4554 (now (out .entry))) (shortFormCheck (now (run .entry)) rate) ⌝ }
     ensures { λ r. ⌜ now (out .exit) ≡ written (finding r) (shortFormOf (now (run .entry)) rate) (now (out .entry)) ⌝ }
 {
-    let c = basis::first_of(
+    let c = outcome::first_of(
         lent::check_room(4554, out.len()),
         check_short_form(run, rate),
     );

@@ -2,8 +2,8 @@
 use Prim.Native.Nat.{ℕ}
 use mathlib.Core.List.{List, map}
 use lib.ListN.{replicate}
-use Rattle.basis.specs.Outcome.{Finding, passed, refusedBy, noRefusal}
-use Rattle.history.specs.History.{basisWith, basisCheck}
+use Rattle.outcome.specs.Outcome.{Finding, passed, refusedBy, noRefusal}
+use Rattle.history.specs.History.{basisWith, runAndHistoryCheck}
 use Rattle.model_points.specs.declared.PointAnswer.{PointAnswer}
 use Rattle.model_points.specs.Point.{noResults, pointOf}
 use Rattle.small_set.specs.declared.Questions.{Questions}
@@ -15,4 +15,4 @@ setOf passed points = record { refusal = noRefusal; points = points }
 setOf (refusedBy r) points = record { refusal = r; points = replicate 6 (record { results = noResults; refusal = noRefusal }) }
 
 unfoldable pub smallSetOf : List ℕ → List ℕ → Questions → SmallSet
-smallSetOf run history questions = setOf (basisCheck run history) (map (pointOf (basisWith run history)) (questions .points))
+smallSetOf run history questions = setOf (runAndHistoryCheck run history) (map (pointOf (basisWith run history)) (questions .points))

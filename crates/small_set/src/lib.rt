@@ -4,10 +4,10 @@ ghost use mathlib.Core.List.{map};
 ghost use Rattle.history.specs.History.{basisWith, Workable};
 ghost use Rattle.model_points.specs.Point.{pointOf};
 ghost use Rattle.small_set.specs.SmallSet.{smallSetOf};
-use basis::Check;
-use basis::Refusal;
 use model_points::PointAnswer;
-use model_points::Question;
+use outcome::Check;
+use outcome::Refusal;
+use question::Question;
 
 // The six questions of the small set.
 #[repr(C)]
@@ -46,7 +46,7 @@ pub fn small_set(run: &[u8], history: &[u8], questions: Questions) -> SmallSet
         first: 0,
         second: 0,
     };
-    match history::check::check_basis(run, history) {
+    match history::check::check_run_and_history(run, history) {
         Check::Passed => {
             let asked = questions.points;
             let points = six(run, history, asked);

@@ -10,9 +10,9 @@ use Rattle.arithmetic.specs.Round.{roundDiv}
 use Rattle.arithmetic.proofs.Difference.{ring, ⊖-eq}
 use Rattle.arithmetic.proofs.Rounding.{round-abs-le}
 use Rattle.basis.specs.Basis.{Basis}
-use Rattle.basis.specs.Outcome.{Outcome, value, refused}
-use Rattle.basis.specs.declared.Refusal.{Refusal}
-use Rattle.basis.proofs.Outcome.{none, next, persists, came, along}
+use Rattle.outcome.specs.Outcome.{Outcome, value, refused}
+use Rattle.outcome.specs.declared.Refusal.{Refusal}
+use Rattle.outcome.proofs.Outcome.{none, next, persists, came, along}
 use Rattle.projection.specs.Projection.{rateOf}
 use Rattle.projection.proofs.Years.{rate-small}
 use Rattle.survivorship.specs.Survivorship.{yearOn, survivorsNext, survivorsAfterYear, survivorsStep, survivorsOf}

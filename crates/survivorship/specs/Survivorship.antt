@@ -2,7 +2,7 @@
 use Prim.Native.Nat.{ℕ, _+_}
 use lib.IntN.{ℤ, pos, _-ℤ_, _*ℤ_}
 use Rattle.arithmetic.specs.Fraction.{whole, _/ᶠ_, round, U}
-use Rattle.basis.specs.Outcome.{Outcome, value, andThen, steps}
+use Rattle.outcome.specs.Outcome.{Outcome, value, andThen, steps}
 use Rattle.basis.specs.Basis.{Basis}
 use Rattle.projection.specs.Projection.{rateOf}
 use Rattle.survivorship.specs.declared.Kind.{Kind}

@@ -3,18 +3,17 @@ ghost use mathlib.Core.Path.{_≡_};
 ghost use Prim.Native.Nat.{_+_, _≤_};
 ghost use lib.IntN.{pos};
 ghost use Rattle.history.specs.History.{basisWith, Workable};
-ghost use Rattle.basis.specs.Outcome.{meaning};
+ghost use Rattle.outcome.specs.Outcome.{meaning};
 ghost use Rattle.projection.specs.Projection.{rateOf};
 ghost use Rattle.survivorship.specs.Survivorship.{yearOn, survivorsNext, survivorsAfterYear, survivorsOf};
-use basis::Answer;
+use arithmetic::UNIT;
+use outcome::Answer;
 
 // How a life passes through the rates: the period kind stays in one year, the cohort kind moves with the age.
 pub enum Kind {
     Period,
     Cohort,
 }
-
-const UNIT: u64 = 1_000_000_000;
 
 // The year of the rate j years on.
 pub fn year_on(kind: Kind, year: u32, j: u32) -> u32

@@ -9,7 +9,7 @@ use lib.IntN.{pos}
 use lib.ListN.{getD}
 use borrow.Author.Tests.{lt-ltb, le-ltb}
 use Rattle.arithmetic.specs.Fraction.{U}
-use Rattle.basis.specs.Outcome.{andThen, steps}
+use Rattle.outcome.specs.Outcome.{andThen, steps}
 use Rattle.basis.specs.Basis.{Basis}
 use Rattle.improvement.specs.Improvement.{improvementOf}
 use Rattle.projection.specs.Projection.{factorFrom, factorStep, heldYear, factorOf}

@@ -7,7 +7,7 @@ use native.Mathlib.Decide.{decLt}
 use native.Mathlib.Omega.{arith}
 use lib.IntN.{ℤ, pos, natAbs}
 use lib.ListN.{length, getD}
-use Rattle.basis.specs.Outcome.{Outcome, value, refused}
+use Rattle.outcome.specs.Outcome.{Outcome, value, refused}
 use Rattle.sweep.specs.Sweep.{State}
 use Rattle.sweep.specs.Held.{refusedNumber, heldIn, Holds}
 use Rattle.sweep.specs.Fixed.{HeldIsFixed}

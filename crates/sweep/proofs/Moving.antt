@@ -3,8 +3,8 @@ use mathlib.Core.Path.{_≡_, _∙_, ap, refl}
 use mathlib.Core.Bool.{Bool, true, false, cond}
 use Prim.Native.Nat.{ℕ}
 use lib.IntN.{ℤ}
-use Rattle.basis.specs.declared.Refusal.{Refusal}
-use Rattle.basis.specs.Outcome.{Outcome, value, refused, andThen}
+use Rattle.outcome.specs.declared.Refusal.{Refusal}
+use Rattle.outcome.specs.Outcome.{Outcome, value, refused, andThen}
 use Rattle.basis.specs.Basis.{Basis}
 use Rattle.sweep.specs.Sweep.{factorOn, moves, movedOn}
 

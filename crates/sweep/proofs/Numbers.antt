@@ -4,8 +4,8 @@ use Prim.Native.Nat.{ℕ, _+_, _*_, _-_, _/_, _%_, _≤_, _<_}
 use native.Mathlib.Omega.{arith}
 use lib.IntN.{pos}
 use borrow.Author.Tests.{le-leb, lt-leb}
-use Rattle.basis.specs.declared.Refusal.{Refusal}
-use Rattle.basis.specs.Outcome.{value, refused, refusal}
+use Rattle.outcome.specs.declared.Refusal.{Refusal}
+use Rattle.outcome.specs.Outcome.{value, refused, refusal}
 use Rattle.sweep.specs.Held.{refusedNumber, heldIn}
 
 module _ (age : ℕ) where

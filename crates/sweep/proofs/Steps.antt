@@ -6,9 +6,9 @@ use Prim.Native.Nat.{ℕ, zero, suc, _+_, _-_, _≤_}
 use native.Mathlib.Nat.{suc-add, zero-add}
 use native.Mathlib.Omega.{arith}
 use lib.ListN.{getD}
-use Rattle.basis.specs.declared.Refusal.{Refusal}
+use Rattle.outcome.specs.declared.Refusal.{Refusal}
 use Rattle.basis.specs.Basis.{Basis}
-use Rattle.basis.specs.Outcome.{Outcome, refused}
+use Rattle.outcome.specs.Outcome.{Outcome, refused}
 use Rattle.history.specs.History.{basisWith}
 use Rattle.history.proofs.Acceptance.{accepted-workable}
 use Rattle.history.proofs.With.{limits-with}

@@ -4,9 +4,9 @@ use mathlib.Core.Path.{_≡_}
 use mathlib.Core.List.{List}
 use Prim.Native.Nat.{ℕ, suc, _+_, _≤_, _<_}
 use lib.ListN.{length}
-use Rattle.basis.specs.declared.Refusal.{Refusal}
-use Rattle.basis.specs.Outcome.{passed, refused}
-use Rattle.history.specs.History.{basisWith, basisCheck}
+use Rattle.outcome.specs.declared.Refusal.{Refusal}
+use Rattle.outcome.specs.Outcome.{passed, refused}
+use Rattle.history.specs.History.{basisWith, runAndHistoryCheck}
 use Rattle.projection.specs.Projection.{factorOf}
 use Rattle.sweep.specs.Sweep.{sweepStart, sweepStep}
 use Rattle.sweep.specs.Held.{stateIn, Holds}
@@ -19,7 +19,7 @@ pub record Swept (run history : List ℕ) (lists : ℕ → List ℕ) (n : ℕ) :
 
 pub record EachStep (run history : List ℕ) : Type 0 where
   -- on an accepted basis and history, after k steps, at each age
-  pub factor : basisCheck run history ≡ passed → (lists : ℕ → List ℕ) (n : ℕ) → Swept run history lists n →
+  pub factor : runAndHistoryCheck run history ≡ passed → (lists : ℕ → List ℕ) (n : ℕ) → Swept run history lists n →
       (k : ℕ) → k ≤ n → (age : ℕ) → 20 ≤ age → age ≤ 150 → stateIn (lists k) age ≡ factorOf (basisWith run history) age (basisWith run history .base + k)
   -- the first refusal of an age stands after every further step
   pub first : (lists : ℕ → List ℕ) (n : ℕ) → Swept run history lists n →

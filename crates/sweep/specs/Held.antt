@@ -6,7 +6,7 @@ use Prim.Native.Nat.{ℕ, _+_, _*_, _-_, _/_, _%_, _<_}
 use lib.Dec.{leb}
 use lib.IntN.{ℤ, pos}
 use lib.ListN.{length, getD}
-use Rattle.basis.specs.Outcome.{Outcome, value, refused, refusal}
+use Rattle.outcome.specs.Outcome.{Outcome, value, refused, refusal}
 use Rattle.sweep.specs.Sweep.{State}
 
 -- the number of a refusal that is given in a year

@@ -4,7 +4,7 @@ use mathlib.Core.Bool.{Bool, cond}
 use lib.Dec.{ltb}
 use lib.IntN.{ℤ, pos}
 use Rattle.arithmetic.specs.Fraction.{U}
-use Rattle.basis.specs.Outcome.{Outcome, value, andThen}
+use Rattle.outcome.specs.Outcome.{Outcome, value, andThen}
 use Rattle.basis.specs.Basis.{Basis}
 use Rattle.improvement.specs.Improvement.{improvementOf}
 use Rattle.projection.specs.Projection.{factorFrom}

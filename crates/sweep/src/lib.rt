@@ -4,12 +4,12 @@ ghost use mathlib.Core.Path.{_≡_};
 ghost use Prim.Native.Nat.{_+_, _-_, _≤_, _<_};
 ghost use lib.Dec.{ltb};
 ghost use lib.ListN.{length};
-ghost use Rattle.basis.specs.Outcome.{meaning};
+ghost use Rattle.outcome.specs.Outcome.{meaning};
 ghost use Rattle.history.specs.History.{basisWith, Workable};
 ghost use Rattle.sweep.specs.Sweep.{sweepStart, movedOn, sweepStep};
 ghost use Rattle.sweep.specs.Held.{refusedNumber, heldIn, stateIn, Holds};
-use basis::Answer;
-use basis::Refusal;
+use outcome::Answer;
+use outcome::Refusal;
 
 // The number of a refusal that is given in a year.
 fn refused_number(number: u32, year: u32) -> u32

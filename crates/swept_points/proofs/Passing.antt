@@ -7,9 +7,9 @@ use lib.IntN.{ℤ, pos}
 use borrow.Author.Tests.{lt-ltb, le-ltb}
 use Rattle.arithmetic.specs.Fraction.{U}
 use Rattle.basis.specs.Basis.{Basis}
-use Rattle.basis.specs.declared.Refusal.{Refusal}
-use Rattle.basis.specs.Outcome.{value, refused, sumOf}
-use Rattle.basis.proofs.Outcome.{sum-none, sum-next}
+use Rattle.outcome.specs.declared.Refusal.{Refusal}
+use Rattle.outcome.specs.Outcome.{value, refused, sumOf}
+use Rattle.outcome.proofs.Outcome.{sum-none, sum-next}
 use Rattle.survivorship.specs.declared.Kind.{Kind}
 use Rattle.survivorship.specs.Survivorship.{yearOn, survivorsAfterYear, survivorsOf}
 use Rattle.survivorship.proofs.Survivors.{year-late, survivors-next, survivors-refused}

@@ -1,6 +1,6 @@
 -- What one walk along the rates of a life gives: its expectation and an annuity, or the first refusal, which is that of both.
 use lib.IntN.{ℤ, pos}
-use Rattle.basis.specs.Outcome.{Outcome, value, refused}
+use Rattle.outcome.specs.Outcome.{Outcome, value, refused}
 use Rattle.swept_points.specs.declared.passage.Passage.{Passage}
 use Rattle.swept_points.specs.declared.passage.Passage.the-variants.{Values, Refused}
 

@@ -1,3 +1,3 @@
-// Model points and records answered from the workings of a grid: the same answers as the direct engine's.
+// Model points and records answered from the table of a grid: the same answers as the direct engine's.
 pub mod passage;
 pub mod points;

@@ -2,20 +2,18 @@
 ghost use mathlib.Core.Path.{_≡_};
 ghost use Prim.Native.Nat.{_+_, _≤_};
 ghost use lib.IntN.{pos};
-ghost use Rattle.basis.specs.Outcome.{meaning};
+ghost use Rattle.outcome.specs.Outcome.{meaning};
 ghost use Rattle.history.specs.History.{basisWith, Workable};
 ghost use Rattle.survivorship.specs.Survivorship.{survivorsAfterYear};
 ghost use Rattle.valuation.specs.Valuation.{expectationOf, annuityOf};
-ghost use Rattle.workings.specs.Workings.{Workings};
+ghost use Rattle.factor_table.specs.FactorTable.{FactorTable};
 ghost use Rattle.swept_points.specs.Passage.{expectationIn, annuityIn};
 ghost use Rattle.swept_points.specs.Inner.Due.{dueAfter};
-use basis::Answer;
-use basis::Refusal;
+use arithmetic::HALF_UNIT;
+use arithmetic::UNIT;
+use outcome::Answer;
+use outcome::Refusal;
 use survivorship::Kind;
-
-const UNIT: u64 = 1_000_000_000;
-
-const HALF: u64 = 500_000_000;
 
 // The expectation from the age itself, and the annuity; or the first refusal, which is that of both.
 pub enum Passage {
@@ -23,46 +21,46 @@ pub enum Passage {
     Refused(Refusal),
 }
 
-// The survivors after a year at an age, by the factor of the workings.
+// The survivors after a year at an age, by the factor of the table.
 fn survivors_after_year(
     run: &[u8],
     history: &[u8],
-    workings: &[u32],
+    table: &[u32],
     age: u32,
     year: u32,
     s: u64,
 ) -> Answer
-    requires { ⌜ Workable (now run) (now history) × Workings (basisWith (now run) (now history)) (now workings) × (20 ≤ age) × (age ≤ 150)
+    requires { ⌜ Workable (now run) (now history) × FactorTable (basisWith (now run) (now history)) (now table) × (20 ≤ age) × (age ≤ 150)
         × (basisWith (now run) (now history) .base ≤ year) × (s ≤ 1_000_000_000) ⌝ }
     ensures { λ r. ⌜ meaning r ≡ survivorsAfterYear (basisWith (now (run .entry)) (now (history .entry))) age year (pos s) ⌝ }
 {
-    let factor = workings::factors::factor(run, history, workings, age, year);
+    let factor = factor_table::factors::factor(run, history, table, age, year);
     let rate = projection::rate::rate_by(run, history, age, year, factor);
     survivorship::survivors_by(run, history, age, year, rate, s)
 }
 
 // The payment after j years to the survivors: none before the deferment's end.
-fn due(run: &[u8], history: &[u8], workings: &[u32], deferment: u32, j: u32, s: u64) -> u64
-    requires { ⌜ Workable (now run) (now history) × Workings (basisWith (now run) (now history)) (now workings) × (j ≤ 130) × (s ≤ 1_000_000_000) ⌝ }
+fn due(run: &[u8], history: &[u8], table: &[u32], deferment: u32, j: u32, s: u64) -> u64
+    requires { ⌜ Workable (now run) (now history) × FactorTable (basisWith (now run) (now history)) (now table) × (j ≤ 130) × (s ≤ 1_000_000_000) ⌝ }
     ensures { λ r. ⌜ (pos r ≡ dueAfter (basisWith (now (run .entry)) (now (history .entry))) deferment j (pos s)) × (r ≤ 4_000_000_000) ⌝ }
 {
     if j < deferment {
         return 0;
     }
-    valuation::annuity::payment(workings::discounts::discount(run, history, workings, j), s)
+    valuation::annuity::payment(factor_table::discounts::discount(run, history, table, j), s)
 }
 
 // From an age in a year to age 150, with an annuity whose payments begin after a deferment.
 pub fn passage_from(
     run: &[u8],
     history: &[u8],
-    workings: &[u32],
+    table: &[u32],
     kind: Kind,
     age: u32,
     year: u32,
     deferment: u32,
 ) -> Passage
-    requires { ⌜ Workable (now run) (now history) × Workings (basisWith (now run) (now history)) (now workings) × (20 ≤ age) × (age + deferment ≤ 150)
+    requires { ⌜ Workable (now run) (now history) × FactorTable (basisWith (now run) (now history)) (now table) × (20 ≤ age) × (age + deferment ≤ 150)
         × (basisWith (now run) (now history) .base ≤ year) × (year ≤ 2260) ⌝ }
     ensures { λ r. ⌜ expectationIn r ≡ expectationOf (basisWith (now (run .entry)) (now (history .entry))) kind age year 0 ⌝ }
     ensures { λ r. ⌜ annuityIn r ≡ annuityOf (basisWith (now (run .entry)) (now (history .entry))) kind age year deferment ⌝ }
@@ -71,12 +69,12 @@ pub fn passage_from(
     let mut s: u64 = UNIT;
     let mut j: u32 = 0;
     let mut lives: u64 = 0;
-    let mut payments = due(run, history, workings, deferment, 0, UNIT);
+    let mut payments = due(run, history, table, deferment, 0, UNIT);
     while j < last {
         match survivors_after_year(
             run,
             history,
-            workings,
+            table,
             age + j,
             survivorship::year_on(kind, year, j),
             s,
@@ -88,7 +86,7 @@ pub fn passage_from(
         }
         j += 1;
         lives += s;
-        payments += due(run, history, workings, deferment, j, s);
+        payments += due(run, history, table, deferment, j, s);
     }
-    Passage::Values(HALF + lives, payments)
+    Passage::Values(HALF_UNIT + lives, payments)
 }

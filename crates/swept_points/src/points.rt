@@ -1,20 +1,20 @@
-// A point's four results, and a record of the grid, from the workings.
+// A point's four results, and a record of the grid, from the table.
 ghost use mathlib.Core.Path.{_≡_};
 ghost use Prim.Native.Nat.{_+_, _≤_};
-ghost use Rattle.basis.specs.Outcome.{meaning};
+ghost use Rattle.outcome.specs.Outcome.{meaning};
 ghost use Rattle.history.specs.History.{basisWith, Workable};
 ghost use Rattle.valuation.specs.Valuation.{expectationOf};
-ghost use Rattle.workings.specs.Workings.{Workings, WorkedOut};
+ghost use Rattle.factor_table.specs.FactorTable.{FactorTable, Tabled};
 ghost use Rattle.model_points.specs.Point.{resultsOf, pointAnswerOf, pointOf};
 ghost use Rattle.grid_record.specs.Record.{answeredOf};
 ghost use Rattle.swept_points.specs.Passage.{expectationIn, annuityIn};
 use crate::passage;
 use crate::passage::Passage;
-use basis::Answer;
-use basis::Check;
 use grid_record::Point;
 use model_points::PointAnswer;
-use model_points::Question;
+use outcome::Answer;
+use outcome::Check;
+use question::Question;
 use survivorship::Kind;
 
 fn expectation_in(p: Passage) -> Answer
@@ -40,12 +40,12 @@ fn annuity_in(p: Passage) -> Answer
 fn expectation(
     run: &[u8],
     history: &[u8],
-    workings: &[u32],
+    table: &[u32],
     kind: Kind,
     q: Question,
     known: Passage,
 ) -> Answer
-    requires { ⌜ Workable (now run) (now history) × Workings (basisWith (now run) (now history)) (now workings) × (20 ≤ q .age)
+    requires { ⌜ Workable (now run) (now history) × FactorTable (basisWith (now run) (now history)) (now table) × (20 ≤ q .age)
         × (q .age + q .deferment ≤ 150) × (basisWith (now run) (now history) .base ≤ q .year) × (q .year ≤ 2130)
         × (expectationIn known ≡ expectationOf (basisWith (now run) (now history)) kind (q .age) (q .year) 0) ⌝ }
     ensures { λ r. ⌜ meaning r ≡ expectationOf (basisWith (now (run .entry)) (now (history .entry))) kind (q .age) (q .year) (q .deferment) ⌝ }
@@ -55,48 +55,48 @@ fn expectation(
     }
     let age = q.age + q.deferment;
     let year = q.year + q.deferment;
-    expectation_in(passage::passage_from(run, history, workings, kind, age, year, 0))
+    expectation_in(passage::passage_from(run, history, table, kind, age, year, 0))
 }
 
 // The results of a question that has been checked.
-fn results_at(run: &[u8], history: &[u8], workings: &[u32], q: Question) -> PointAnswer
-    requires { ⌜ Workable (now run) (now history) × Workings (basisWith (now run) (now history)) (now workings) × (20 ≤ q .age)
+fn results_at(run: &[u8], history: &[u8], table: &[u32], q: Question) -> PointAnswer
+    requires { ⌜ Workable (now run) (now history) × FactorTable (basisWith (now run) (now history)) (now table) × (20 ≤ q .age)
         × (q .age + q .deferment ≤ 150) × (basisWith (now run) (now history) .base ≤ q .year) × (q .year ≤ 2130) ⌝ }
     ensures { λ r. ⌜ r ≡ pointAnswerOf (resultsOf (basisWith (now (run .entry)) (now (history .entry))) (q .age) (q .deferment) (q .year)) ⌝ }
 {
     let age = q.age;
     let year = q.year;
     let wait = q.deferment;
-    let period = passage::passage_from(run, history, workings, Kind::Period, age, year, wait);
-    let cohort = passage::passage_from(run, history, workings, Kind::Cohort, age, year, wait);
+    let period = passage::passage_from(run, history, table, Kind::Period, age, year, wait);
+    let cohort = passage::passage_from(run, history, table, Kind::Cohort, age, year, wait);
     model_points::four(
-        expectation(run, history, workings, Kind::Period, q, period),
-        expectation(run, history, workings, Kind::Cohort, q, cohort),
+        expectation(run, history, table, Kind::Period, q, period),
+        expectation(run, history, table, Kind::Cohort, q, cohort),
         annuity_in(period),
         annuity_in(cohort),
     )
 }
 
 // The answer of a point.
-pub fn point_at(run: &[u8], history: &[u8], workings: &[u32], q: Question) -> PointAnswer
-    requires { ⌜ WorkedOut (now run) (now history) (now workings) ⌝ }
+pub fn point_at(run: &[u8], history: &[u8], table: &[u32], q: Question) -> PointAnswer
+    requires { ⌜ Tabled (now run) (now history) (now table) ⌝ }
     ensures { λ r. ⌜ r ≡ pointOf (basisWith (now (run .entry)) (now (history .entry))) q ⌝ }
 {
     match question::check_question(run, q.age, q.deferment, q.year) {
-        Check::Passed => results_at(run, history, workings, q),
+        Check::Passed => results_at(run, history, table, q),
         Check::Refused(r) => model_points::refused_point(r),
     }
 }
 
 // A record of the grid with its answer in place of what it held.
-pub fn answered(run: &[u8], history: &[u8], workings: &[u32], p: Point) -> Point
-    requires { ⌜ WorkedOut (now run) (now history) (now workings) ⌝ }
+pub fn answered(run: &[u8], history: &[u8], table: &[u32], p: Point) -> Point
+    requires { ⌜ Tabled (now run) (now history) (now table) ⌝ }
     ensures { λ r. ⌜ r ≡ answeredOf (basisWith (now (run .entry)) (now (history .entry))) p ⌝ }
 {
     let a = point_at(
         run,
         history,
-        workings,
+        table,
         Question {
             age: p.age,
             deferment: p.deferment,

@@ -2,7 +2,7 @@
 use Prim.Native.Nat.{ℕ, _*_}
 use mathlib.Core.List.{List}
 use lib.ListN.{take, drop}
-use Rattle.basis.specs.Outcome.{Finding, passed, refusedBy}
+use Rattle.outcome.specs.Outcome.{Finding, passed, refusedBy}
 use Rattle.run_check.specs.Run.{runCheck}
 use Rattle.tables.specs.declared.Table.{Table}
 use Rattle.tables.specs.declared.Table.the-variants.{BaseRates, AgeInitialRates, AgeLongTermRates, AgePeriods, AgeProportions}

@@ -2,7 +2,7 @@
 ghost use mathlib.Core.Path.{_≡_};
 ghost use Prim.Native.Nat.{_+_};
 ghost use Rattle.tables.specs.Tables.{stretchOf, tableStart, tableOf};
-use basis::Check;
+use outcome::Check;
 
 // The tables in the order in which they stand in the run: one entry for each age from 20, or for each birth year from
 // 1842. Periods are T, proportions P.

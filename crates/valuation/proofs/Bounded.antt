@@ -7,8 +7,8 @@ use lib.IntN.{ℤ, pos, _+ℤ_}
 use Rattle.arithmetic.specs.Fraction.{U}
 use Rattle.arithmetic.proofs.Rounding.{round-abs-le}
 use Rattle.basis.specs.Basis.{Basis, Limited}
-use Rattle.basis.specs.Outcome.{Outcome, value, addTo, sumOf}
-use Rattle.basis.proofs.Outcome.{came, along}
+use Rattle.outcome.specs.Outcome.{Outcome, value, addTo, sumOf}
+use Rattle.outcome.proofs.Outcome.{came, along}
 use Rattle.survivorship.specs.declared.Kind.{Kind}
 use Rattle.survivorship.specs.Survivorship.{survivorsOf}
 use Rattle.survivorship.proofs.Survivors.{survivors-natural}

@@ -4,7 +4,7 @@ use Prim.Native.Nat.{ℕ, _/_}
 use lib.IntN.{pos}
 use Rattle.arithmetic.specs.Fraction.{U}
 use Rattle.basis.specs.Basis.{Basis}
-use Rattle.basis.specs.Outcome.{value, steps, sumOf}
+use Rattle.outcome.specs.Outcome.{value, steps, sumOf}
 use Rattle.survivorship.specs.Survivorship.{survivorsOf}
 use Rattle.valuation.specs.Valuation.{curtateOf, expectationOf, discountAfter, paymentAfter, annuityOf}
 use Rattle.survivorship.specs.declared.Kind.{Kind}

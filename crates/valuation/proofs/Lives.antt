@@ -6,9 +6,9 @@ use native.Mathlib.Numerals.{add-one}
 use lib.IntN.{ℤ, pos, _+ℤ_}
 use Rattle.arithmetic.specs.Fraction.{U}
 use Rattle.basis.specs.Basis.{Basis}
-use Rattle.basis.specs.Outcome.{Outcome, value, refused, andThen}
-use Rattle.basis.specs.declared.Refusal.{Refusal}
-use Rattle.basis.proofs.Outcome.{sum-none, sum-next, sum-refused}
+use Rattle.outcome.specs.Outcome.{Outcome, value, refused, andThen}
+use Rattle.outcome.specs.declared.Refusal.{Refusal}
+use Rattle.outcome.proofs.Outcome.{sum-none, sum-next, sum-refused}
 use Rattle.survivorship.specs.Survivorship.{yearOn, survivorsAfterYear, survivorsOf}
 use Rattle.valuation.specs.Valuation.{curtateOf, expectationOf}
 use Rattle.survivorship.specs.declared.Kind.{Kind}

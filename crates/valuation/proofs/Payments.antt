@@ -7,9 +7,9 @@ use lib.IntN.{ℤ, pos, _+ℤ_}
 use Rattle.arithmetic.specs.Fraction.{U}
 use Rattle.arithmetic.proofs.Difference.{parts, ring, ⊖-eq}
 use Rattle.basis.specs.Basis.{Basis, accumulationOf}
-use Rattle.basis.specs.Outcome.{value, refused, sumOf}
-use Rattle.basis.specs.declared.Refusal.{Refusal}
-use Rattle.basis.proofs.Outcome.{sum-none, sum-next, sum-refused}
+use Rattle.outcome.specs.Outcome.{value, refused, sumOf}
+use Rattle.outcome.specs.declared.Refusal.{Refusal}
+use Rattle.outcome.proofs.Outcome.{sum-none, sum-next, sum-refused}
 use Rattle.survivorship.specs.Survivorship.{yearOn, survivorsAfterYear, survivorsOf}
 use Rattle.valuation.specs.Valuation.{discountNext, discountAfter, payment, paymentAfter, annuityOf}
 use Rattle.survivorship.specs.declared.Kind.{Kind}

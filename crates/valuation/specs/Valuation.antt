@@ -2,7 +2,7 @@
 use Prim.Native.Nat.{ℕ, zero, suc, _+_, _-_, _/_}
 use lib.IntN.{ℤ, pos, _+ℤ_, _*ℤ_}
 use Rattle.arithmetic.specs.Fraction.{_over_, whole, _/ᶠ_, round, U}
-use Rattle.basis.specs.Outcome.{Outcome, value, andThen, sumOf}
+use Rattle.outcome.specs.Outcome.{Outcome, value, andThen, sumOf}
 use Rattle.basis.specs.Basis.{Basis, accumulationOf}
 use Rattle.survivorship.specs.declared.Kind.{Kind}
 use Rattle.survivorship.specs.Survivorship.{survivorsOf}

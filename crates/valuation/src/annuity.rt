@@ -3,14 +3,13 @@ ghost use mathlib.Core.Path.{_≡_};
 ghost use Prim.Native.Nat.{_+_, _≤_};
 ghost use lib.IntN.{pos};
 ghost use Rattle.basis.specs.Basis.{basisOf, Accepted};
-ghost use Rattle.basis.specs.Outcome.{meaning, value};
+ghost use Rattle.outcome.specs.Outcome.{meaning, value};
 ghost use Rattle.history.specs.History.{basisWith, Workable};
 ghost use Rattle.survivorship.specs.Survivorship.{survivorsOf};
 ghost use Rattle.valuation.specs.Valuation.{discountNext, discountAfter, payment, annuityOf};
-use basis::Answer;
+use arithmetic::UNIT;
+use outcome::Answer;
 use survivorship::Kind;
-
-const UNIT: u64 = 1_000_000_000;
 
 // The discount a year later. At a rate below zero it grows, and stays below 4 × U for the 130 years that there are.
 pub fn discount_next(v: u64, accumulation: u64) -> u64

@@ -2,14 +2,12 @@
 ghost use mathlib.Core.Path.{_≡_};
 ghost use Prim.Native.Nat.{_+_, _≤_};
 ghost use Rattle.history.specs.History.{basisWith, Workable};
-ghost use Rattle.basis.specs.Outcome.{meaning};
+ghost use Rattle.outcome.specs.Outcome.{meaning};
 ghost use Rattle.valuation.specs.Valuation.{expectationOf};
-use basis::Answer;
+use arithmetic::HALF_UNIT;
+use arithmetic::UNIT;
+use outcome::Answer;
 use survivorship::Kind;
-
-const UNIT: u64 = 1_000_000_000;
-
-const HALF: u64 = 500_000_000;
 
 // The expectation from the deferred age in the deferred year.
 pub fn expectation_at(
@@ -45,5 +43,5 @@ pub fn expectation_at(
         j += 1;
         total += s;
     }
-    Answer::Value(HALF + total)
+    Answer::Value(HALF_UNIT + total)
 }

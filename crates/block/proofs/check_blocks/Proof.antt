@@ -4,8 +4,8 @@ use Prim.Native.Nat.{ℕ, _*_, _-_, _≤_}
 use native.Mathlib.Omega.{arith}
 use borrow.Author.Needs.{needs}
 use lib.ListN.{drop}
-use Rattle.basis.specs.Outcome.{finding}
-use Rattle.basis.proofs.Outcome.{first-stands, first-passed}
+use Rattle.outcome.specs.Outcome.{finding}
+use Rattle.outcome.proofs.Outcome.{first-stands, first-passed}
 use Rattle.block.specs.Blocks.{blocksCheck}
 use Rattle.block.proofs.Joined.{part-is, check-turn}
 use Rattle.block.proofs.check_blocks.Statement.{statement}

@@ -1,12 +1,12 @@
 -- What the check has passed is accepted.
-use Rattle.basis.proofs.Outcome.{found}
+use Rattle.outcome.proofs.Outcome.{found}
 use Rattle.history.proofs.Acceptance.{accepted-workable}
 use borrow.Author.Needs.{needs}
 use Rattle.check_sweep.proofs.sweep_case.Statement.{statement}
 use Rattle.check_sweep.proofs.sweep_case.Tie as tie
 
-check-basis-requires : tie.Need-check-basis-requires
-check-basis-requires c κs = search needs
+check-run-and-history-requires : tie.Need-check-run-and-history-requires
+check-run-and-history-requires c κs = search needs
 
 enum-told : tie.Need-enum-told
 enum-told c = search needs
@@ -15,7 +15,7 @@ sweep-years-requires : tie.Need-sweep-years-requires
 sweep-years-requires c κs =
     let k = c .before .before in
     let a = k .before .before .before .args in
-    accepted-workable (a .run .now) (a .history .now) (found (k .check-basis .ensures) (c .enum-told .given .1))
+    accepted-workable (a .run .now) (a .history .now) (found (k .check-run-and-history .ensures) (c .enum-told .given .1))
 
 enum-known-r : tie.Need-enum-known-r
 enum-known-r c = search needs
@@ -33,7 +33,7 @@ pub sweep-case-spec : {M : Type 1} → statement M
 sweep-case-spec =
     tie.close
     (tie.spec
-    check-basis-requires
+    check-run-and-history-requires
     enum-told
     sweep-years-requires
     enum-known-r

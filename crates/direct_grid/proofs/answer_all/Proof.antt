@@ -9,7 +9,7 @@ use borrow.Author.Needs.{needs}
 use Rattle.history.specs.History.{basisWith}
 use Rattle.grid_record.specs.declared.Point.{Point}
 use Rattle.grid_record.specs.Record.{answeredOf}
-use Rattle.basis.specs.Outcome.{Finding}
+use Rattle.outcome.specs.Outcome.{Finding}
 use Rattle.grid.specs.Grid.{gridCheck, recordsOf, answers}
 use Rattle.grid.proofs.Filled.{answers-none, answers-set, records-fit, turn-accepted, grid-is}
 use Rattle.direct_grid.proofs.answer_all.Statement.{statement}

@@ -8,7 +8,7 @@ use lib.ListN.{length}
 use mir.Val.{toZ}
 use mir.Syntax.{w64}
 use mir.Facts.{toZ-ofZ}
-use Rattle.basis.specs.Outcome.{passes}
+use Rattle.outcome.specs.Outcome.{passes}
 use Rattle.field_check.specs.Field.{widthOf, entriesCheck, fieldCheck}
 use Rattle.field_check.proofs.Turns.{room, also, ended, any-number}
 use Rattle.field_check.proofs.all_within.Statement.{statement}

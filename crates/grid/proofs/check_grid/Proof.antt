@@ -1,7 +1,7 @@
 -- The room decides first, then the check of the basis and its history.
 use mathlib.Core.Path.{_∙_, sym}
 use borrow.Author.Needs.{needs}
-use Rattle.basis.proofs.Outcome.{found, first-passed, first-refused}
+use Rattle.outcome.proofs.Outcome.{found, first-passed, first-refused}
 use Rattle.grid.specs.Grid.{gridCheck}
 use Rattle.grid.proofs.check_grid.Statement.{statement}
 use Rattle.grid.proofs.check_grid.Tie as tie
@@ -12,8 +12,8 @@ check-room-requires c κs = search needs
 enum-told : tie.Need-enum-told
 enum-told c = search needs
 
-check-basis-requires : tie.Need-check-basis-requires
-check-basis-requires c κs = search needs
+check-run-and-history-requires : tie.Need-check-run-and-history-requires
+check-run-and-history-requires c κs = search needs
 
 enum-known-r : tie.Need-enum-known-r
 enum-known-r c = search needs
@@ -22,11 +22,11 @@ returns : tie.Need-returns
 unfolding gridCheck
 returns c =
     let told = c .before in
-    c .check-basis .ensures ∙ sym (first-passed _ _ (found (told .before .before .check-room .ensures) (told .enum-told .given .1)))
+    c .check-run-and-history .ensures ∙ sym (first-passed _ _ (found (told .before .before .check-room .ensures) (told .enum-told .given .1)))
 
 returns-2 : tie.Need-returns-2
 unfolding gridCheck
 returns-2 c = sym (first-refused _ _ _ (found (c .before .before .before .check-room .ensures) (c .before .r .given .1)))
 
 pub check-grid-spec : {M : Type 1} → statement M
-check-grid-spec = tie.close (tie.spec check-room-requires enum-told check-basis-requires enum-known-r returns returns-2)
+check-grid-spec = tie.close (tie.spec check-room-requires enum-told check-run-and-history-requires enum-known-r returns returns-2)

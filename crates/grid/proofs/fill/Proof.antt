@@ -46,15 +46,15 @@ use denote.Triple.Walked.{says, Stays, stay-none-slice, gave-slice, onExit, walk
 use denote.Exit.{yes}
 use denote.Triple.Clauses.{ensured, lasts}
 use Rattle.history.specs.History.{basisWith}
-use Rattle.workings.specs.Workings.{WorkedOut}
+use Rattle.factor_table.specs.FactorTable.{Tabled}
 use Rattle.grid_record.specs.declared.Point.{Point}
 use Rattle.grid.specs.declared.GridStart.{GridStart}
 use Rattle.grid.specs.Grid.{gridCheck, gridStart, gridStartMeaning, answers, gridOf}
 use Rattle.grid_record.proofs.Point as P
-use Rattle.basis.proofs.Check as F
-use Rattle.basis.proofs.Check.Laws as F′
-use Rattle.basis.specs.declared.Check.{Check}
-use Rattle.basis.specs.Outcome.{Finding, finding}
+use Rattle.outcome.proofs.Check as F
+use Rattle.outcome.proofs.Check.Laws as F′
+use Rattle.outcome.specs.declared.Check.{Check}
+use Rattle.outcome.specs.Outcome.{Finding, finding}
 use Rattle.grid.proofs.Filled.{records-fit, grid-is}
 use Rattle.grid.proofs.LocalRow.{big, array-of, slice-of, Row, enough, zeros-typed, zeros-lie, row-back, row-room, val}
 use Rattle.grid.proofs.GridStart as G
@@ -187,14 +187,14 @@ module _ {M : Type 1} (𝓤 : URA M) (H : Heap 𝓤) (A : Atoms 𝓤) (W : Given
 
     -- what is known of its result f and of the row's last list r
     abbrev Begun : GridStart → List ℕ → Type 0
-    Begun f r = (length r ≡ length l) × (gridStartMeaning f ≡ found) × (0 < f .records → WorkedOut (now s₀) (now s₁) r)
+    Begun f r = (length r ≡ length l) × (gridStartMeaning f ≡ found) × (0 < f .records → Tabled (now s₀) (now s₁) r)
 
     begin-said : (f : GridStart) → ent 𝓤 (ensured 𝓤 H A begin.ended (begin.clauses 𝓤 H A at-mem run) (κ₀, (κ₁, (ν ∷ [], tt))) (s₀, (s₁, (length xs, (y, tt)))) tt f)
         (mean 𝓤 H A (some (λ (r : List ℕ). given (Begun f r) (‵ (finally u32 δ r)))))
     begin-said f =
         qed W (some (λ (rs : Unit {0} × (Unit {0} × (Unit {0} × (List ℕ × Unit {0})))). ‵ (lasts begin.ended (κ₀, (κ₁, (ν ∷ [], tt))) (s₀, (s₁, (length xs, (y, tt)))) rs)
-        ⊛ (raw (fact 𝓤 (gridStartMeaning f ≡ found)) ⊛ raw (fact 𝓤 (0 < f .records → WorkedOut (now s₀) (now s₁) (rs .1 .1 .1 .0))))) ∷ []) ∵ pick ! (λ rs. split ! $ move ! (1 ∷ []) $ split ! $
-        heard ! (gridStartMeaning f ≡ found) (λ e. heard ! (0 < f .records → WorkedOut (now s₀) (now s₁) (rs .1 .1 .1 .0)) (λ sw.
+        ⊛ (raw (fact 𝓤 (gridStartMeaning f ≡ found)) ⊛ raw (fact 𝓤 (0 < f .records → Tabled (now s₀) (now s₁) (rs .1 .1 .1 .0))))) ∷ []) ∵ pick ! (λ rs. split ! $ move ! (1 ∷ []) $ split ! $
+        heard ! (gridStartMeaning f ≡ found) (λ e. heard ! (0 < f .records → Tabled (now s₀) (now s₁) (rs .1 .1 .1 .0)) (λ sw.
         fsplit ! $ drop ! $ fsplit ! $ drop ! $ fsplit ! $ drop ! $ fsplit ! $ fsplit ! $ move ! (1 ∷ []) $ feqL ! (λ same.
         show ! (λ (r : List ℕ). guard 𝓤 (Begun f r) (sem 𝓤 H A (finally u32 δ r))) (rs .1 .1 .1 .0) $ check ! (same, e, sw) $ keep ! (0 ∷ []) $ done !))))
 
@@ -213,7 +213,7 @@ module _ {M : Type 1} (𝓤 : URA M) (H : Heap 𝓤) (A : Atoms 𝓤) (W : Given
         tt,
       )
 
-      goes-records : n < 2 ^ 64 → (n ≤ length xs) × (0 < n → WorkedOut (now s₀) (now s₁) l)
+      goes-records : n < 2 ^ 64 → (n ≤ length xs) × (0 < n → Tabled (now s₀) (now s₁) l)
           → ent 𝓤 (⋆ 𝓤 H A ((‵ (Mine ν) ⊛ ‵ (ShrSlice (named 2) (ν ∷ []) u32 .own y (val y ∷ []))) ∷ (Listed ⊛ Two) ∷ Owned ∷ []))
           (⋆ 𝓤 H A (raw (Records 𝓤 H A at-mem run .pre to-records) ∷ Owned ∷ []))
       goes-records fits asked =
@@ -292,7 +292,7 @@ module _ {M : Type 1} (𝓤 : URA M) (H : Heap 𝓤) (A : Atoms 𝓤) (W : Given
 
       -- ---- `fill_records`, once `begin_grid` has left the row l
       fills : Triple 𝓤 (C #grid·fill-records) (Records 𝓤 H A at-mem run) → Room P.the-row (length xs) → (l : List ℕ) → length l ≡ 18340
-          → (0 < f .records → WorkedOut (now s₀) (now s₁) l)
+          → (0 < f .records → Tabled (now s₀) (now s₁) l)
           → ent 𝓤 (⋆ 𝓤 H A (‵ (Row l l₄) ∷ Listed ∷ Two ∷ Owned ∷ Locals (fat fullShare G′.mir l₅ 0 (start-val f)))) (Wp 𝓤 H C Λ En parts.t-6 (atReturn 𝓤 H En Post))
       fills known room l long ready =
           let fits = LL.owed G.the-type G′.the-laws f _ is .1 .0 .1 in

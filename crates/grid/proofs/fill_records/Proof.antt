@@ -1,7 +1,7 @@
 -- `grid::fill_records` meets its contract: a walk of its MIR, by hand, with a loop in it.
 -- The loop's invariant, at i: the list has its first i records answered, the borrow is shut, and every local of a turn is empty. A turn opens the borrow,
 -- takes record i out of the row, calls `answered` on a copy, stores what it returned, and shuts the borrow at the list with one record more.
--- All that the proof knows of `answered` is that it meets its contract; that the run is accepted with its history, and that the workings are those of the basis, follow from there being a turn. Assumes nothing.
+-- All that the proof knows of `answered` is that it meets its contract; that the run is accepted with its history, and that the table are those of the basis, follow from there being a turn. Assumes nothing.
 use mathlib.Core.Path.{_≡_, refl, sym, ap, subst, _∙_}
 use Prim.Native.Nat.{ℕ, _+_, _-_, _*_, _≤_, _<_, _^_, zero-le}
 use native.Mathlib.Nat.{le-antisymm, lt-of-lt-of-le, lt-of-le-of-lt}
@@ -55,7 +55,7 @@ use Rattle.arithmetic.proofs.Walk.{tests}
 use Rattle.history.specs.History.{basisWith, Workable}
 use Rattle.grid_record.specs.declared.Point.{Point}
 use Rattle.grid_record.specs.Record.{answeredOf}
-use Rattle.workings.specs.Workings.{Workings, WorkedOut}
+use Rattle.factor_table.specs.FactorTable.{FactorTable, Tabled}
 use Rattle.grid.specs.Grid.{answers}
 use Rattle.grid.proofs.Filled.{answers-none, answers-length, answers-set}
 use Rattle.grid_record.proofs.Point as P
@@ -92,8 +92,8 @@ run-ty = sliceTy (tyRef (named 0) imm (tyInt w8))
 abbrev history-ty : Ty
 history-ty = sliceTy (tyRef (named 1) imm (tyInt w8))
 
-abbrev workings-ty : Ty
-workings-ty = sliceTy (tyRef (named 2) imm (tyInt w32))
+abbrev table-ty : Ty
+table-ty = sliceTy (tyRef (named 2) imm (tyInt w32))
 
 abbrev list-ty : Ty
 list-ty = sliceTy (tyRef (named 3) mut (pointee (P.the-row .written)))
@@ -104,7 +104,7 @@ function = record {
   lifetimes = 4;
   outlives = [];
   params = 5;
-  locals = local tyUnit valueLocal ∷ local run-ty valueLocal ∷ local history-ty valueLocal ∷ local workings-ty valueLocal ∷ local word valueLocal ∷ local list-ty valueLocal ∷ local word valueLocal
+  locals = local tyUnit valueLocal ∷ local run-ty valueLocal ∷ local history-ty valueLocal ∷ local table-ty valueLocal ∷ local word valueLocal ∷ local list-ty valueLocal ∷ local word valueLocal
       ∷ local tyBool valueLocal ∷ local P′.mir valueLocal ∷ local word valueLocal ∷ local tyPtr valueLocal ∷ local P′.mir valueLocal
       ∷ local word valueLocal ∷ local tyPtr valueLocal ∷ [];
   body = parts.t-1;
@@ -145,7 +145,7 @@ module _ {M : Type 1} (𝓤 : URA M) (H : Heap 𝓤) (A : Atoms 𝓤) (W : Given
   abbrev Post : Val → SProp 𝓤
   Post = walkOf 𝓤 H A fill.ended stayed (fill.clauses 𝓤 H A mem run) .post bound
 
-  -- what the data run, its history and the workings own, and their tokens; what is owned of the list, apart
+  -- what the data run, its history and the table own, and their tokens; what is owned of the list, apart
   abbrev Own₀ : Fml
   Own₀ = ShrSlice (named 0) κ₀ u8 .own s₀ (v₀ ∷ [])
 
@@ -178,7 +178,7 @@ module _ {M : Type 1} (𝓤 : URA M) (H : Heap 𝓤) (A : Atoms 𝓤) (W : Given
   abbrev to-answered : Point → Answered 𝓤 H A mem run .Ghost
   to-answered p = (((κ₀, (κ₁, (κ₂, tt))), (q₀, (q₁, (q₂, tt))), tt, (s₀, (s₁, (s₂, (p, tt)))), (v₀ ∷ [], (v₁ ∷ [], (v₂ ∷ [], (point-val p ∷ [], tt))))), tt)
 
-  goes-answered : WorkedOut (now s₀) (now s₁) (now s₂) → (p : Point)
+  goes-answered : Tabled (now s₀) (now s₁) (now s₂) → (p : Point)
       → ent 𝓤 (⋆ 𝓤 H A (Tokens ∷ Owned ∷ ‵ (P.the-row .own p (point-val p ∷ [])) ∷ [])) (⋆ 𝓤 H A (raw (Answered 𝓤 H A mem run .pre (to-answered p)) ∷ Owned ∷ []))
   goes-answered ok p =
       qed W (Tokens ∷ Owned ∷ ‵ (P.the-row .own p (point-val p ∷ [])) ∷ []) ∵ move ! (1 ∷ []) $ use1 W (‵ Own₀ ⊛ ‵ Own₁ ⊛ ‵ Own₂ ⊛ Owned) copied $
@@ -211,7 +211,7 @@ module _ {M : Type 1} (𝓤 : URA M) (H : Heap 𝓤) (A : Atoms 𝓤) (W : Given
 
   -- ---- what the contract asks: the count of records to answer, and the sweep where there is any
   module _ (𝓣 : Tables 𝓤 H) (fm : FmC 𝓤 H (W .laws) (𝓣 .C)) (known : Triple 𝓤 (𝓣 .C #swept-points·points·answered) (Answered 𝓤 H A mem run)) (n-fits : n < 2 ^ 64) (room : Room P.the-row (length xs))
-      (n-few : n ≤ length xs) (ready : 0 < n → WorkedOut (now s₀) (now s₁) (now s₂)) (l₀ l₁ l₂ l₃ l₄ l₅ l₆ l₇ l₈ l₉ l₁₀ l₁₁ l₁₂ l₁₃ : ℕ) where
+      (n-few : n ≤ length xs) (ready : 0 < n → Tabled (now s₀) (now s₁) (now s₂)) (l₀ l₁ l₂ l₃ l₄ l₅ l₆ l₇ l₈ l₉ l₁₀ l₁₁ l₁₂ l₁₃ : ℕ) where
     abbrev C : Calls 𝓤 H
     C = 𝓣 .C
 
@@ -219,7 +219,7 @@ module _ {M : Type 1} (𝓤 : URA M) (H : Heap 𝓤) (A : Atoms 𝓤) (W : Given
     Λ = 𝓣 .Λ
 
     abbrev En : Env 𝓤 H
-    En = (tyUnit, l₀) ∷ (run-ty, l₁) ∷ (history-ty, l₂) ∷ (workings-ty, l₃) ∷ (word, l₄) ∷ (list-ty, l₅) ∷ (word, l₆) ∷ (tyBool, l₇) ∷ (P′.mir, l₈) ∷ (word, l₉) ∷ (tyPtr, l₁₀) ∷ (P′.mir, l₁₁)
+    En = (tyUnit, l₀) ∷ (run-ty, l₁) ∷ (history-ty, l₂) ∷ (table-ty, l₃) ∷ (word, l₄) ∷ (list-ty, l₅) ∷ (word, l₆) ∷ (tyBool, l₇) ∷ (P′.mir, l₈) ∷ (word, l₉) ∷ (tyPtr, l₁₀) ∷ (P′.mir, l₁₁)
         ∷ (word, l₁₂) ∷ (tyPtr, l₁₃) ∷ []
 
     -- between statements, at the list l: [obs; the borrow; the list's token; the slices' tokens; what the slices own; _13; …; _0; …], with what _6 holds; every other local but the parameters is empty
@@ -227,7 +227,7 @@ module _ {M : Type 1} (𝓤 : URA M) (H : Heap 𝓤) (A : Atoms 𝓤) (W : Given
     Held-at l at₆ = ‵ (Obs l) ∷ ‵ (Bor l) ∷ ‵ (flft κ₃ q₃) ∷ Tokens ∷ Owned
         ∷ ‵ (froom tyPtr l₁₃ 0) ∷ ‵ (fdies tyPtr l₁₃) ∷ ‵ (froom word l₁₂ 0) ∷ ‵ (fdies word l₁₂) ∷ ‵ (froom P′.mir l₁₁ 0) ∷ ‵ (fdies P′.mir l₁₁) ∷ ‵ (froom tyPtr l₁₀ 0) ∷ ‵ (fdies tyPtr l₁₀)
         ∷ ‵ (froom word l₉ 0) ∷ ‵ (fdies word l₉) ∷ ‵ (froom P′.mir l₈ 0) ∷ ‵ (fdies P′.mir l₈) ∷ ‵ (froom tyBool l₇ 0) ∷ ‵ (fdies tyBool l₇) ∷ ‵ at₆ ∷ ‵ (fdies word l₆)
-        ∷ ‵ (fat fullShare list-ty l₅ 0 u) ∷ ‵ (fdies list-ty l₅) ∷ ‵ (fat fullShare word l₄ 0 (vint w64 n)) ∷ ‵ (fdies word l₄) ∷ ‵ (fat fullShare workings-ty l₃ 0 v₂) ∷ ‵ (fdies workings-ty l₃)
+        ∷ ‵ (fat fullShare list-ty l₅ 0 u) ∷ ‵ (fdies list-ty l₅) ∷ ‵ (fat fullShare word l₄ 0 (vint w64 n)) ∷ ‵ (fdies word l₄) ∷ ‵ (fat fullShare table-ty l₃ 0 v₂) ∷ ‵ (fdies table-ty l₃)
         ∷ ‵ (fat fullShare history-ty l₂ 0 v₁) ∷ ‵ (fdies history-ty l₂) ∷ ‵ (fat fullShare run-ty l₁ 0 v₀) ∷ ‵ (fdies run-ty l₁) ∷ ‵ (froom tyUnit l₀ 0) ∷ ‵ (fdies tyUnit l₀) ∷ []
 
     abbrev Upto : Type 0
@@ -307,7 +307,7 @@ module _ {M : Type 1} (𝓤 : URA M) (H : Heap 𝓤) (A : Atoms 𝓤) (W : Given
         before : Holds (ltb (i .0) n) → i .0 < length xs
         before less = lt-of-lt-of-le (ltb→lt (i .0) n less) n-few
 
-        ok : Holds (ltb (i .0) n) → WorkedOut (now s₀) (now s₁) (now s₂)
+        ok : Holds (ltb (i .0) n) → Tabled (now s₀) (now s₁) (now s₂)
         ok less = ready (lt-of-le-of-lt zero-le (ltb→lt (i .0) n less))
 
         within : Holds (ltb (i .0) n) → i .0 < length (zs (i .0))
@@ -335,7 +335,7 @@ module _ {M : Type 1} (𝓤 : URA M) (H : Heap 𝓤) (A : Atoms 𝓤) (W : Given
   -- ---- the entry
   walk : (𝓣 : Tables 𝓤 H) → FmC 𝓤 H (W .laws) (𝓣 .C) → Triple 𝓤 (𝓣 .C #swept-points·points·answered) (Answered 𝓤 H A mem run)
       → Room u8 (length (s₀ .now)) → Room u8 (length (s₁ .now)) → Room u32 (length (s₂ .now)) → n < 2 ^ 64 → Room P.the-row (length xs)
-      → (n ≤ length xs) × (0 < n → WorkedOut (now s₀) (now s₁) (now s₂))
+      → (n ≤ length xs) × (0 < n → Tabled (now s₀) (now s₁) (now s₂))
       → ent 𝓤 (onEntry 𝓤 H A fill.signature (κ₀, (κ₁, (κ₂, (κ₃, tt)))) (q₀, (q₁, (q₂, (q₃, tt)))) (s₀, (s₁, (s₂, (n, (x xs, tt)))))
       (v₀ ∷ [], (v₁ ∷ [], (v₂ ∷ [], (vint w64 n ∷ [], (u ∷ [], tt)))))) (WpFn 𝓤 H (𝓣 .C) (𝓣 .Λ) function (v₀ ∷ v₁ ∷ v₂ ∷ vint w64 n ∷ u ∷ []) Post)
   walk 𝓣 fm known room₀ room₁ room₂ n-fits room asked =
@@ -371,7 +371,7 @@ module _ {M : Type 1} (𝓤 : URA M) (H : Heap 𝓤) (A : Atoms 𝓤) (W : Given
         ),
       ))
       (λ κs qs bounds a g are. needs 𝓤 ((a .1 .1 .1 .0 ≤ length (now (a .1 .1 .1 .1 .0)))
-      × (0 < a .1 .1 .1 .0 → Workable (now (a .0)) (now (a .1 .0)) × Workings (basisWith (now (a .0)) (now (a .1 .0))) (now (a .1 .1 .0)))) _ (λ asked.
+      × (0 < a .1 .1 .1 .0 → Workable (now (a .0)) (now (a .1 .0)) × FactorTable (basisWith (now (a .0)) (now (a .1 .0))) (now (a .1 .1 .0)))) _ (λ asked.
       walk 𝓤 H A W mem run (κs .0) (κs .1 .0) (κs .1 .1 .0) (κs .1 .1 .1 .0) (qs .0) (qs .1 .0) (qs .1 .1 .0) (qs .1 .1 .1 .0) (a .0) (a .1 .0) (a .1 .1 .0) (a .1 .1 .1 .0)
       (a .1 .1 .1 .1 .0 .ptr .0) (a .1 .1 .1 .1 .0 .ptr .1) (a .1 .1 .1 .1 .0 .name) (a .1 .1 .1 .1 .0 .now) 𝓣 (fmOf 𝓤 H (W .laws) 𝓣) known
       (are .0 .0 .1) (are .1 .0 .0 .1) (are .1 .1 .0 .0 .1) (are .1 .1 .1 .0 .1) (are .1 .1 .1 .1 .0 .0 .1) asked))

@@ -1,7 +1,7 @@
 -- By cases: the arm says whether the checks passed, and so how many records are answered.
 use mathlib.Core.Path.{_∙_, ap, sym}
 use borrow.Author.Needs.{needs}
-use Rattle.basis.specs.Outcome.{finding}
+use Rattle.outcome.specs.Outcome.{finding}
 use Rattle.grid.specs.Grid.{gridStart}
 use Rattle.grid.proofs.start_grid.Statement.{statement}
 use Rattle.grid.proofs.start_grid.Tie as tie

@@ -2,7 +2,7 @@
 use Prim.Native.Nat.{ℕ, _+_, _*_}
 use mathlib.Core.List.{List}
 use lib.ListN.{take, drop}
-use Rattle.basis.specs.Outcome.{Finding, passed, refusedBy, refusal}
+use Rattle.outcome.specs.Outcome.{Finding, passed, refusedBy, refusal}
 use Rattle.field_check.specs.declared.Field.{Field}
 use Rattle.field_check.specs.Field.{fieldCheck}
 

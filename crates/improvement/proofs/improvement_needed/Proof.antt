@@ -3,7 +3,7 @@ use mathlib.Core.Path.{_∙_, ap, sym}
 use mir.Syntax.{w64}
 use borrow.Author.Needs.{needs}
 use Rattle.arithmetic.proofs.Machine.{got}
-use Rattle.basis.specs.Outcome.{value}
+use Rattle.outcome.specs.Outcome.{value}
 use Rattle.improvement.specs.Improvement.{usable}
 use Rattle.improvement.proofs.Cases.{needed-usable, needed-beyond}
 use Rattle.improvement.proofs.improvement_needed.Statement.{statement}

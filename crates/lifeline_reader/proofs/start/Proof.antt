@@ -49,8 +49,8 @@ use Rattle.lifeline.proofs.Begun as B
 use Rattle.lifeline.proofs.Begun.Laws as B′
 use Rattle.lifeline_reader.proofs.Lifeline as L
 use Rattle.lifeline_reader.proofs.Lifeline.Laws as L′
-use Rattle.basis.proofs.Check as F
-use Rattle.basis.proofs.Check.Laws as F′
+use Rattle.outcome.proofs.Check as F
+use Rattle.outcome.proofs.Check.Laws as F′
 use Rattle.lifeline_reader.proofs.Started as S
 use Rattle.lifeline_reader.proofs.Started.Laws as S′
 use Rattle.lifeline.proofs.cohort.start_at as start-at

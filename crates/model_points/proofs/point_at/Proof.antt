@@ -2,7 +2,7 @@
 use mathlib.Core.Path.{_∙_, sym, ap}
 use borrow.Author.Needs.{needs}
 use Rattle.history.specs.History.{basisWith}
-use Rattle.basis.proofs.Outcome.{found, checked-passed, checked-refused}
+use Rattle.outcome.proofs.Outcome.{found, checked-passed, checked-refused}
 use Rattle.model_points.specs.Point.{pointAnswerOf, pointOf}
 use Rattle.question.proofs.Passed.{question-passed}
 use Rattle.model_points.proofs.point_at.Statement.{statement}

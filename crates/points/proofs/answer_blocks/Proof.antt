@@ -10,11 +10,11 @@ use Rattle.points.proofs.answer_blocks.Statement.{statement}
 use Rattle.points.proofs.answer_blocks.Tie as tie
 
 abbrev Inv-loop : tie.InvT-loop
-Inv-loop run history workings part₀ out₀ pending₀ is-whole₀ blocks₀ part out pending is-whole blocks =
+Inv-loop run history table part₀ out₀ pending₀ is-whole₀ blocks₀ part out pending is-whole blocks =
     (length part ≡ length part₀) × (length out ≡ length out₀) × (Sound pending) × (pending .complete + 1024 * blocks ≤ 1024000000000000000)
 
 abbrev μ-loop : tie.MeasureT-loop
-μ-loop run history workings part₀ out₀ pending₀ is-whole₀ blocks₀ part out pending is-whole blocks = blocks
+μ-loop run history table part₀ out₀ pending₀ is-whole₀ blocks₀ part out pending is-whole blocks = blocks
 
 begin-requires : tie.Need-begin-requires Inv-loop μ-loop
 begin-requires c κs = search needs

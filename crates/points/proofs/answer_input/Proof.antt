@@ -6,8 +6,8 @@ use borrow.Author.Needs.{needs}
 use Rattle.points.proofs.answer_input.Statement.{statement}
 use Rattle.points.proofs.answer_input.Tie as tie
 
-work-out-requires : tie.Need-work-out-requires
-work-out-requires c κs = search needs
+fill-table-requires : tie.Need-fill-table-requires
+fill-table-requires c κs = search needs
 
 answer-blocks-requires : tie.Need-answer-blocks-requires
 answer-blocks-requires c κs = search needs
@@ -28,7 +28,7 @@ finish-requires : tie.Need-finish-requires
 finish-requires c κs = let t = c .before .before .before .before .before .before .before .before in
     let w = t .before .before .before .before .before .before in
     let s = w .before .before .before .before .before .before .before in
-    ((s .pre .0 .0, w .work-out .ensures), (search needs, search needs))
+    ((s .pre .0 .0, w .fill-table .ensures), (search needs, search needs))
 
 slice-reshare-prefix-write-out : tie.Need-slice-reshare-prefix-write-out
 slice-reshare-prefix-write-out c = search needs
@@ -57,7 +57,7 @@ pub answer-input-spec : {M : Type 1} → statement M
 answer-input-spec =
     tie.close
     (tie.spec
-    work-out-requires
+    fill-table-requires
     answer-blocks-requires
     same-length
     same-length-2

@@ -2,8 +2,8 @@
 use mathlib.Core.Path.{sym, _∙_, ap}
 use native.Mathlib.Omega.{arith}
 use lib.Seq.{length-take-le}
-use Rattle.basis.specs.Outcome.{finding}
-use Rattle.basis.proofs.Outcome.{found}
+use Rattle.outcome.specs.Outcome.{finding}
+use Rattle.outcome.proofs.Outcome.{found}
 use Rattle.enquiry_lines.proofs.Opened.{opened-run, opened-with}
 use borrow.Author.Needs.{needs}
 use Rattle.points.proofs.main.Statement.{statement}
@@ -89,8 +89,8 @@ returns c = search needs
 block-room-requires : tie.Need-block-room-requires
 block-room-requires c κs = search needs
 
-workings-room-requires : tie.Need-workings-room-requires
-workings-room-requires c κs = search needs
+table-room-requires : tie.Need-table-room-requires
+table-room-requires c κs = search needs
 
 slice-aggregate-answer-input : tie.Need-slice-aggregate-answer-input
 slice-aggregate-answer-input c = search needs
@@ -118,7 +118,7 @@ answer-input-requires c κs = let w = c .before .before .before .before .before 
     let e = found (o .open-files .ensures .0) (t .enum-told .given .1) in
     let room = sym (r .before .run-room .ensures) in
     let run = o .open-files .ensures .1 .0 ∙ opened-run _ _ (r .before .run-room .result) room _ (o .open-files .ensures .0) (ap finding (t .enum-told .given .1)) in (
-      (rw run (opened-with _ _ e), sym (w .workings-room .ensures)),
+      (rw run (opened-with _ _ e), sym (w .table-room .ensures)),
       (omega (arith, w .before .block-room .ensures), omega (arith, o .open-files .ensures .1 .1 .0 .same, r .reply-room .ensures)),
     )
 
@@ -158,7 +158,7 @@ main-spec =
     enum-told-2
     returns
     block-room-requires
-    workings-room-requires
+    table-room-requires
     slice-aggregate-answer-input
     array-share-prefix-history-2
     slice-aggregate-answer-input-2

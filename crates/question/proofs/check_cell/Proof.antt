@@ -1,7 +1,7 @@
 -- Each of the two checks is the definition's, and the first refusal of them decides.
 use mathlib.Core.Path.{_∙_}
 use borrow.Author.Needs.{needs}
-use Rattle.basis.proofs.Outcome.{first-same}
+use Rattle.outcome.proofs.Outcome.{first-same}
 use Rattle.question.proofs.check_cell.Statement.{statement}
 use Rattle.question.proofs.check_cell.Tie as tie
 

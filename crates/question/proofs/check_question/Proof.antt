@@ -3,7 +3,7 @@ use mathlib.Core.Path.{_∙_, ap}
 use Prim.Native.Nat.{ℕ}
 use borrow.Author.Needs.{needs}
 use Rattle.question.specs.Question.{yearCheck, questionCheck}
-use Rattle.basis.proofs.Outcome.{first-same}
+use Rattle.outcome.proofs.Outcome.{first-same}
 use Rattle.question.proofs.check_question.Statement.{statement}
 use Rattle.question.proofs.check_question.Tie as tie
 

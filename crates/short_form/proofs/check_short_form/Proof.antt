@@ -3,8 +3,8 @@ use mir.Syntax.{w32, w64}
 use mir.Facts.{toZ-ofZ, sfits-widen}
 use mathlib.Core.Bool.{true, false}
 use mathlib.Core.Path.{sym, _∙_, ap}
-use Rattle.basis.specs.Outcome.{finding}
-use Rattle.basis.proofs.Outcome.{found}
+use Rattle.outcome.specs.Outcome.{finding}
+use Rattle.outcome.proofs.Outcome.{found}
 use Rattle.short_form.proofs.Checking.{run-refused, run-passed}
 use borrow.Author.Needs.{needs}
 use Rattle.short_form.proofs.check_short_form.Statement.{statement}

@@ -2,8 +2,8 @@
 use mathlib.Core.Path.{sym, _∙_, ap}
 use native.Mathlib.Omega.{arith}
 use mir.Facts.{toZ-ofZ}
-use Rattle.basis.specs.Outcome.{finding}
-use Rattle.basis.proofs.Outcome.{found}
+use Rattle.outcome.specs.Outcome.{finding}
+use Rattle.outcome.proofs.Outcome.{found}
 use Rattle.lent.proofs.Lent.{kept, put-in-front}
 use Rattle.short_form.proofs.Checking.{through}
 use Rattle.short_form.proofs.Placing.{short-form-placed}

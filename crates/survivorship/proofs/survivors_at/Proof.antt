@@ -7,7 +7,7 @@ use lib.IntN.{pos}
 use borrow.Author.Needs.{needs}
 use Rattle.arithmetic.specs.Fraction.{U}
 use Rattle.history.specs.History.{basisWith}
-use Rattle.basis.specs.Outcome.{value, refused, meaning}
+use Rattle.outcome.specs.Outcome.{value, refused, meaning}
 use Rattle.survivorship.specs.Survivorship.{survivorsOf}
 use Rattle.survivorship.proofs.Survivors.{survivors-first, survivors-next, survivors-refused, year-small, year-late}
 use Rattle.survivorship.proofs.survivors_at.Statement.{statement}

@@ -3,7 +3,7 @@ use mathlib.Core.Path.{_∙_, ap, sym}
 use lib.IntN.{pos}
 use borrow.Author.Needs.{needs}
 use Rattle.history.specs.History.{basisWith}
-use Rattle.basis.specs.Outcome.{meaning, value}
+use Rattle.outcome.specs.Outcome.{meaning, value}
 use Rattle.survivorship.proofs.Survivors.{rate-at-most, year-value, year-refused}
 use Rattle.survivorship.proofs.survivors_by.Statement.{statement}
 use Rattle.survivorship.proofs.survivors_by.Tie as tie

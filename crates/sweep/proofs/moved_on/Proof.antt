@@ -5,7 +5,7 @@ use native.Mathlib.Omega.{arith}
 use lib.IntN.{pos}
 use borrow.Author.Needs.{needs}
 use borrow.Author.Tests.{lt-ltb}
-use Rattle.basis.specs.Outcome.{meaning}
+use Rattle.outcome.specs.Outcome.{meaning}
 use Rattle.history.specs.History.{basisWith}
 use Rattle.improvement.specs.Improvement.{improvementOf}
 use Rattle.improvement.proofs.Cases.{first-early}

@@ -2,7 +2,7 @@
 -- in front.
 use mathlib.Core.Path.{sym, ap, _∙_}
 use native.Mathlib.Omega.{arith}
-use Rattle.basis.specs.Outcome.{finding}
+use Rattle.outcome.specs.Outcome.{finding}
 use Rattle.run_check.specs.Run.{runCheck}
 use Rattle.lent.specs.Lent.{placed}
 use Rattle.lent.proofs.Lent.{kept, put-in-front}

@@ -1,7 +1,7 @@
 -- The output is written only where both checks have passed, and then it has the file in front.
 use mathlib.Core.Path.{sym, _∙_, ap}
-use Rattle.basis.specs.Outcome.{finding}
-use Rattle.basis.proofs.Outcome.{found}
+use Rattle.outcome.specs.Outcome.{finding}
+use Rattle.outcome.proofs.Outcome.{found}
 use Rattle.run_check.specs.Run.{runCheck}
 use Rattle.lent.proofs.Lent.{room-passed, kept, put-in-front}
 use Rattle.basis_file.proofs.Files.{accepted-run}

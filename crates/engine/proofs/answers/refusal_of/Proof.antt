@@ -1,8 +1,8 @@
 -- By cases: the arm says whether anything was refused.
 use mathlib.Core.Path.{ap, sym}
 use borrow.Author.Needs.{needs}
-use Rattle.basis.specs.declared.Check.{Check}
-use Rattle.basis.specs.Outcome.{finding}
+use Rattle.outcome.specs.declared.Check.{Check}
+use Rattle.outcome.specs.Outcome.{finding}
 use Rattle.engine.specs.Enquiry.{refusalOf}
 use Rattle.engine.proofs.answers.refusal_of.Statement.{statement}
 use Rattle.engine.proofs.answers.refusal_of.Tie as tie

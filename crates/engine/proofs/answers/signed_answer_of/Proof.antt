@@ -4,9 +4,9 @@ use lib.IntN.{ℤ}
 use mir.Syntax.{w64}
 use mir.Facts.{toZ-ofZ}
 use borrow.Author.Needs.{needs}
-use Rattle.basis.specs.declared.SignedAnswer.{SignedAnswer}
-use Rattle.basis.specs.declared.SignedAnswer.the-variants.{Value}
-use Rattle.basis.specs.Outcome.{signedMeaning, noRefusal}
+use Rattle.outcome.specs.declared.SignedAnswer.{SignedAnswer}
+use Rattle.outcome.specs.declared.SignedAnswer.the-variants.{Value}
+use Rattle.outcome.specs.Outcome.{signedMeaning, noRefusal}
 use Rattle.engine.specs.declared.CSignedAnswer.{CSignedAnswer}
 use Rattle.engine.specs.Enquiry.{signedAnswerOf}
 use Rattle.engine.proofs.answers.signed_answer_of.Statement.{statement}

@@ -36,16 +36,16 @@ use denote.Triple.Table.{entered, cited}
 use denote.Triple.Walked.{says, Stays, stay-none-slice, gave-slice, onExit, walkOf, goes-none-slice, goes-gave-slice, Walks, ends-at, walked, walk-meets}
 use denote.Exit.{yes}
 use denote.Triple.Clauses.{ensured, lasts}
-use Rattle.basis.specs.declared.Refusal.{Refusal}
+use Rattle.outcome.specs.declared.Refusal.{Refusal}
 use Rattle.grid_record.specs.declared.Point.{Point}
 use Rattle.grid.specs.Grid.{gridCheck, gridOf}
 use Rattle.engine.specs.Enquiry.{refusalOf}
-use Rattle.basis.proofs.Check as K
-use Rattle.basis.proofs.Check.Laws as K′
-use Rattle.basis.proofs.Refusal as F
-use Rattle.basis.proofs.Refusal.Laws as F′
-use Rattle.basis.specs.declared.Check.{Check}
-use Rattle.basis.specs.Outcome.{finding}
+use Rattle.outcome.proofs.Check as K
+use Rattle.outcome.proofs.Check.Laws as K′
+use Rattle.outcome.proofs.Refusal as F
+use Rattle.outcome.proofs.Refusal.Laws as F′
+use Rattle.outcome.specs.declared.Check.{Check}
+use Rattle.outcome.specs.Outcome.{finding}
 use Rattle.grid_record.proofs.Point as P
 use Rattle.grid.proofs.fill as fill
 use Rattle.grid.proofs.fill.Symbol as fill-def

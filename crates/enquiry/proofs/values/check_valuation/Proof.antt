@@ -1,13 +1,13 @@
 -- Once they have passed the run is accepted; then the question's own checks decide.
 use mathlib.Core.Path.{_∙_, sym}
 use borrow.Author.Needs.{needs}
-use Rattle.basis.proofs.Outcome.{found, first-passed, first-refused}
+use Rattle.outcome.proofs.Outcome.{found, first-passed, first-refused}
 use Rattle.history.proofs.Acceptance.{accepted-workable}
 use Rattle.enquiry.proofs.values.check_valuation.Statement.{statement}
 use Rattle.enquiry.proofs.values.check_valuation.Tie as tie
 
-check-basis-requires : tie.Need-check-basis-requires
-check-basis-requires c κs = search needs
+check-run-and-history-requires : tie.Need-check-run-and-history-requires
+check-run-and-history-requires c κs = search needs
 
 enum-told : tie.Need-enum-told
 enum-told c = search needs
@@ -15,7 +15,7 @@ enum-told c = search needs
 check-question-requires : tie.Need-check-question-requires
 check-question-requires c κs =
     let a = c .before .before .before .before .before .args in
-    accepted-workable (a .run .now) (a .history .now) (found (c .before .before .check-basis .ensures) (c .enum-told .given .1)) .basis
+    accepted-workable (a .run .now) (a .history .now) (found (c .before .before .check-run-and-history .ensures) (c .enum-told .given .1)) .basis
 
 enum-known-r : tie.Need-enum-known-r
 enum-known-r c = search needs
@@ -23,11 +23,11 @@ enum-known-r c = search needs
 returns : tie.Need-returns
 returns c =
     let told = c .before in
-    c .check-question .ensures ∙ sym (first-passed _ _ (found (told .before .before .check-basis .ensures) (told .enum-told .given .1)))
+    c .check-question .ensures ∙ sym (first-passed _ _ (found (told .before .before .check-run-and-history .ensures) (told .enum-told .given .1)))
 
 returns-2 : tie.Need-returns-2
-returns-2 c = sym (first-refused _ _ _ (found (c .before .before .before .check-basis .ensures) (c .before .r .given .1)))
+returns-2 c = sym (first-refused _ _ _ (found (c .before .before .before .check-run-and-history .ensures) (c .before .r .given .1)))
 
 pub check-valuation-spec : {M : Type 1} → statement M
 check-valuation-spec =
-    tie.close (tie.spec check-basis-requires enum-told check-question-requires enum-known-r returns returns-2)
+    tie.close (tie.spec check-run-and-history-requires enum-told check-question-requires enum-known-r returns returns-2)

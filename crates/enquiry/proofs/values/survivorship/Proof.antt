@@ -1,7 +1,7 @@
 -- The checks decide first; what they let pass is all that the work asks for.
 use mathlib.Core.Path.{_∙_, sym}
 use borrow.Author.Needs.{needs}
-use Rattle.basis.proofs.Outcome.{found, checked-passed, checked-refused}
+use Rattle.outcome.proofs.Outcome.{found, checked-passed, checked-refused}
 use Rattle.enquiry.specs.Enquiry.{survivorshipEnquiry}
 use Rattle.enquiry.proofs.Passed.{valuation-passed}
 use Rattle.enquiry.proofs.values.survivorship.Statement.{statement}

@@ -17,12 +17,12 @@ use Rattle.enquiry_lines.proofs.lines.feed.Statement.{statement}
 use Rattle.enquiry_lines.proofs.lines.feed.Tie as tie
 
 abbrev Inv-loop : tie.InvT-loop
-Inv-loop run history workings part out₀ from bytes₀ len₀ complete₀ at₀ i₀ out bytes len complete at i =
+Inv-loop run history table part out₀ from bytes₀ len₀ complete₀ at₀ i₀ out bytes len complete at i =
     SoFar (basisWith run history) part out₀ from (record { bytes = bytes₀; len = len₀; complete = complete₀ }) out
     (record { bytes = bytes; len = len; complete = complete }) at i
 
 abbrev μ-loop : tie.MeasureT-loop
-μ-loop run history workings part out₀ from bytes₀ len₀ complete₀ at₀ i₀ out bytes len complete at i = length part - i
+μ-loop run history table part out₀ from bytes₀ len₀ complete₀ at₀ i₀ out bytes len complete at i = length part - i
 
 loop-holds : tie.Need-loop-holds Inv-loop μ-loop
 loop-holds c = let s = c .before .before .before .before .before .before in

@@ -5,7 +5,7 @@ use native.Mathlib.Omega.{arith}
 use lib.ListN.{length}
 use Rattle.lent.specs.Lent.{written}
 use Rattle.basis_file.specs.File.{runIn}
-use Rattle.basis.specs.Outcome.{Finding, finding}
+use Rattle.outcome.specs.Outcome.{Finding, finding}
 use Rattle.reply_text.specs.Reply.{headerLine}
 use Rattle.reply_text.proofs.Puts.{being}
 use Rattle.enquiry_lines.specs.Output.{printed}

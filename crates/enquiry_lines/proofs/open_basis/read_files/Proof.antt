@@ -5,11 +5,11 @@ use mathlib.Core.List.{List}
 use Prim.Native.Nat.{ℕ}
 use lib.ListN.{replicate, length-replicate}
 use Rattle.basis.specs.Basis.{basisOf}
-use Rattle.basis.proofs.Outcome.{first-passed, first-refused}
+use Rattle.outcome.proofs.Outcome.{first-passed, first-refused}
 use Rattle.lent.specs.Lent.{placed}
 use Rattle.lent.proofs.Lent.{kept, put-in-front}
 use Rattle.basis_file.specs.File.{fileCheck, runIn}
-use Rattle.basis.specs.Outcome.{passed, finding}
+use Rattle.outcome.specs.Outcome.{passed, finding}
 use Rattle.history.specs.History.{historyCheck}
 use Rattle.enquiry_lines.specs.Output.{filesCheck}
 use Rattle.enquiry_lines.proofs.Opened.{run-is-accepted, run-fills, read-check}

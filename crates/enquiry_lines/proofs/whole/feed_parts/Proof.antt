@@ -15,11 +15,11 @@ use Rattle.enquiry_lines.proofs.whole.feed_parts.Statement.{statement}
 use Rattle.enquiry_lines.proofs.whole.feed_parts.Tie as tie
 
 abbrev Inv-loop : tie.InvT-loop
-Inv-loop run history workings text lengths out₀ from pending₀ at₀ i₀ k₀ out pending at i k =
+Inv-loop run history table text lengths out₀ from pending₀ at₀ i₀ k₀ out pending at i k =
     SoFar (basisWith run history) text out₀ from nothingRead out pending at i
 
 abbrev μ-loop : tie.MeasureT-loop
-μ-loop run history workings text lengths out₀ from pending₀ at₀ i₀ k₀ out pending at i k = length lengths - k
+μ-loop run history table text lengths out₀ from pending₀ at₀ i₀ k₀ out pending at i k = length lengths - k
 
 begin-requires : tie.Need-begin-requires Inv-loop μ-loop
 begin-requires c κs = search needs

@@ -5,8 +5,8 @@ use Prim.Native.Nat.{ℕ}
 use native.Mathlib.Omega.{arith}
 use lib.ListN.{replicate, length-replicate}
 use Rattle.basis_file.specs.File.{runIn}
-use Rattle.basis.specs.Outcome.{passed, finding}
-use Rattle.basis.proofs.Outcome.{found}
+use Rattle.outcome.specs.Outcome.{passed, finding}
+use Rattle.outcome.proofs.Outcome.{found}
 use Rattle.history.specs.History.{basisWith, Workable}
 use Rattle.reply_text.proofs.Puts.{being, then}
 use Rattle.enquiry_lines.specs.Lines.{linesOf, replies}
@@ -54,14 +54,14 @@ returns c = let o = c .before .before .before .before .before in
     let e = found (o .open-files .ensures .0) (c .enum-told2 .given .1) in
     being (refused-output (a .file .now) (a .history .now) (a .text .now) _ e) refl (o .open-files .ensures .1 .1 .0)
 
-slice-aggregate-work-out : tie.Need-slice-aggregate-work-out
-slice-aggregate-work-out c = search needs
+slice-aggregate-fill-table : tie.Need-slice-aggregate-fill-table
+slice-aggregate-fill-table c = search needs
 
-slice-aggregate-work-out-2 : tie.Need-slice-aggregate-work-out-2
-slice-aggregate-work-out-2 c = search needs
+slice-aggregate-fill-table-2 : tie.Need-slice-aggregate-fill-table-2
+slice-aggregate-fill-table-2 c = search needs
 
-work-out-requires : tie.Need-work-out-requires
-work-out-requires c κs = let t = c .before .before in
+fill-table-requires : tie.Need-fill-table-requires
+fill-table-requires c κs = let t = c .before .before in
     let o = t .before .before .before .before .before in
     (accepted o (ap finding (t .enum-told .given .1)), length-replicate {A = ℕ} 18340 0)
 
@@ -77,7 +77,7 @@ feed-parts-requires c κs = let w = c .before .before .before .before in
     let o = t .before .before .before .before .before in
     let s = o .before .before .before .before .before .before .before .before in
     let opened = o .open-files .ensures .1 .1 in
-    ((accepted o (ap finding (t .enum-told .given .1)), w .work-out .ensures), (omega (arith, opened .0 .same, opened .1, s .pre .0), s .pre .1))
+    ((accepted o (ap finding (t .enum-told .given .1)), w .fill-table .ensures), (omega (arith, opened .0 .same, opened .1, s .pre .0), s .pre .1))
 
 slice-aggregate-finish : tie.Need-slice-aggregate-finish
 slice-aggregate-finish c = search needs
@@ -93,7 +93,7 @@ finish-requires c κs = let f = c .before .before .before .before .before in
     let s = o .before .before .before .before .before .before .before .before in
     let e = f .feed-parts .ensures in
     let opened = o .open-files .ensures .1 .1 in (
-      (accepted o (ap finding (t .enum-told .given .1)), w .work-out .ensures),
+      (accepted o (ap finding (t .enum-told .given .1)), w .fill-table .ensures),
       (
         omega (arith, opened .0 .same, opened .1, e .1 .0 .same, e .1 .1, s .pre .0),
         (held-sound _ _ _ (e .0), omega (arith, held-complete _ _ _ (e .0), ended-few [] (s .args .text .now), s .pre .1 .0)),
@@ -129,9 +129,9 @@ output-spec =
     enum-told-2
     same-length
     returns
-    slice-aggregate-work-out
-    slice-aggregate-work-out-2
-    work-out-requires
+    slice-aggregate-fill-table
+    slice-aggregate-fill-table-2
+    fill-table-requires
     slice-aggregate-feed-parts
     slice-aggregate-feed-parts-2
     feed-parts-requires

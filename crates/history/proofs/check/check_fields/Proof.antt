@@ -4,8 +4,8 @@ use mathlib.Core.List.{List}
 use Prim.Native.Nat.{ℕ, _+_, _*_, _-_, _≤_, _<_}
 use native.Mathlib.Omega.{arith}
 use borrow.Author.Needs.{needs}
-use Rattle.basis.specs.Outcome.{Finding, firstOf, finding}
-use Rattle.basis.proofs.Outcome.{first-same, both-passed, says-passed, both-pass}
+use Rattle.outcome.specs.Outcome.{Finding, firstOf, finding}
+use Rattle.outcome.proofs.Outcome.{first-same, both-passed, says-passed, both-pass}
 use Rattle.field_check.specs.declared.Field.{Field}
 use Rattle.field_check.specs.Field.{fieldsCheck}
 use Rattle.block.specs.Blocks.{partsOf}

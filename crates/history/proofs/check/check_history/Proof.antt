@@ -3,8 +3,8 @@ use mathlib.Core.Path.{_∙_, sym, ap}
 use Prim.Native.Nat.{_*_}
 use borrow.Author.Needs.{needs}
 use Rattle.basis.specs.Basis.{basisOf}
-use Rattle.basis.specs.Outcome.{Finding, firstOf, finding}
-use Rattle.basis.proofs.Outcome.{found, first-stands, first-passed}
+use Rattle.outcome.specs.Outcome.{Finding, firstOf, finding}
+use Rattle.outcome.proofs.Outcome.{found, first-stands, first-passed}
 use Rattle.field_check.specs.Field.{fieldsCheck}
 use Rattle.block.specs.Blocks.{blocksCheck}
 use Rattle.history.specs.History.{actualYears, historyData, historyFields}

@@ -3,8 +3,8 @@ use mathlib.Core.Path.{_∙_, ap, sym}
 use Prim.Native.Nat.{_+_, _*_}
 use native.Mathlib.Omega.{arith}
 use borrow.Author.Needs.{needs}
-use Rattle.basis.specs.Outcome.{finding}
-use Rattle.basis.proofs.Outcome.{found}
+use Rattle.outcome.specs.Outcome.{finding}
+use Rattle.outcome.proofs.Outcome.{found}
 use Rattle.block.proofs.Joined.{part-is}
 use Rattle.history.specs.Inner.Part.{countedFrom}
 use Rattle.history.proofs.Window.{refused-in}

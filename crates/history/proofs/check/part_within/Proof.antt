@@ -3,7 +3,7 @@ use mathlib.Core.Path.{_≡_, refl, _∙_}
 use Prim.Native.Nat.{ℕ, _+_, _*_}
 use lib.ListN.{take, drop}
 use borrow.Author.Needs.{needs}
-use Rattle.basis.specs.Outcome.{Finding, passed, refusedBy, passes}
+use Rattle.outcome.specs.Outcome.{Finding, passed, refusedBy, passes}
 use Rattle.field_check.specs.Field.{fieldCheck}
 use Rattle.block.proofs.Joined.{part-is}
 use Rattle.history.specs.Inner.Part.{countedFrom}

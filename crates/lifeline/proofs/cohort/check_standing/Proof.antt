@@ -2,7 +2,7 @@
 use mathlib.Core.Path.{_∙_, ap}
 use Prim.Native.Nat.{ℕ}
 use borrow.Author.Needs.{needs}
-use Rattle.basis.proofs.Outcome.{first-same}
+use Rattle.outcome.proofs.Outcome.{first-same}
 use Rattle.lifeline.specs.Lifeline.{standingYearCheck, standingCheck}
 use Rattle.lifeline.proofs.cohort.check_standing.Statement.{statement}
 use Rattle.lifeline.proofs.cohort.check_standing.Tie as tie

@@ -1,7 +1,7 @@
 -- The check's two outcomes are the two cases of the definition.
 use mathlib.Core.Path.{sym}
 use borrow.Author.Needs.{needs}
-use Rattle.basis.proofs.Outcome.{found}
+use Rattle.outcome.proofs.Outcome.{found}
 use Rattle.lifeline.proofs.Standing.{start-passed, start-refused}
 use Rattle.lifeline.proofs.cohort.start_at.Statement.{statement}
 use Rattle.lifeline.proofs.cohort.start_at.Tie as tie

@@ -3,7 +3,7 @@ use mathlib.Core.Path.{_∙_, sym}
 use native.Mathlib.Omega.{arith}
 use borrow.Author.Needs.{needs}
 use borrow.Author.Tests.{eq-eqb, ne-eqb}
-use Rattle.basis.proofs.Outcome.{found}
+use Rattle.outcome.proofs.Outcome.{found}
 use Rattle.lifeline.proofs.Standing.{step-passed, step-refused, step-ended, step-lived}
 use Rattle.lifeline.proofs.cohort.step_at.Statement.{statement}
 use Rattle.lifeline.proofs.cohort.step_at.Tie as tie

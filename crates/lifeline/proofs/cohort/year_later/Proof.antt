@@ -1,7 +1,7 @@
 -- A value or a refusal of the year's survivors are the two cases of the definition.
 use mathlib.Core.Path.{_∙_, ap, sym}
 use borrow.Author.Needs.{needs}
-use Rattle.basis.specs.Outcome.{meaning}
+use Rattle.outcome.specs.Outcome.{meaning}
 use Rattle.lifeline.specs.Lifeline.{yearLater}
 use Rattle.lifeline.proofs.cohort.year_later.Statement.{statement}
 use Rattle.lifeline.proofs.cohort.year_later.Tie as tie

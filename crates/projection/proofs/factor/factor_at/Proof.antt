@@ -6,8 +6,8 @@ use lib.IntN.{pos}
 use borrow.Author.Needs.{needs}
 use Rattle.arithmetic.specs.Fraction.{U}
 use Rattle.history.specs.History.{basisWith}
-use Rattle.basis.specs.Outcome.{value, refused, steps, meaning}
-use Rattle.basis.proofs.Outcome.{persists}
+use Rattle.outcome.specs.Outcome.{value, refused, steps, meaning}
+use Rattle.outcome.proofs.Outcome.{persists}
 use Rattle.improvement.proofs.Cases.{first-early}
 use Rattle.projection.specs.Projection.{factorStep}
 use Rattle.projection.proofs.Years.{turn, ended, year-small}

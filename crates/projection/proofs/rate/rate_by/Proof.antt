@@ -1,7 +1,7 @@
 -- The rate follows from the factor, and so does its refusal.
 use mathlib.Core.Path.{_∙_, ap, sym}
 use borrow.Author.Needs.{needs}
-use Rattle.basis.specs.Outcome.{meaning, value}
+use Rattle.outcome.specs.Outcome.{meaning, value}
 use Rattle.history.specs.History.{basisWith}
 use Rattle.projection.proofs.Years.{factor-small, rate-value, rate-refused}
 use Rattle.projection.proofs.rate.rate_by.Statement.{statement}

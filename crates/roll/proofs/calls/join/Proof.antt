@@ -1,7 +1,7 @@
 -- What is decided says whether a member is added; the total is read afterwards.
 use mathlib.Core.Path.{_≡_, _∙_, sym, ap, refl}
 use lib.IntN.{pos}
-use Rattle.basis.specs.Outcome.{value, meaning}
+use Rattle.outcome.specs.Outcome.{value, meaning}
 use Rattle.roll.specs.Kept.{totalIn}
 use Rattle.roll.proofs.Cases.{joining-value}
 use borrow.Author.Needs.{needs}

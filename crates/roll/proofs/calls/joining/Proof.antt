@@ -1,6 +1,6 @@
 -- The list's room first.
 use mathlib.Core.Path.{_∙_, sym}
-use Rattle.basis.proofs.Outcome.{found, checked-passed, checked-refused}
+use Rattle.outcome.proofs.Outcome.{found, checked-passed, checked-refused}
 use Rattle.roll.specs.Kept.{joining}
 use Rattle.roll.proofs.Cases.{room-passed}
 use borrow.Author.Needs.{needs}

@@ -2,8 +2,8 @@
 use mathlib.Core.Path.{_∙_, ap, refl}
 use native.Mathlib.Omega.{arith}
 use lib.IntN.{pos}
-use Rattle.basis.specs.Outcome.{value}
-use Rattle.basis.proofs.Outcome.{found}
+use Rattle.outcome.specs.Outcome.{value}
+use Rattle.outcome.proofs.Outcome.{found}
 use Rattle.roll.specs.Kept.{totalIn, withoutMember}
 use Rattle.roll.proofs.Cases.{leaving-passed}
 use borrow.Author.Needs.{needs}

@@ -1,6 +1,6 @@
 -- The list's room first.
 use mathlib.Core.Path.{_∙_, sym}
-use Rattle.basis.proofs.Outcome.{found, first-passed, first-refused}
+use Rattle.outcome.proofs.Outcome.{found, first-passed, first-refused}
 use Rattle.roll.specs.Kept.{leaving}
 use Rattle.roll.proofs.Cases.{room-passed}
 use borrow.Author.Needs.{needs}

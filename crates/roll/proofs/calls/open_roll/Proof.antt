@@ -2,7 +2,7 @@
 use mathlib.Core.Path.{sym, refl}
 use native.Mathlib.Omega.{arith}
 use lib.ListN.{length-set}
-use Rattle.basis.proofs.Outcome.{found}
+use Rattle.outcome.proofs.Outcome.{found}
 use Rattle.roll.specs.Kept.{opened}
 use Rattle.roll.proofs.Cases.{room-passed}
 use borrow.Author.Needs.{needs}

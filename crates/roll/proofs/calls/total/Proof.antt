@@ -1,8 +1,8 @@
 -- The list's room first.
 use mathlib.Core.Path.{ap, refl}
 use lib.IntN.{pos}
-use Rattle.basis.specs.Outcome.{value}
-use Rattle.basis.proofs.Outcome.{found}
+use Rattle.outcome.specs.Outcome.{value}
+use Rattle.outcome.proofs.Outcome.{found}
 use Rattle.roll.proofs.Cases.{room-passed}
 use borrow.Author.Needs.{needs}
 use Rattle.roll.proofs.calls.total.Statement.{statement}

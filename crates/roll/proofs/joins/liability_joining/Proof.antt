@@ -1,6 +1,6 @@
 -- The roll's own checks first, then the liability.
 use mathlib.Core.Path.{_∙_, sym}
-use Rattle.basis.proofs.Outcome.{found}
+use Rattle.outcome.proofs.Outcome.{found}
 use Rattle.roll.proofs.Cases.{may-join, own-passed, own-refused}
 use borrow.Author.Needs.{needs}
 use Rattle.roll.proofs.joins.liability_joining.Statement.{statement}

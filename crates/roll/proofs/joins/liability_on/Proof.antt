@@ -2,7 +2,7 @@
 use mathlib.Core.Path.{_≡_, _∙_, sym, ap, refl}
 use native.Mathlib.Omega.{arith}
 use lib.IntN.{pos}
-use Rattle.basis.specs.Outcome.{value, meaning}
+use Rattle.outcome.specs.Outcome.{value, meaning}
 use Rattle.enquiry.proofs.Bounded.{annuity-bounded}
 use Rattle.roll.specs.Roll.{liabilityOn}
 use borrow.Author.Needs.{needs}

@@ -3,7 +3,7 @@ use mathlib.Core.Path.{_∙_, ap, sym}
 use Prim.Native.Nat.{_+_, _-_, _≤_}
 use native.Mathlib.Omega.{arith}
 use borrow.Author.Needs.{needs}
-use Rattle.basis.specs.Outcome.{meaning}
+use Rattle.outcome.specs.Outcome.{meaning}
 use Rattle.history.specs.History.{basisWith}
 use Rattle.survivorship.proofs.Survivors.{year-small}
 use Rattle.swept_points.proofs.Passing.{not-before, Passing, passing-first, passing-next, expectation-refused, annuity-refused, expectation-last, annuity-last}
@@ -11,11 +11,11 @@ use Rattle.swept_points.proofs.passage.passage_from.Statement.{statemen
 use Rattle.swept_points.proofs.passage.passage_from.Tie as tie
 
 abbrev Inv-loop : tie.InvT-loop
-Inv-loop run history workings kind age year deferment last s₀ j₀ lives₀ payments₀ s j lives payments =
+Inv-loop run history table kind age year deferment last s₀ j₀ lives₀ payments₀ s j lives payments =
     (j ≤ last) × Passing (basisWith run history) kind age year deferment j s lives payments
 
 abbrev μ-loop : tie.MeasureT-loop
-μ-loop run history workings kind age year deferment last s₀ j₀ lives₀ payments₀ s j lives payments = last - j
+μ-loop run history table kind age year deferment last s₀ j₀ lives₀ payments₀ s j lives payments = last - j
 
 sub-last : tie.Need-sub-last Inv-loop μ-loop
 sub-last c = search needs

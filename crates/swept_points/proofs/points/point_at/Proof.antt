@@ -1,7 +1,7 @@
 -- The checks decide first; what they let pass is all that the work asks for.
 use mathlib.Core.Path.{_∙_, sym, ap}
 use Rattle.history.specs.History.{basisWith}
-use Rattle.basis.proofs.Outcome.{found, checked-passed, checked-refused}
+use Rattle.outcome.proofs.Outcome.{found, checked-passed, checked-refused}
 use Rattle.model_points.specs.Point.{pointAnswerOf, pointOf}
 use Rattle.question.proofs.Passed.{question-passed}
 use borrow.Author.Needs.{needs}

@@ -3,7 +3,7 @@ use mathlib.Core.Path.{_∙_, ap, sym}
 use native.Mathlib.Omega.{arith}
 use borrow.Author.Needs.{needs}
 use Rattle.history.specs.History.{basisWith}
-use Rattle.basis.specs.Outcome.{meaning}
+use Rattle.outcome.specs.Outcome.{meaning}
 use Rattle.valuation.proofs.Payments.{refused-before}
 use Rattle.survivorship.proofs.Survivors.{survivors-small}
 use Rattle.valuation.proofs.annuity.annuity_at.Statement.{statement}

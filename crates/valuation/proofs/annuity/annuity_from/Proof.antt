@@ -6,7 +6,7 @@ use lib.IntN.{pos}
 use borrow.Author.Needs.{needs}
 use Rattle.history.specs.History.{basisWith}
 use Rattle.history.proofs.With.{accumulation-with, limits-with}
-use Rattle.basis.specs.Outcome.{refused, meaning}
+use Rattle.outcome.specs.Outcome.{refused, meaning}
 use Rattle.valuation.proofs.Discount.{discount-turn, discount-with, discount-small, discount-ranges}
 use Rattle.valuation.proofs.Payments.{Paying, paying-first, paying-next, paid-refused, paid-last}
 use Rattle.survivorship.proofs.Survivors.{survivors-next, year-small, year-late}

@@ -4,7 +4,7 @@ use Prim.Native.Nat.{_+_, _-_, _≤_}
 use native.Mathlib.Omega.{arith}
 use borrow.Author.Needs.{needs}
 use Rattle.history.specs.History.{basisWith}
-use Rattle.basis.specs.Outcome.{meaning}
+use Rattle.outcome.specs.Outcome.{meaning}
 use Rattle.valuation.proofs.Lives.{Living, living-first, living-next, lived-refused, lived-last}
 use Rattle.survivorship.proofs.Survivors.{year-small, year-late}
 use Rattle.valuation.proofs.expectation.expectation_at.Statement.{statement}

@@ -1,0 +1,86 @@
+-- From the place behind the years on, every number that was reached is 0.
+use mathlib.Core.Path.{_≡_}
+use Prim.Native.Nat.{_*_, _-_, _≤_}
+use native.Mathlib.Omega.{arith}
+use borrow.Author.Needs.{needs}
+use Rattle.history.specs.History.{basisWith}
+use Rattle.factor_table.proofs.Clearing.{Cleared, cleared-none, cleared-next}
+use Rattle.factor_table.proofs.factors.clear_rest.Statement.{statement}
+use Rattle.factor_table.proofs.factors.clear_rest.Tie as tie
+
+abbrev Inv-loop : tie.InvT-loop
+Inv-loop run history numbers₀ years at₀ numbers at =
+    (131 * (2131 - basisWith run history .base) ≤ at) × (at ≤ 18209) × Cleared (131 * (2131 - basisWith run history .base)) numbers₀ numbers at
+
+abbrev μ-loop : tie.MeasureT-loop
+μ-loop run history numbers₀ years at₀ numbers at = 18209 - at
+
+base-year-requires : tie.Need-base-year-requires Inv-loop μ-loop
+base-year-requires c κs = search needs
+
+sub-years : tie.Need-sub-years Inv-loop μ-loop
+sub-years c = omega (arith, c .base-year .ensures, c .before .before .before .before .pre .0 .basis .limits .base-high)
+
+cast-at : tie.Need-cast-at Inv-loop μ-loop
+cast-at c = search needs
+
+mul-at : tie.Need-mul-at Inv-loop μ-loop
+mul-at c = search needs
+
+loop-holds : tie.Need-loop-holds Inv-loop μ-loop
+loop-holds c =
+    let s = c .before .before .before .before in
+    let b = basisWith (s .args .run .now) (s .args .history .now) in
+    let e : 131 * (2131 - c .base-year .result) ≡ 131 * (2131 - b .base) = omega (arith, c .base-year .ensures) in
+    rw e (omega arith, omega (arith, s .pre .0 .basis .limits .base-low), cleared-none (131 * (2131 - b .base)) (s .args .numbers .now))
+
+mul-numbers : tie.Need-mul-numbers Inv-loop μ-loop
+mul-numbers c = search needs
+
+slice-write-numbers : tie.Need-slice-write-numbers Inv-loop μ-loop
+slice-write-numbers c = omega (arith, c .before .loop .inv .2 .same, c .before .before .before .before .before .before .pre .1)
+
+add-at : tie.Need-add-at Inv-loop μ-loop
+add-at c = search needs
+
+loop-less : tie.Need-loop-less Inv-loop μ-loop
+loop-less c = search needs
+
+loop-again : tie.Need-loop-again Inv-loop μ-loop
+loop-again c =
+    let l = c .before in
+    let s = l .before .before .before .before .before in
+    let b = basisWith (s .args .run .now) (s .args .history .now) in (
+      omega arith,
+      omega arith,
+      cleared-next (131 * (2131 - b .base)) (s .args .numbers .now) (l .loop .numbers) (l .loop .at) (l .loop .inv .0)
+          (omega (arith, s .pre .1)) (l .loop .inv .2),
+    )
+
+same-length : tie.Need-same-length Inv-loop μ-loop
+same-length c = c .before .loop .inv .2 .same
+
+returns : tie.Need-returns Inv-loop μ-loop
+returns c =
+    let l = c .before in
+    let e : l .loop .at ≡ 18209 = omega arith in
+    (rw e at (l .loop .inv .2 .zeros), l .loop .inv .2 .kept)
+
+pub clear-rest-spec : {M : Type 1} → statement M
+clear-rest-spec =
+    tie.close
+    (tie.spec
+    Inv-loop
+    μ-loop
+    base-year-requires
+    sub-years
+    cast-at
+    mul-at
+    loop-holds
+    mul-numbers
+    slice-write-numbers
+    add-at
+    loop-less
+    loop-again
+    same-length
+    returns)

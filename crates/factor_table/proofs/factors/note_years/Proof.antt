@@ -1,0 +1,108 @@
+-- After k turns the first k years are noted, and the state is that of the year B + k.
+use mathlib.Core.Path.{_≡_, _∙_, sym, refl}
+use Prim.Native.Nat.{_+_, _*_, _-_, _≤_}
+use native.Mathlib.Omega.{arith}
+use borrow.Author.Needs.{needs}
+use Rattle.history.specs.History.{basisWith}
+use Rattle.factor_table.proofs.Sweeping.{Sweeping, sweeping-none, sweeping-next}
+use Rattle.factor_table.proofs.factors.note_years.Statement.{statement}
+use Rattle.factor_table.proofs.factors.note_years.Tie as tie
+
+abbrev Inv-loop : tie.InvT-loop
+Inv-loop run history numbers₀ base years state₀ k₀ numbers state k = (k ≤ years) × Sweeping (basisWith run history) numbers state k
+
+abbrev μ-loop : tie.MeasureT-loop
+μ-loop run history numbers₀ base years state₀ k₀ numbers state k = years - k
+
+base-year-requires : tie.Need-base-year-requires Inv-loop μ-loop
+base-year-requires c κs = search needs
+
+sub-years : tie.Need-sub-years Inv-loop μ-loop
+sub-years c = omega (arith, c .base-year .ensures, c .before .before .before .before .pre .0 .basis .limits .base-high)
+
+start-requires : tie.Need-start-requires Inv-loop μ-loop
+start-requires c κs = search needs
+
+loop-holds : tie.Need-loop-holds Inv-loop μ-loop
+loop-holds c =
+    let s = c .before .before .before .before .before in
+    (omega arith, sweeping-none (basisWith (s .args .run .now) (s .args .history .now)) (s .args .numbers .now) (c .start .result) (s .pre .1) (c .start .ensures))
+
+slice-aggregate-note-state : tie.Need-slice-aggregate-note-state Inv-loop μ-loop
+slice-aggregate-note-state c = sym (c .before .before .loop .inv .1 .holds .size)
+
+cast-note-state : tie.Need-cast-note-state Inv-loop μ-loop
+cast-note-state c = search needs
+
+mul-note-state : tie.Need-mul-note-state Inv-loop μ-loop
+mul-note-state c = search needs
+
+note-state-requires : tie.Need-note-state-requires Inv-loop μ-loop
+note-state-requires c κs =
+    let l = c .before .before .before in
+    let b = l .before .before in
+    (l .loop .inv .1 .holds .size, omega (arith, l .loop .inv .1 .size, b .base-year .ensures, b .before .before .before .before .pre .0 .basis .limits .base-low))
+
+add-step : tie.Need-add-step Inv-loop μ-loop
+add-step c = search needs
+
+slice-aggregate-step : tie.Need-slice-aggregate-step Inv-loop μ-loop
+slice-aggregate-step c = sym (c .before .before .before .before .before .before .before .loop .inv .1 .holds .size)
+
+step-requires : tie.Need-step-requires Inv-loop μ-loop
+step-requires c κs =
+    let l = c .before .before .before .before .before .before .before in
+    let b = l .before .before in
+    (b .before .before .before .before .pre .0, l .loop .inv .1 .holds .size, omega (arith, b .base-year .ensures))
+
+add-k : tie.Need-add-k Inv-loop μ-loop
+add-k c = search needs
+
+loop-less : tie.Need-loop-less Inv-loop μ-loop
+loop-less c = search needs
+
+loop-again : tie.Need-loop-again Inv-loop μ-loop
+loop-again c =
+    let y = c .before .before .before .before .before in
+    let l = y .before .before .before .before in
+    let b = l .before .before in
+    let s = b .before .before .before .before in (
+      omega arith,
+      sweeping-next (basisWith (s .args .run .now) (s .args .history .now)) (l .loop .numbers) (l .loop .state) (y .note-state .last .1 .1 .0) (c .before .step .last .1 .1 .1 .0)
+          (l .loop .k) (131 * l .loop .k) (b .base-year .result + l .loop .k) refl (omega (arith, b .base-year .ensures)) (search needs)
+          (l .loop .inv .1) (y .note-state .ensures .0) (y .note-state .ensures .1) (c .before .step .ensures .1),
+    )
+
+same-length : tie.Need-same-length Inv-loop μ-loop
+same-length c = c .before .loop .inv .1 .size ∙ sym (c .before .before .before .before .before .before .before .pre .1)
+
+returns : tie.Need-returns Inv-loop μ-loop
+returns c =
+    let l = c .before in
+    let b = l .before .before in
+    let a = b .before .before .before .before .args in
+    let e : l .loop .k ≡ 2131 - basisWith (a .run .now) (a .history .now) .base = omega (arith, b .base-year .ensures) in
+    rw e at (l .loop .inv .1 .years)
+
+pub note-years-spec : {M : Type 1} → statement M
+note-years-spec =
+    tie.close
+    (tie.spec
+    Inv-loop
+    μ-loop
+    base-year-requires
+    sub-years
+    start-requires
+    loop-holds
+    slice-aggregate-note-state
+    cast-note-state
+    mul-note-state
+    note-state-requires
+    add-step
+    slice-aggregate-step
+    step-requires
+    add-k
+    loop-less
+    loop-again
+    same-length
+    returns)

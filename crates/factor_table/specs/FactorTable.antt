@@ -1,0 +1,34 @@
+-- What is worked out once for all records of the grid (02, change 5): the states of the sweep from B to 2130, and the discounts.
+use mathlib.Core.Path.{_≡_}
+use mathlib.Core.List.{List}
+use Prim.Native.Nat.{ℕ, _+_, _*_, _-_, _≤_, _<_}
+use lib.IntN.{pos}
+use lib.ListN.{length, getD}
+use Rattle.basis.specs.Basis.{Basis}
+use Rattle.history.specs.History.{basisWith, Workable}
+use Rattle.sweep.specs.Sweep.{sweepAfter}
+use Rattle.sweep.specs.Held.{heldIn}
+use Rattle.valuation.specs.Valuation.{discountAfter}
+
+-- the first n years from B on, each with the state of the sweep: 131 numbers a year
+abbrev pub YearsNoted : Basis → List ℕ → ℕ → Type 0
+YearsNoted b numbers n = (k i : ℕ) → k < n → i < 131 → heldIn (20 + i) (getD numbers (131 * k + i) 0) ≡ sweepAfter b k (20 + i)
+
+-- with B after 1992 there are fewer years than have room: 0 in the rest of it
+abbrev pub RestIsZero : Basis → List ℕ → Type 0
+RestIsZero b numbers = (i : ℕ) → 131 * (2131 - b .base) ≤ i → i < 18209 → getD numbers i 0 ≡ 0
+
+-- behind the 139 years from 1992 to 2130, the most that there are, the first n discounts
+abbrev pub DiscountsNoted : Basis → List ℕ → ℕ → Type 0
+DiscountsNoted b numbers n = (j : ℕ) → j < n → pos (getD numbers (18209 + j) 0) ≡ discountAfter b j
+
+-- all years from B to 2130, and the discounts of 0 to 130 years; no number of them is left free
+pub record FactorTable (b : Basis) (numbers : List ℕ) : Type 0 where
+  pub size : length numbers ≡ 18340
+  pub years : YearsNoted b numbers (2131 - b .base)
+  pub rest : RestIsZero b numbers
+  pub discounts : DiscountsNoted b numbers 131
+
+-- a data run and its history that can be worked with, and what was worked out of them
+abbrev pub Tabled : List ℕ → List ℕ → List ℕ → Type 0
+Tabled run history numbers = Workable run history × FactorTable (basisWith run history) numbers

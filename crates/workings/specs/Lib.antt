@@ -1,3 +1,0 @@
-pub mod Inner
-pub mod Workings
-pub mod Fixed
