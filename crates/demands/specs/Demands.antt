@@ -110,16 +110,16 @@ pub record Demand2 (run history : List ℕ) : Type 0 where
   pub rate : (age year : ℕ) → firstOf (runAndHistoryCheck run history) (cellCheck (basisWith run history .base) age year) ≡ passed →
       rateEnquiry run history age year ≡ rateOf (basisWith run history) age year
   pub survivorship : (kind : Kind) (age deferment year : ℕ) → valuationCheck run history age deferment year ≡ passed →
-      survivorshipEnquiry run history kind age deferment year ≡ survivorsOf (basisWith run history) kind age year deferment
+      survivorshipEnquiry run history kind age deferment year ≡ survivorsOf (basisWith run history) kind age deferment year
   pub expectation : (kind : Kind) (age deferment year : ℕ) → valuationCheck run history age deferment year ≡ passed →
-      expectationEnquiry run history kind age deferment year ≡ expectationOf (basisWith run history) kind age year deferment
+      expectationEnquiry run history kind age deferment year ≡ expectationOf (basisWith run history) kind age deferment year
   pub annuity : (kind : Kind) (age deferment year : ℕ) → valuationCheck run history age deferment year ≡ passed →
-      annuityEnquiry run history kind age deferment year ≡ annuityOf (basisWith run history) kind age year deferment
+      annuityEnquiry run history kind age deferment year ≡ annuityOf (basisWith run history) kind age deferment year
   pub point : (q : Question) → questionCheck (basisWith run history .base) (q .age) (q .deferment) (q .year) ≡ passed →
       pointOf (basisWith run history) q ≡ pointAnswerOf (resultsOf (basisWith run history) (q .age) (q .deferment) (q .year))
   -- a liability is worked out from the model's annuity, and the running total is the sum for those who joined and have not left (02, change 6)
   pub liability : (year age pension : ℕ) → valuationCheck run history age 0 year ≡ passed →
-      liabilityOn run history year age pension ≡ andThen (annuityOf (basisWith run history) Cohort age year 0) (λ a. value (liabilityOf pension a))
+      liabilityOn run history age year pension ≡ andThen (annuityOf (basisWith run history) Cohort age 0 year) (λ a. value (liabilityOf pension a))
   pub notBelowZero : (numbers : List ℕ) (year number age pension : ℕ) (l : ℤ) → liabilityJoining numbers year run history number age pension ≡ value l →
       l ≡ pos (natAbs l)
   pub runningTotal : RunningTotal

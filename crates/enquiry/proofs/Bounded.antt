@@ -19,6 +19,6 @@ pub annuity-bounded : (run history : List ℕ) (kind : Kind) (age deferment year
 unfolding annuityEnquiry
 annuity-bounded run history kind age deferment year a answered =
     let b = basisWith run history in
-    let h = checked-value (valuationCheck run history age deferment year) (annuityOf b kind age year deferment) a answered in
+    let h = checked-value (valuationCheck run history age deferment year) (annuityOf b kind age deferment year) a answered in
     let p = valuation-passed run history age deferment year (h .0) in
-    annuity-small b (limits-with (p .0)) kind age year deferment a (p .1) (omega (arith, p .1, p .2)) (h .1)
+    annuity-small b (limits-with (p .0)) kind age deferment year a (p .1) (omega (arith, p .1, p .2)) (h .1)

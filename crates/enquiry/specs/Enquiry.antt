@@ -36,12 +36,12 @@ rateEnquiry run history age year =
 -- an enquiry for survivorship names its number of years as the deferment
 unfoldable pub survivorshipEnquiry : List ℕ → List ℕ → Kind → ℕ → ℕ → ℕ → Outcome ℤ
 survivorshipEnquiry run history kind age deferment year =
-    checked (valuationCheck run history age deferment year) (survivorsOf (basisWith run history) kind age year deferment)
+    checked (valuationCheck run history age deferment year) (survivorsOf (basisWith run history) kind age deferment year)
 
 unfoldable pub expectationEnquiry : List ℕ → List ℕ → Kind → ℕ → ℕ → ℕ → Outcome ℤ
 expectationEnquiry run history kind age deferment year =
-    checked (valuationCheck run history age deferment year) (expectationOf (basisWith run history) kind age year deferment)
+    checked (valuationCheck run history age deferment year) (expectationOf (basisWith run history) kind age deferment year)
 
 unfoldable pub annuityEnquiry : List ℕ → List ℕ → Kind → ℕ → ℕ → ℕ → Outcome ℤ
 annuityEnquiry run history kind age deferment year =
-    checked (valuationCheck run history age deferment year) (annuityOf (basisWith run history) kind age year deferment)
+    checked (valuationCheck run history age deferment year) (annuityOf (basisWith run history) kind age deferment year)

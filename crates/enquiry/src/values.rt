@@ -27,7 +27,7 @@ pub fn survivorship(
     ensures { λ r. ⌜ meaning r ≡ survivorshipEnquiry (now (run .entry)) (now (history .entry)) kind age deferment year ⌝ }
 {
     match check_valuation(run, history, age, deferment, year) {
-        Check::Passed => survivorship::survivors_at(run, history, kind, age, year, deferment),
+        Check::Passed => survivorship::survivors_at(run, history, kind, age, deferment, year),
         Check::Refused(r) => Answer::Refused(r),
     }
 }
@@ -48,8 +48,8 @@ pub fn expectation(
             history,
             kind,
             age,
-            year,
             deferment,
+            year,
         ),
         Check::Refused(r) => Answer::Refused(r),
     }
@@ -66,7 +66,7 @@ pub fn annuity(
     ensures { λ r. ⌜ meaning r ≡ annuityEnquiry (now (run .entry)) (now (history .entry)) kind age deferment year ⌝ }
 {
     match check_valuation(run, history, age, deferment, year) {
-        Check::Passed => valuation::annuity::annuity_at(run, history, kind, age, year, deferment),
+        Check::Passed => valuation::annuity::annuity_at(run, history, kind, age, deferment, year),
         Check::Refused(r) => Answer::Refused(r),
     }
 }

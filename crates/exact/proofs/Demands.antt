@@ -33,17 +33,17 @@ use Rattle.exact.proofs.Largest.{largest-most}
 annuity-answered : (run history : List ℕ) (w : ℕ) → 1 ≤ w → (Limited (basisWith run history) → (j : ℕ) → j ≤ 130 → Discounted (basisWith run history) w j) →
     (kind : Kind) (age deferment year : ℕ) (a : ℤ) → annuityEnquiry run history kind age deferment year ≡ value a →
     let N = 150 - age in
-    let K = largestYears (basisWith run history) kind year N in
-    ImprovingOver (basisWith run history) kind age year N →
-    WithinQuarters a (exactAnnuity (basisWith run history) kind age year deferment) (w * ((N + 1) * (N * (2 * K + 3) + 2)))
+    let K = largestYears (basisWith run history) kind N year in
+    ImprovingOver (basisWith run history) kind age N year →
+    WithinQuarters a (exactAnnuity (basisWith run history) kind age deferment year) (w * ((N + 1) * (N * (2 * K + 3) + 2)))
 unfolding annuityEnquiry
 annuity-answered run history w once worth kind age deferment year a answered improving =
     let b = basisWith run history in
     let N = 150 - age in
-    let h = checked-value (valuationCheck run history age deferment year) (annuityOf b kind age year deferment) a answered in
+    let h = checked-value (valuationCheck run history age deferment year) (annuityOf b kind age deferment year) a answered in
     let p = valuation-passed run history age deferment year (h .0) in
-    annuity-within b kind age year deferment (largestYears b kind year N) (limits-with (p .0)) (p .1) (p .2) improving
-    (largest-most (λ j. yearsTo b (yearOn kind year j)) N) w once (worth (limits-with (p .0))) a (h .1)
+    annuity-within b kind age deferment year (largestYears b kind N year) (limits-with (p .0)) (p .1) (p .2) improving
+    (largest-most (λ j. yearsTo b (yearOn kind j year)) N) w once (worth (limits-with (p .0))) a (h .1)
 
 pub demand-3 : (run history : List ℕ) → Demand3 run history
 unfolding improvementEnquiry factorEnquiry rateEnquiry survivorshipEnquiry expectationEnquiry
@@ -68,17 +68,17 @@ demand-3 run history =
           let p = cell-passed run history (b .base) age year (h .0) in
           within-more (rate-within b age year (limits-with (p .0)) (p .1) (p .2) improving q (h .1)) (omega arith);
       survivorship = λ kind age n year s answered improving.
-          let h = checked-value (valuationCheck run history age n year) (survivorsOf b kind age year n) s answered in
+          let h = checked-value (valuationCheck run history age n year) (survivorsOf b kind age n year) s answered in
           let p = valuation-passed run history age n year (h .0) in
-          let K = largestYears b kind year n in
-          within-more (survived b kind age year K n (limits-with (p .0)) (p .1) (p .2) improving (largest-most (λ j. yearsTo b (yearOn kind year j)) n) s (h .1) .near) (omega arith);
+          let K = largestYears b kind n year in
+          within-more (survived b kind age year K n (limits-with (p .0)) (p .1) (p .2) improving (largest-most (λ j. yearsTo b (yearOn kind j year)) n) s (h .1) .near) (omega arith);
       expectation = λ kind age deferment year e answered improving.
-          let h = checked-value (valuationCheck run history age deferment year) (expectationOf b kind age year deferment) e answered in
+          let h = checked-value (valuationCheck run history age deferment year) (expectationOf b kind age deferment year) e answered in
           let p = valuation-passed run history age deferment year (h .0) in
           let N = 150 - age - deferment in
           quarters-more
-          (expectation-within b kind age year deferment (largestYears b kind (year + deferment) N) (limits-with (p .0)) (p .1) (p .2) improving
-          (largest-most (λ j. yearsTo b (yearOn kind (year + deferment) j)) N) e (h .1))
+          (expectation-within b kind age deferment year (largestYears b kind N (year + deferment)) (limits-with (p .0)) (p .1) (p .2) improving
+          (largest-most (λ j. yearsTo b (yearOn kind j (year + deferment))) N) e (h .1))
           (omega arith);
       annuity = λ sign kind age deferment year a answered improving.
           quarters-more (annuity-answered run history 1 (omega arith) (λ limits. discounted b limits sign) kind age deferment year a answered improving) (omega arith);

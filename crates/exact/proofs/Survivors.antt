@@ -21,26 +21,26 @@ use Rattle.exact.proofs.Factor.{rate-within, rate-unit}
 
 -- what is known of the survivors after j years, for any K that is no less than the k of each rate used
 abbrev pub Survived : Basis → Kind → ℕ → ℕ → ℕ → ℕ → ℤ → Type 0
-Survived b kind age year K j s = Chained (2 * K + 1) j s (exactSurvivors b kind age year j)
+Survived b kind age year K j s = Chained (2 * K + 1) j s (exactSurvivors b kind age j year)
 
 module _ (b : Basis) (kind : Kind) (age year K n : ℕ) (limits : Limited b) (low : 20 ≤ age) (high : age + n ≤ 150)
-    (improving : ImprovingOver b kind age year n) (most : (j : ℕ) → j < n → yearsTo b (yearOn kind year j) ≤ K) where
-  survived-next : (j : ℕ) (s q : ℤ) → j < n → rateOf b (age + j) (yearOn kind year j) ≡ value q → Survived b kind age year K j s
+    (improving : ImprovingOver b kind age n year) (most : (j : ℕ) → j < n → yearsTo b (yearOn kind j year) ≤ K) where
+  survived-next : (j : ℕ) (s q : ℤ) → j < n → rateOf b (age + j) (yearOn kind j year) ≡ value q → Survived b kind age year K j s
       → Survived b kind age year K (suc j) (survivorsNext s q)
   unfolding exactSurvivors
   survived-next j s q less h c =
-      let m = rate-small b (age + j) (yearOn kind year j) q h in
-      let near = rate-within b (age + j) (yearOn kind year j) limits (omega arith) (omega arith) (improving j less) q h in
-      let unit = rate-unit b (age + j) (yearOn kind year j) limits (omega arith) (omega arith) (improving j less) q h in
+      let m = rate-small b (age + j) (yearOn kind j year) q h in
+      let near = rate-within b (age + j) (yearOn kind j year) limits (omega arith) (omega arith) (improving j less) q h in
+      let unit = rate-unit b (age + j) (yearOn kind j year) limits (omega arith) (omega arith) (improving j less) q h in
       let left : natAbs (pos U -ℤ q) ≤ U = rw (m .1, rest (m .0) (m .2)) (omega arith) in
       chained-next c left (unit-rest unit) (within-more (within-difference (within-whole (pos U)) near) (omega (arith, most j less)))
 
-  pub survived : (s : ℤ) → survivorsOf b kind age year n ≡ value s → Survived b kind age year K n s
+  pub survived : (s : ℤ) → survivorsOf b kind age n year ≡ value s → Survived b kind age year K n s
   unfolding survivorsOf survivorsAfterYear exactSurvivors
   survived s h =
       along (survivorsStep b kind age year) (pos U) (Survived b kind age year K) n (chained-first (2 * K + 1))
       (λ j a g less c q.
-      let w = came (rateOf b (age + j) (yearOn kind year j)) (λ r. value (survivorsNext a r)) g q in
+      let w = came (rateOf b (age + j) (yearOn kind j year)) (λ r. value (survivorsNext a r)) g q in
       let e : survivorsNext a (w .0) ≡ g = cc in
       rw (← e) (survived-next j a (w .0) less (w .1) c))
       s h

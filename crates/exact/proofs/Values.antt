@@ -41,18 +41,18 @@ total-within term exact m n near total h =
     total h
 
 -- ---- the expectation; j years of survivorship are 2j(K + 1) halves
-module _ (b : Basis) (kind : Kind) (age year deferment K : ℕ) (limits : Limited b) (low : 20 ≤ age) (high : age + deferment ≤ 150)
-    (improving : ImprovingOver b kind (age + deferment) (year + deferment) (150 - age - deferment))
-    (most : (j : ℕ) → j < 150 - age - deferment → yearsTo b (yearOn kind (year + deferment) j) ≤ K) where
-  pub expectation-within : (a : ℤ) → expectationOf b kind age year deferment ≡ value a →
-      WithinQuarters a (exactExpectation b kind age year deferment) (2 * (150 - age - deferment) * (150 - age - deferment + 1) * (K + 1))
+module _ (b : Basis) (kind : Kind) (age deferment year K : ℕ) (limits : Limited b) (low : 20 ≤ age) (high : age + deferment ≤ 150)
+    (improving : ImprovingOver b kind (age + deferment) (150 - age - deferment) (year + deferment))
+    (most : (j : ℕ) → j < 150 - age - deferment → yearsTo b (yearOn kind j (year + deferment)) ≤ K) where
+  pub expectation-within : (a : ℤ) → expectationOf b kind age deferment year ≡ value a →
+      WithinQuarters a (exactExpectation b kind age deferment year) (2 * (150 - age - deferment) * (150 - age - deferment + 1) * (K + 1))
   unfolding expectationOf curtateOf exactExpectation
   expectation-within a h =
       let n = 150 - age - deferment in
       let from = age + deferment in let start = year + deferment in
       let m : ℕ → ℕ = λ j. j * (2 * K + 2) + 0 in
-      let w = came (sumOf (λ k. survivorsOf b kind from start (suc k)) n) (λ t. value (pos (U / 2) +ℤ t)) a h in
-      let lives = total-within (λ k. survivorsOf b kind from start (suc k)) (λ k. exactSurvivors b kind from start (suc k)) (λ k. m (1 + k)) n
+      let w = came (sumOf (λ k. survivorsOf b kind from (suc k) start) n) (λ t. value (pos (U / 2) +ℤ t)) a h in
+      let lives = total-within (λ k. survivorsOf b kind from (suc k) start) (λ k. exactSurvivors b kind from (suc k) start) (λ k. m (1 + k)) n
       (λ k t l q.
       within-more
       (survived b kind from start K (suc k) limits (omega arith) (omega arith) (λ i less. improving i (omega arith)) (λ i less. most i (omega arith)) t q .near)
@@ -66,25 +66,25 @@ module _ (b : Basis) (kind : Kind) (age year deferment K : ℕ) (limits : Limite
       one-more = omega arith
 
 -- ---- the annuity, w times the distances
-module _ (b : Basis) (kind : Kind) (age year deferment K : ℕ) (limits : Limited b) (low : 20 ≤ age) (high : age + deferment ≤ 150)
-    (improving : ImprovingOver b kind age year (150 - age)) (most : (j : ℕ) → j < 150 - age → yearsTo b (yearOn kind year j) ≤ K)
+module _ (b : Basis) (kind : Kind) (age deferment year K : ℕ) (limits : Limited b) (low : 20 ≤ age) (high : age + deferment ≤ 150)
+    (improving : ImprovingOver b kind age (150 - age) year) (most : (j : ℕ) → j < 150 - age → yearsTo b (yearOn kind j year) ≤ K)
     (w : ℕ) (once : 1 ≤ w) (worth : (j : ℕ) → j ≤ 130 → Discounted b w j) where
-  payment-within : (j : ℕ) (t : ℤ) → j ≤ 150 - age → paymentAfter b kind age year j ≡ value t → Within t (exactPayment b kind age year j) (j * (w * (2 * K + 3)) + w)
+  payment-within : (j : ℕ) (t : ℤ) → j ≤ 150 - age → paymentAfter b kind age j year ≡ value t → Within t (exactPayment b kind age j year) (j * (w * (2 * K + 3)) + w)
   unfolding paymentAfter exactPayment
   payment-within j t l h =
-      let c = came (survivorsOf b kind age year j) (λ s. value (payment (discountAfter b j) s)) t h in
+      let c = came (survivorsOf b kind age j year) (λ s. value (payment (discountAfter b j) s)) t h in
       let s = survived b kind age year K j limits low (omega arith) (λ i less. improving i (omega arith)) (λ i less. most i (omega arith)) (c .0) (c .1) in
       let v = worth j (omega arith) in
       let e : payment (discountAfter b j) (c .0) ≡ t = cc in
       rw (← e) (within-more (within-product-times w U (omega arith) (v .near) (s .near) (v .size) (unit-abs (s .unit))) (omega arith))
 
-  pub annuity-within : (a : ℤ) → annuityOf b kind age year deferment ≡ value a →
-      WithinQuarters a (exactAnnuity b kind age year deferment) (w * ((150 - age + 1) * ((150 - age) * (2 * K + 3) + 2)))
+  pub annuity-within : (a : ℤ) → annuityOf b kind age deferment year ≡ value a →
+      WithinQuarters a (exactAnnuity b kind age deferment year) (w * ((150 - age + 1) * ((150 - age) * (2 * K + 3) + 2)))
   unfolding annuityOf exactAnnuity
   annuity-within a h =
       let n = 150 - age - deferment in
       let m : ℕ → ℕ = λ j. j * (w * (2 * K + 3)) + w in
-      let paid = total-within (λ k. paymentAfter b kind age year (deferment + k)) (λ k. exactPayment b kind age year (deferment + k)) (λ k. m (deferment + k)) (suc n)
+      let paid = total-within (λ k. paymentAfter b kind age (deferment + k) year) (λ k. exactPayment b kind age (deferment + k) year) (λ k. m (deferment + k)) (suc n)
       (λ k t l q. payment-within (deferment + k) t (omega arith) q) a h in
       let e : deferment + suc n ≡ suc (150 - age) = omega arith in
       quarters-more (in-quarters paid) (omega (arith, rw e at (sum-tail m deferment (suc n)), sum-linear (w * (2 * K + 3)) w (150 - age)))

@@ -26,7 +26,7 @@ Improving b age year = (t : ℕ) → b .base < t → t ≤ heldYear year → Not
 
 -- those that enter the rates of n years of survivorship
 abbrev pub ImprovingOver : Basis → Kind → ℕ → ℕ → ℕ → Type 0
-ImprovingOver b kind age year n = (j : ℕ) → j < n → Improving b (age + j) (yearOn kind year j)
+ImprovingOver b kind age n year = (j : ℕ) → j < n → Improving b (age + j) (yearOn kind j year)
 
 -- ---- K is the largest k among the rates used, 0 if none
 unfoldable pub largest : (ℕ → ℕ) → ℕ → ℕ
@@ -35,7 +35,7 @@ largest k (suc n) = cond (ltb (largest k n) (k n)) (k n) (largest k n)
 
 -- of n years of survivorship
 abbrev pub largestYears : Basis → Kind → ℕ → ℕ → ℕ
-largestYears b kind year n = largest (λ j. yearsTo b (yearOn kind year j)) n
+largestYears b kind n year = largest (λ j. yearsTo b (yearOn kind j year)) n
 
 -- ---- v is at most m quarters of a unit from q: 4 |v − q| ≤ m, with the denominator multiplied out
 pub record WithinQuarters (v : ℤ) (q : Fraction) (m : ℕ) : Type 0 where
@@ -53,26 +53,26 @@ pub record Demand3 (run history : List ℕ) : Type 0 where
   pub rate : (age year : ℕ) (q : ℤ) → rateEnquiry run history age year ≡ value q → Improving (basisWith run history) age year →
       Within q (exactRate (basisWith run history) age year) (2 * yearsTo (basisWith run history) year + 1)
   -- survivorship after n years 2d ≤ 2n(K + 1)
-  pub survivorship : (kind : Kind) (age n year : ℕ) (s : ℤ) → survivorshipEnquiry run history kind age n year ≡ value s → ImprovingOver (basisWith run history) kind age year n →
-      let K = largestYears (basisWith run history) kind year n in
-      Within s (exactSurvivors (basisWith run history) kind age year n) (2 * n * (K + 1))
+  pub survivorship : (kind : Kind) (age n year : ℕ) (s : ℤ) → survivorshipEnquiry run history kind age n year ≡ value s → ImprovingOver (basisWith run history) kind age n year →
+      let K = largestYears (basisWith run history) kind n year in
+      Within s (exactSurvivors (basisWith run history) kind age n year) (2 * n * (K + 1))
   -- expectation 4d ≤ 2N(N + 1)(K + 1), N = 150 − age − deferment
   pub expectation : (kind : Kind) (age deferment year : ℕ) (e : ℤ) → expectationEnquiry run history kind age deferment year ≡ value e →
       let N = 150 - age - deferment in
-      let K = largestYears (basisWith run history) kind (year + deferment) N in
-      ImprovingOver (basisWith run history) kind (age + deferment) (year + deferment) N →
-      WithinQuarters e (exactExpectation (basisWith run history) kind age year deferment) (2 * N * (N + 1) * (K + 1))
+      let K = largestYears (basisWith run history) kind N (year + deferment) in
+      ImprovingOver (basisWith run history) kind (age + deferment) N (year + deferment) →
+      WithinQuarters e (exactExpectation (basisWith run history) kind age deferment year) (2 * N * (N + 1) * (K + 1))
   -- annuity 4d ≤ (N + 1)(N(2K + 3) + 2), N = 150 − age, where the rate of discount is not below zero
   pub annuity : pos 0 ≤ℤ basisWith run history .discount →
       (kind : Kind) (age deferment year : ℕ) (a : ℤ) → annuityEnquiry run history kind age deferment year ≡ value a →
       let N = 150 - age in
-      let K = largestYears (basisWith run history) kind year N in
-      ImprovingOver (basisWith run history) kind age year N →
-      WithinQuarters a (exactAnnuity (basisWith run history) kind age year deferment) ((N + 1) * (N * (2 * K + 3) + 2))
+      let K = largestYears (basisWith run history) kind N year in
+      ImprovingOver (basisWith run history) kind age N year →
+      WithinQuarters a (exactAnnuity (basisWith run history) kind age deferment year) ((N + 1) * (N * (2 * K + 3) + 2))
   -- where it is below zero, at most four times that (02, change 1)
   pub annuityBelowZero : basisWith run history .discount <ℤ pos 0 →
       (kind : Kind) (age deferment year : ℕ) (a : ℤ) → annuityEnquiry run history kind age deferment year ≡ value a →
       let N = 150 - age in
-      let K = largestYears (basisWith run history) kind year N in
-      ImprovingOver (basisWith run history) kind age year N →
-      WithinQuarters a (exactAnnuity (basisWith run history) kind age year deferment) (4 * ((N + 1) * (N * (2 * K + 3) + 2)))
+      let K = largestYears (basisWith run history) kind N year in
+      ImprovingOver (basisWith run history) kind age N year →
+      WithinQuarters a (exactAnnuity (basisWith run history) kind age deferment year) (4 * ((N + 1) * (N * (2 * K + 3) + 2)))

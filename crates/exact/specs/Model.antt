@@ -36,9 +36,9 @@ exactRate b age year = lesser (whole (pos U)) (whole (pos (b .baseRate age)) *�
 
 -- U at first; each year multiplies them by (U − rate) / U
 unfoldable pub exactSurvivors : Basis → Kind → ℕ → ℕ → ℕ → Fraction
-exactSurvivors b kind age year zero = whole (pos U)
-exactSurvivors b kind age year (suc n) =
-    exactSurvivors b kind age year n *ᶠ (whole (pos U) -ᶠ exactRate b (age + n) (yearOn kind year n)) /ᶠ U
+exactSurvivors b kind age zero year = whole (pos U)
+exactSurvivors b kind age (suc n) year =
+    exactSurvivors b kind age n year *ᶠ (whole (pos U) -ᶠ exactRate b (age + n) (yearOn kind n year)) /ᶠ U
 
 -- U at first; each year multiplies it by U / (U + rate of discount)
 unfoldable pub exactDiscount : Basis → ℕ → Fraction
@@ -47,13 +47,13 @@ exactDiscount b (suc j) = exactDiscount b j *ᶠ (pos U over accumulationOf b)
 
 -- U/2 plus the survivors after 1 to N years
 unfoldable pub exactExpectation : Basis → Kind → ℕ → ℕ → ℕ → Fraction
-exactExpectation b kind age year deferment =
-    whole (pos (U / 2)) +ᶠ sumᶠ (λ k. exactSurvivors b kind (age + deferment) (year + deferment) (suc k)) (150 - age - deferment)
+exactExpectation b kind age deferment year =
+    whole (pos (U / 2)) +ᶠ sumᶠ (λ k. exactSurvivors b kind (age + deferment) (suc k) (year + deferment)) (150 - age - deferment)
 
 -- discount × survivors / U after j years
 unfoldable pub exactPayment : Basis → Kind → ℕ → ℕ → ℕ → Fraction
-exactPayment b kind age year j = exactDiscount b j *ᶠ exactSurvivors b kind age year j /ᶠ U
+exactPayment b kind age j year = exactDiscount b j *ᶠ exactSurvivors b kind age j year /ᶠ U
 
 -- the sum of these over its j, from the deferment to 150 − age
 unfoldable pub exactAnnuity : Basis → Kind → ℕ → ℕ → ℕ → Fraction
-exactAnnuity b kind age year deferment = sumᶠ (λ k. exactPayment b kind age year (deferment + k)) (suc (150 - age - deferment))
+exactAnnuity b kind age deferment year = sumᶠ (λ k. exactPayment b kind age (deferment + k) year) (suc (150 - age - deferment))

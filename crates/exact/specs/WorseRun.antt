@@ -35,4 +35,4 @@ pub record PremiseOfTheTaken : Type 0 where
   pub belowLater : NotBelowZero (exactImprovement (basisWith worseRun []) 60 2011) → ⊥
   -- and the premise holds of the factor at age 60 in 2010, and of survivorship for one year
   pub holds : Improving (basisWith worseRun []) 60 2010
-  pub holdsOver : ImprovingOver (basisWith worseRun []) Period 60 2010 1
+  pub holdsOver : ImprovingOver (basisWith worseRun []) Period 60 1 2010

@@ -103,8 +103,8 @@ others =
     ∷ (value (improvementOf rising 60 2007) gives value (pos 587_500_000))
     ∷ (improvementNeeded 60 2007 (improvementOf rising 60 2007) gives refused (refusal 9 60 2007))
     ∷ (factorOf rising 60 2007 gives refused (refusal 9 60 2007))
-    ∷ (annuityOf tenth Period 149 2006 0 gives value (pos 1_750_000_000))
-    ∷ (annuityOf tenth Cohort 149 2006 0 gives value (pos 1_750_000_000))
+    ∷ (annuityOf tenth Period 149 0 2006 gives value (pos 1_750_000_000))
+    ∷ (annuityOf tenth Cohort 149 0 2006 gives value (pos 1_750_000_000))
     ∷ []
 
 abbrev pub figures : List Figure

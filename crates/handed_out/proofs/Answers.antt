@@ -49,20 +49,20 @@ module _ (run history : List ℕ) where
     unfolding survivorshipEnquiry
     survivorship-answer s h =
         let b = basisWith run history in
-        let n = survivors-natural b kind age year deferment s (checked-value (valuationCheck run history age deferment year) (survivorsOf b kind age year deferment) s h .1) in
+        let n = survivors-natural b kind age deferment year s (checked-value (valuationCheck run history age deferment year) (survivorsOf b kind age deferment year) s h .1) in
         (n .0, n .1)
 
     pub expectation-answer : (e : ℤ) → expectationEnquiry run history kind age deferment year ≡ value e → Natural e
     unfolding expectationEnquiry
     expectation-answer e h =
         let b = basisWith run history in
-        expectation-natural b kind age year deferment e (checked-value (valuationCheck run history age deferment year) (expectationOf b kind age year deferment) e h .1)
+        expectation-natural b kind age deferment year e (checked-value (valuationCheck run history age deferment year) (expectationOf b kind age deferment year) e h .1)
 
     pub annuity-answer : (a : ℤ) → annuityEnquiry run history kind age deferment year ≡ value a → Natural a
     unfolding annuityEnquiry
     annuity-answer a h =
         let b = basisWith run history in
-        annuity-natural b kind age year deferment a (checked-value (valuationCheck run history age deferment year) (annuityOf b kind age year deferment) a h .1)
+        annuity-natural b kind age deferment year a (checked-value (valuationCheck run history age deferment year) (annuityOf b kind age deferment year) a h .1)
 
     -- ---- the distance of an annuity, of either sign of the rate of discount
     pub annuity-near : (a : ℤ) → annuityEnquiry run history kind age deferment year ≡ value a → AnnuityNear (basisWith run history) kind age deferment year a
@@ -74,14 +74,14 @@ module _ (run history : List ℕ) where
 
     -- ---- work that passes the checks of its enquiry is its answer
     module _ (p : valuationCheck run history age deferment year ≡ passed) where
-      pub survivorship-asked : (s : ℤ) → survivorsOf (basisWith run history) kind age year deferment ≡ value s → survivorshipEnquiry run history kind age deferment year ≡ value s
+      pub survivorship-asked : (s : ℤ) → survivorsOf (basisWith run history) kind age deferment year ≡ value s → survivorshipEnquiry run history kind age deferment year ≡ value s
       unfolding survivorshipEnquiry
       survivorship-asked s h = rw (p, h) refl
 
-      pub expectation-asked : (e : ℤ) → expectationOf (basisWith run history) kind age year deferment ≡ value e → expectationEnquiry run history kind age deferment year ≡ value e
+      pub expectation-asked : (e : ℤ) → expectationOf (basisWith run history) kind age deferment year ≡ value e → expectationEnquiry run history kind age deferment year ≡ value e
       unfolding expectationEnquiry
       expectation-asked e h = rw (p, h) refl
 
-      pub annuity-asked : (a : ℤ) → annuityOf (basisWith run history) kind age year deferment ≡ value a → annuityEnquiry run history kind age deferment year ≡ value a
+      pub annuity-asked : (a : ℤ) → annuityOf (basisWith run history) kind age deferment year ≡ value a → annuityEnquiry run history kind age deferment year ≡ value a
       unfolding annuityEnquiry
       annuity-asked a h = rw (p, h) refl

@@ -32,14 +32,14 @@ sum-natural term each n s h =
     plus-natural p (each k (w .0) (w .1)) e) s h
 
 module _ (b : Basis) (kind : Kind) where
-  survived : (age year n : ℕ) (s : ℤ) → survivorsOf b kind age year n ≡ value s → Natural s
-  survived age year n s h = let m = survivors-natural b kind age year n s h in (m .0, m .1)
+  survived : (age n year : ℕ) (s : ℤ) → survivorsOf b kind age n year ≡ value s → Natural s
+  survived age n year s h = let m = survivors-natural b kind age n year s h in (m .0, m .1)
 
-  pub expectation-natural : (age year deferment : ℕ) (e : ℤ) → expectationOf b kind age year deferment ≡ value e → Natural e
+  pub expectation-natural : (age deferment year : ℕ) (e : ℤ) → expectationOf b kind age deferment year ≡ value e → Natural e
   unfolding expectationOf curtateOf
-  expectation-natural age year deferment e h =
-      let w = came (curtateOf b kind (age + deferment) (year + deferment) (150 - age - deferment)) (λ t. value (pos (U / 2) +ℤ t)) e h in
-      let t = sum-natural _ (λ k s g. survived (age + deferment) (year + deferment) (suc k) s g) (150 - age - deferment) (w .0) (w .1) in
+  expectation-natural age deferment year e h =
+      let w = came (curtateOf b kind (age + deferment) (150 - age - deferment) (year + deferment)) (λ t. value (pos (U / 2) +ℤ t)) e h in
+      let t = sum-natural _ (λ k s g. survived (age + deferment) (suc k) (year + deferment) s g) (150 - age - deferment) (w .0) (w .1) in
       let f : e ≡ pos (U / 2) +ℤ w .0 = cc in
       plus-natural (U / 2, refl) t f
 
@@ -55,14 +55,14 @@ discount-natural b (suc j) =
 payment-natural : {v s p : ℤ} → Natural v → Natural s → p ≡ payment v s → Natural p
 payment-natural m n e = ((2 * (m .0 * n .0) + U) / (2 * U), e ∙ rw (m .1, n .1) refl)
 
-module _ (b : Basis) (kind : Kind) (age year : ℕ) where
-  paid : (j : ℕ) (p : ℤ) → paymentAfter b kind age year j ≡ value p → Natural p
+module _ (b : Basis) (kind : Kind) (age : ℕ) where
+  paid : (j year : ℕ) (p : ℤ) → paymentAfter b kind age j year ≡ value p → Natural p
   unfolding paymentAfter
-  paid j p h =
-      let w = came (survivorsOf b kind age year j) (λ s. value (payment (discountAfter b j) s)) p h in
+  paid j year p h =
+      let w = came (survivorsOf b kind age j year) (λ s. value (payment (discountAfter b j) s)) p h in
       let e : p ≡ payment (discountAfter b j) (w .0) = cc in
-      payment-natural (discount-natural b j) (survived b kind age year j (w .0) (w .1)) e
+      payment-natural (discount-natural b j) (survived b kind age j year (w .0) (w .1)) e
 
-  pub annuity-natural : (deferment : ℕ) (a : ℤ) → annuityOf b kind age year deferment ≡ value a → Natural a
+  pub annuity-natural : (deferment year : ℕ) (a : ℤ) → annuityOf b kind age deferment year ≡ value a → Natural a
   unfolding annuityOf
-  annuity-natural deferment a h = sum-natural _ (λ k p g. paid (deferment + k) p g) (suc (150 - age - deferment)) a h
+  annuity-natural deferment year a h = sum-natural _ (λ k p g. paid (deferment + k) year p g) (suc (150 - age - deferment)) a h

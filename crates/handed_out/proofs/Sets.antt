@@ -55,12 +55,12 @@ module _ (run history : List ℕ) (accepted : runAndHistoryCheck run history ≡
     valued : valuationCheck run history age deferment year ≡ passed
     valued = rw (accepted, asked) refl
 
-    expectation-of : (kind : Kind) (e : ℤ) (n : ℕ) → expectationOf (basisWith run history) kind age year deferment ≡ value e → n ≡ natAbs e → ExpectationNear (basisWith run history) kind age deferment year (pos n)
+    expectation-of : (kind : Kind) (e : ℤ) (n : ℕ) → expectationOf (basisWith run history) kind age deferment year ≡ value e → n ≡ natAbs e → ExpectationNear (basisWith run history) kind age deferment year (pos n)
     expectation-of kind e n h g =
         let answer = expectation-asked run history kind age deferment year valued e h in
         rw (g, size-is e (expectation-answer run history kind age deferment year e answer)) (λ improving. quarters-more (demand-3 run history .expectation kind age deferment year e answer improving) (omega arith))
 
-    annuity-of : (kind : Kind) (a : ℤ) (n : ℕ) → annuityOf (basisWith run history) kind age year deferment ≡ value a → n ≡ natAbs a → AnnuityNear (basisWith run history) kind age deferment year (pos n)
+    annuity-of : (kind : Kind) (a : ℤ) (n : ℕ) → annuityOf (basisWith run history) kind age deferment year ≡ value a → n ≡ natAbs a → AnnuityNear (basisWith run history) kind age deferment year (pos n)
     annuity-of kind a n h g =
         let answer = annuity-asked run history kind age deferment year valued a h in
         rw (g, size-is a (annuity-answer run history kind age deferment year a answer)) (annuity-near run history kind age deferment year a answer)
@@ -71,8 +71,8 @@ module _ (run history : List ℕ) (accepted : runAndHistoryCheck run history ≡
       let b = basisWith run history in
       let w = checked-value (questionCheck (b .base) (q .age) (q .deferment) (q .year)) (resultsOf b (q .age) (q .deferment) (q .year)) results h in
       let four = four-came
-      (expectationOf b Period (q .age) (q .year) (q .deferment)) (expectationOf b Cohort (q .age) (q .year) (q .deferment))
-      (annuityOf b Period (q .age) (q .year) (q .deferment)) (annuityOf b Cohort (q .age) (q .year) (q .deferment)) results (w .1) .values in
+      (expectationOf b Period (q .age) (q .deferment) (q .year)) (expectationOf b Cohort (q .age) (q .deferment) (q .year))
+      (annuityOf b Period (q .age) (q .deferment) (q .year)) (annuityOf b Cohort (q .age) (q .deferment) (q .year)) results (w .1) .values in
       let same = four .8 in
       record {
         periodExpectation = expectation-of (q .age) (q .deferment) (q .year) (w .0) Period (four .0) _ (four .4) (ap (λ (l : List ℕ). getD l 0 0) same);

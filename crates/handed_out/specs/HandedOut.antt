@@ -36,20 +36,20 @@ RateNear b age year v = Improving b age year → Within v (exactRate b age year)
 
 abbrev pub SurvivorsNear : Basis → Kind → ℕ → ℕ → ℕ → ℤ → Type 0
 SurvivorsNear b kind age n year v =
-    ImprovingOver b kind age year n → Within v (exactSurvivors b kind age year n) (2 * n * (largestYears b kind year n + 1))
+    ImprovingOver b kind age n year → Within v (exactSurvivors b kind age n year) (2 * n * (largestYears b kind n year + 1))
 
 abbrev pub ExpectationNear : Basis → Kind → ℕ → ℕ → ℕ → ℤ → Type 0
 ExpectationNear b kind age deferment year v =
     let N = 150 - age - deferment in
-    let K = largestYears b kind (year + deferment) N in
-    ImprovingOver b kind (age + deferment) (year + deferment) N → WithinQuarters v (exactExpectation b kind age year deferment) (2 * N * (N + 1) * (K + 1))
+    let K = largestYears b kind N (year + deferment) in
+    ImprovingOver b kind (age + deferment) N (year + deferment) → WithinQuarters v (exactExpectation b kind age deferment year) (2 * N * (N + 1) * (K + 1))
 
 -- w times the distance of an annuity
 abbrev pub AnnuityWithin : ℕ → Basis → Kind → ℕ → ℕ → ℕ → ℤ → Type 0
 AnnuityWithin w b kind age deferment year v =
     let N = 150 - age in
-    let K = largestYears b kind year N in
-    ImprovingOver b kind age year N → WithinQuarters v (exactAnnuity b kind age year deferment) (w * ((N + 1) * (N * (2 * K + 3) + 2)))
+    let K = largestYears b kind N year in
+    ImprovingOver b kind age N year → WithinQuarters v (exactAnnuity b kind age deferment year) (w * ((N + 1) * (N * (2 * K + 3) + 2)))
 
 -- once where the rate of discount is not below zero, four times where it is
 pub record AnnuityNear (b : Basis) (kind : Kind) (age deferment year : ℕ) (v : ℤ) : Type 0 where

@@ -46,13 +46,13 @@ module _ (run history : List ℕ) (age year : ℕ) where
       → (t : ℤ) × (survivorsAfterYear (basisWith run history) age year (pos s) ≡ value t) × (stepAt run history age year s ≡ moved (age + 1) (year + 1) (natAbs t) (value advanced))
 
   stands-after : MovesOn → (n : ℕ) → valuationCheck run history age 0 year ≡ passed → Advances run history age year n
-      → (s : ℕ) × (standAfter run history age year n ≡ standAt (age + n) (year + n) s) × (survivorsOf (basisWith run history) Cohort age year n ≡ value (pos s))
+      → (s : ℕ) × (standAfter run history age year n ≡ standAt (age + n) (year + n) s) × (survivorsOf (basisWith run history) Cohort age n year ≡ value (pos s))
   stands-after moves-on zero h a = (U, at-start h ∙ stand-same (omega arith) (omega arith) refl, survivors-first (basisWith run history) Cohort age year)
   stands-after moves-on (suc n) h a =
       let p = stands-after moves-on n h (λ k l. a k (omega arith)) in
       let went = moves-on (age + n) (year + n) (p .0) (ap (λ (x : Stand). stepFrom run history x .says) (sym (p .1)) ∙ a n (omega arith)) in
-      let next = survivors-next (basisWith run history) Cohort age year n (pos (p .0)) (value (went .0)) refl (p .2) (sym (went .1)) in
-      let m = survivors-natural (basisWith run history) Cohort age year (suc n) (went .0) next in
+      let next = survivors-next (basisWith run history) Cohort age n year (pos (p .0)) (value (went .0)) refl (p .2) (sym (went .1)) in
+      let m = survivors-natural (basisWith run history) Cohort age (suc n) year (went .0) next in
       (m .0, after-suc n _ (p .1) ∙ ap standMoved (went .2) ∙ stand-same (omega arith) (omega arith) (ap natAbs (m .1)), next ∙ ap value (m .1))
 
   -- ---- and as long as survivorship is answered each step advances
@@ -70,12 +70,12 @@ module _ (run history : List ℕ) (age year : ℕ) where
   LetThrough n = (k s : ℕ) → k < n → s ≤ U → stepCheck run history (age + k) (year + k) s ≡ passed
 
   -- a step before the n years are over is the next year of survivorship, answered or refused
-  step-is-next-year : (n k s : ℕ) → valuationCheck run history age n year ≡ passed → LetThrough n → k < n → survivorsOf (basisWith run history) Cohort age year k ≡ value (pos s)
-      → stepAt run history (age + k) (year + k) s ≡ yearLater (age + k) (year + k) s (survivorsOf (basisWith run history) Cohort age year (suc k))
+  step-is-next-year : (n k s : ℕ) → valuationCheck run history age n year ≡ passed → LetThrough n → k < n → survivorsOf (basisWith run history) Cohort age k year ≡ value (pos s)
+      → stepAt run history (age + k) (year + k) s ≡ yearLater (age + k) (year + k) s (survivorsOf (basisWith run history) Cohort age (suc k) year)
   step-is-next-year n k s h let-through l e =
       let v = valuation-passed run history age n year h in
-      step-lived run history (age + k) (year + k) s (let-through k s l (survivors-small (basisWith run history) Cohort age year k s e)) (ne-eqb (age + k) 150 (λ g. omega (arith, v .2)))
-      ∙ ap (yearLater (age + k) (year + k) s) (sym (survivors-next (basisWith run history) Cohort age year k (pos s) (survivorsAfterYear (basisWith run history) (age + k) (year + k) (pos s)) refl e refl))
+      step-lived run history (age + k) (year + k) s (let-through k s l (survivors-small (basisWith run history) Cohort age k year s e)) (ne-eqb (age + k) 150 (λ g. omega (arith, v .2)))
+      ∙ ap (yearLater (age + k) (year + k) s) (sym (survivors-next (basisWith run history) Cohort age k year (pos s) (survivorsAfterYear (basisWith run history) (age + k) (year + k) (pos s)) refl e refl))
 
   and-one : (k : ℕ) → Advances run history age year k → stepFrom run history (standAfter run history age year k) .says ≡ value advanced → Advances run history age year (suc k)
   and-one k before last j l = by (decLt j k)
@@ -85,22 +85,22 @@ module _ (run history : List ℕ) (age year : ℕ) where
       by (no g) = let e : j ≡ k = omega arith in ap (λ (i : ℕ). stepFrom run history (standAfter run history age year i) .says) e ∙ last
 
   -- k of n years
-  advances-to : (n k s : ℕ) → valuationCheck run history age n year ≡ passed → LetThrough n → k ≤ n → survivorsOf (basisWith run history) Cohort age year k ≡ value (pos s)
+  advances-to : (n k s : ℕ) → valuationCheck run history age n year ≡ passed → LetThrough n → k ≤ n → survivorsOf (basisWith run history) Cohort age k year ≡ value (pos s)
       → Advances run history age year k × (standAfter run history age year k ≡ standAt (age + k) (year + k) s)
   advances-to n zero s h let-through l e =
       let first = survivors-first (basisWith run history) Cohort age year in
       let same : U ≡ s = cc in
       ((λ k g. absurd (omega arith)), at-start (start-passes n h) ∙ stand-same (omega arith) (omega arith) same)
-  advances-to n (suc k) s h let-through l e = by (survivorsOf (basisWith run history) Cohort age year k) refl (λ t. advances-to n k t h let-through (omega arith))
+  advances-to n (suc k) s h let-through l e = by (survivorsOf (basisWith run history) Cohort age k year) refl (λ t. advances-to n k t h let-through (omega arith))
     where
-      by : (o : Outcome ℤ) → survivorsOf (basisWith run history) Cohort age year k ≡ o
-          → ((t : ℕ) → survivorsOf (basisWith run history) Cohort age year k ≡ value (pos t) → Advances run history age year k × (standAfter run history age year k ≡ standAt (age + k) (year + k) t))
+      by : (o : Outcome ℤ) → survivorsOf (basisWith run history) Cohort age k year ≡ o
+          → ((t : ℕ) → survivorsOf (basisWith run history) Cohort age k year ≡ value (pos t) → Advances run history age year k × (standAfter run history age year k ≡ standAt (age + k) (year + k) t))
           → Advances run history age year (suc k) × (standAfter run history age year (suc k) ≡ standAt (age + suc k) (year + suc k) s)
       by (refused r) f before =
-          let g = survivors-refused (basisWith run history) Cohort age year k (suc k) r (omega arith) f in
+          let g = survivors-refused (basisWith run history) Cohort age k (suc k) year r (omega arith) f in
           let z : _≡_ {A = ℕ} 0 1 = cc in absurd (omega arith)
       by (value t) f before =
-          let m = survivors-natural (basisWith run history) Cohort age year k t f in
+          let m = survivors-natural (basisWith run history) Cohort age k year t f in
           let came = f ∙ ap value (m .1) in
           let p = before (m .0) came in
           let went = step-is-next-year n k (m .0) h let-through (omega arith) came ∙ ap (yearLater (age + k) (year + k) (m .0)) e in
@@ -114,7 +114,7 @@ module _ (run history : List ℕ) (age year : ℕ) where
       record {
         stepsAreSurvivorship = stands-after moves-on;
         survivorshipIsSteps = λ n s h.
-            let p = checked-value (valuationCheck run history age n year) (survivorsOf (basisWith run history) Cohort age year n) (pos s) h in
+            let p = checked-value (valuationCheck run history age n year) (survivorsOf (basisWith run history) Cohort age n year) (pos s) h in
             advances-to n n s (p .0) (let-through n (p .0)) (omega arith) (p .1);
         says = λ s. says-by s (stepCheck run history age year s) (eqb age 150) (survivorsAfterYear (basisWith run history) age year (pos s));
       }
@@ -151,7 +151,7 @@ module _ (run history : List ℕ) (age year : ℕ) where
           refl
 
   pub steps-are-survivorship : (n : ℕ) → valuationCheck run history age 0 year ≡ passed → Advances run history age year n
-      → (s : ℕ) × (standAfter run history age year n ≡ standAt (age + n) (year + n) s) × (survivorsOf (basisWith run history) Cohort age year n ≡ value (pos s))
+      → (s : ℕ) × (standAfter run history age year n ≡ standAt (age + n) (year + n) s) × (survivorsOf (basisWith run history) Cohort age n year ≡ value (pos s))
   steps-are-survivorship = is-cohort-survivorship .stepsAreSurvivorship
 
   pub survivorship-is-steps : (n s : ℕ) → survivorshipEnquiry run history Cohort age n year ≡ value (pos s)

@@ -21,7 +21,7 @@ Advances run history age year n = (k : ℕ) → k < n → stepFrom run history (
 pub record IsCohortSurvivorship (run history : List ℕ) (age year : ℕ) : Type 0 where
   -- as long as each step advances, the lifeline stands n years on with the survivors after n years
   pub stepsAreSurvivorship : (n : ℕ) → valuationCheck run history age 0 year ≡ passed → Advances run history age year n
-      → (s : ℕ) × (standAfter run history age year n ≡ standAt (age + n) (year + n) s) × (survivorsOf (basisWith run history) Cohort age year n ≡ value (pos s))
+      → (s : ℕ) × (standAfter run history age year n ≡ standAt (age + n) (year + n) s) × (survivorsOf (basisWith run history) Cohort age n year ≡ value (pos s))
   -- an answered survivorship after n years is where the lifeline stands after n steps, all of which advanced
   pub survivorshipIsSteps : (n s : ℕ) → survivorshipEnquiry run history Cohort age n year ≡ value (pos s)
       → Advances run history age year n × (standAfter run history age year n ≡ standAt (age + n) (year + n) s)

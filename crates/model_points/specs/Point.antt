@@ -19,10 +19,10 @@ fourOf first second third fourth =
 unfoldable pub resultsOf : Basis → ℕ → ℕ → ℕ → Outcome (List ℕ)
 resultsOf b age deferment year =
     fourOf
-    (expectationOf b Period age year deferment)
-    (expectationOf b Cohort age year deferment)
-    (annuityOf b Period age year deferment)
-    (annuityOf b Cohort age year deferment)
+    (expectationOf b Period age deferment year)
+    (expectationOf b Cohort age deferment year)
+    (annuityOf b Period age deferment year)
+    (annuityOf b Cohort age deferment year)
 
 abbrev pub noResults : List ℕ
 noResults = 0 ∷ 0 ∷ 0 ∷ 0 ∷ []

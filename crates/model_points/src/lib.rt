@@ -59,10 +59,10 @@ fn results_at(run: &[u8], history: &[u8], age: u32, deferment: u32, year: u32) -
     ensures { λ r. ⌜ r ≡ pointAnswerOf (resultsOf (basisWith (now (run .entry)) (now (history .entry))) age deferment year) ⌝ }
 {
     four(
-        valuation::expectation::expectation_at(run, history, Kind::Period, age, year, deferment),
-        valuation::expectation::expectation_at(run, history, Kind::Cohort, age, year, deferment),
-        valuation::annuity::annuity_at(run, history, Kind::Period, age, year, deferment),
-        valuation::annuity::annuity_at(run, history, Kind::Cohort, age, year, deferment),
+        valuation::expectation::expectation_at(run, history, Kind::Period, age, deferment, year),
+        valuation::expectation::expectation_at(run, history, Kind::Cohort, age, deferment, year),
+        valuation::annuity::annuity_at(run, history, Kind::Period, age, deferment, year),
+        valuation::annuity::annuity_at(run, history, Kind::Cohort, age, deferment, year),
     )
 }
 

@@ -84,7 +84,7 @@ module _ (run history : List ℕ) where
   join-refusals : (roll : List ℕ) (number age pension : ℕ) → RefusedBy numbers (totalSaid (joinedRoll roll run history number age pension))
   unfolding joining liabilityJoining liabilityOn annuityEnquiry
   join-refusals roll number age pension =
-      let annuity = checked-by (valuation-checked age 0 (yearIn roll)) (work-among record-numbers (annuity-numbered (basisWith run history) Cohort age (yearIn roll) 0)) in
+      let annuity = checked-by (valuation-checked age 0 (yearIn roll)) (work-among record-numbers (annuity-numbered (basisWith run history) Cohort age 0 (yearIn roll))) in
       let liability = checked-by (room-numbered roll) (checked-by (join-numbered (numbersIn roll) number pension) (then-by annuity (λ a. value-by (liabilityOf pension a)))) in
       then-by (then-by liability (λ l. value-by (withMember number age pension (natAbs l) roll))) (λ after. value-by (pos (totalIn after)))
 
@@ -124,9 +124,9 @@ numbered-refusals run history =
       improvement = λ age year. checked-by (cell-checked run history (firstYear b) age year) (work-among record-numbers (needed-numbered age year (improvementOf b age year)));
       factor = λ age year. checked-by (cell-checked run history (b .base) age year) (work-among record-numbers (factor-numbered b age year));
       rate = λ age year. checked-by (cell-checked run history (b .base) age year) (work-among record-numbers (rate-numbered b age year));
-      survivorship = λ kind age deferment year. checked-by (valuation-checked run history age deferment year) (work-among record-numbers (survivors-numbered b kind age year deferment));
-      expectation = λ kind age deferment year. checked-by (valuation-checked run history age deferment year) (work-among record-numbers (expectation-numbered b kind age year deferment));
-      annuity = λ kind age deferment year. checked-by (valuation-checked run history age deferment year) (work-among record-numbers (annuity-numbered b kind age year deferment));
+      survivorship = λ kind age deferment year. checked-by (valuation-checked run history age deferment year) (work-among record-numbers (survivors-numbered b kind age deferment year));
+      expectation = λ kind age deferment year. checked-by (valuation-checked run history age deferment year) (work-among record-numbers (expectation-numbered b kind age deferment year));
+      annuity = λ kind age deferment year. checked-by (valuation-checked run history age deferment year) (work-among record-numbers (annuity-numbered b kind age deferment year));
       smallSet = set-refusal run history;
       grid = λ count. first-by (count-numbered 119 count) (basis-numbered run history);
       point = λ q. (work-numbered b q, refl);

@@ -22,27 +22,27 @@ module _ (b : Basis) where
   unfolding survivorsAfterYear
   year-numbered age year s = then-by (rate-numbered b age year) (λ q. value-by (survivorsNext s q))
 
-  module _ (kind : Kind) (age year : ℕ) where
-    pub survivors-numbered : (n : ℕ) → RefusedBy recordNumbers (survivorsOf b kind age year n)
+  module _ (kind : Kind) (age : ℕ) where
+    pub survivors-numbered : (n year : ℕ) → RefusedBy recordNumbers (survivorsOf b kind age n year)
     unfolding survivorsOf
-    survivors-numbered n = steps-by (pos U) n (λ j s. year-numbered (age + j) (yearOn kind year j) s)
+    survivors-numbered n year = steps-by (pos U) n (λ j s. year-numbered (age + j) (yearOn kind j year) s)
 
-    curtate-numbered : (n : ℕ) → RefusedBy recordNumbers (curtateOf b kind age year n)
+    curtate-numbered : (n year : ℕ) → RefusedBy recordNumbers (curtateOf b kind age n year)
     unfolding curtateOf
-    curtate-numbered n = sum-by n (λ k. survivors-numbered (suc k))
+    curtate-numbered n year = sum-by n (λ k. survivors-numbered (suc k) year)
 
-    payment-numbered : (j : ℕ) → RefusedBy recordNumbers (paymentAfter b kind age year j)
+    payment-numbered : (j year : ℕ) → RefusedBy recordNumbers (paymentAfter b kind age j year)
     unfolding paymentAfter
-    payment-numbered j = then-by (survivors-numbered j) (λ s. value-by (payment (discountAfter b j) s))
+    payment-numbered j year = then-by (survivors-numbered j year) (λ s. value-by (payment (discountAfter b j) s))
 
-    pub annuity-numbered : (deferment : ℕ) → RefusedBy recordNumbers (annuityOf b kind age year deferment)
+    pub annuity-numbered : (deferment year : ℕ) → RefusedBy recordNumbers (annuityOf b kind age deferment year)
     unfolding annuityOf
-    annuity-numbered deferment = sum-by (suc (150 - age - deferment)) (λ k. payment-numbered (deferment + k))
+    annuity-numbered deferment year = sum-by (suc (150 - age - deferment)) (λ k. payment-numbered (deferment + k) year)
 
-  pub expectation-numbered : (kind : Kind) (age year deferment : ℕ) → RefusedBy recordNumbers (expectationOf b kind age year deferment)
+  pub expectation-numbered : (kind : Kind) (age deferment year : ℕ) → RefusedBy recordNumbers (expectationOf b kind age deferment year)
   unfolding expectationOf
-  expectation-numbered kind age year deferment =
-      then-by (curtate-numbered kind (age + deferment) (year + deferment) (150 - age - deferment)) (λ t. value-by (pos (U / 2) +ℤ t))
+  expectation-numbered kind age deferment year =
+      then-by (curtate-numbered kind (age + deferment) (150 - age - deferment) (year + deferment)) (λ t. value-by (pos (U / 2) +ℤ t))
 
 four-numbered : {first second third fourth : Outcome ℤ} → RefusedBy recordNumbers first → RefusedBy recordNumbers second → RefusedBy recordNumbers third → RefusedBy recordNumbers fourth
     → RefusedBy recordNumbers (fourOf first second third fourth)
@@ -55,7 +55,7 @@ unfolding resultsOf
 work-numbered b q =
     checked-by (question-numbered (b .base) (q .age) (q .deferment) (q .year))
     (four-numbered
-    (expectation-numbered b Period (q .age) (q .year) (q .deferment))
-    (expectation-numbered b Cohort (q .age) (q .year) (q .deferment))
-    (annuity-numbered b Period (q .age) (q .year) (q .deferment))
-    (annuity-numbered b Cohort (q .age) (q .year) (q .deferment)))
+    (expectation-numbered b Period (q .age) (q .deferment) (q .year))
+    (expectation-numbered b Cohort (q .age) (q .deferment) (q .year))
+    (annuity-numbered b Period (q .age) (q .deferment) (q .year))
+    (annuity-numbered b Cohort (q .age) (q .deferment) (q .year)))

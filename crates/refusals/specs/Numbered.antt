@@ -49,9 +49,9 @@ pub record NumberedRefusals (run history : List ℕ) : Type 0 where
   -- the work: 9 and 10 are among 6 to 10
   pub factorWork : (age year : ℕ) → RefusedBy recordNumbers (factorOf (basisWith run history) age year)
   pub rateWork : (age year : ℕ) → RefusedBy recordNumbers (rateOf (basisWith run history) age year)
-  pub survivorshipWork : (kind : Kind) (age year n : ℕ) → RefusedBy recordNumbers (survivorsOf (basisWith run history) kind age year n)
-  pub expectationWork : (kind : Kind) (age year deferment : ℕ) → RefusedBy recordNumbers (expectationOf (basisWith run history) kind age year deferment)
-  pub annuityWork : (kind : Kind) (age year deferment : ℕ) → RefusedBy recordNumbers (annuityOf (basisWith run history) kind age year deferment)
+  pub survivorshipWork : (kind : Kind) (age n year : ℕ) → RefusedBy recordNumbers (survivorsOf (basisWith run history) kind age n year)
+  pub expectationWork : (kind : Kind) (age deferment year : ℕ) → RefusedBy recordNumbers (expectationOf (basisWith run history) kind age deferment year)
+  pub annuityWork : (kind : Kind) (age deferment year : ℕ) → RefusedBy recordNumbers (annuityOf (basisWith run history) kind age deferment year)
   -- the six enquiries
   pub improvement : (age year : ℕ) → RefusedBy numbers (improvementEnquiry run history age year)
   pub factor : (age year : ℕ) → RefusedBy numbers (factorEnquiry run history age year)

@@ -101,12 +101,12 @@ module _ (numbers : List ℕ) (year : ℕ) (run history : List ℕ) (number age 
   own-refused r h = rw h refl
 
   pub own-passed : joinCheck numbers number pension ≡ passed
-      → liabilityJoining numbers year run history number age pension ≡ liabilityOn run history year age pension
+      → liabilityJoining numbers year run history number age pension ≡ liabilityOn run history age year pension
   unfolding liabilityJoining
   own-passed h = rw h refl
 
   pub own-value : (l : ℤ) → liabilityJoining numbers year run history number age pension ≡ value l
-      → MayJoin numbers number pension × (liabilityOn run history year age pension ≡ value l)
+      → MayJoin numbers number pension × (liabilityOn run history age year pension ≡ value l)
   unfolding liabilityJoining
   own-value l h = let p = checked-value _ _ l h in (may-join numbers number pension (p .0), p .1)
 

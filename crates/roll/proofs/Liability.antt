@@ -23,7 +23,7 @@ liability-small pension n h k =
     round-abs-le (pos (pension * n)) U largest (omega arith) (omega (arith, mul-le-mul {n₂ = 10_000_000} {m₂ = 524_000_000_000} h k))
 
 pub liability-value : (run history : List ℕ) (year age pension : ℕ) (l : ℤ) → pension ≤ 10_000_000
-    → liabilityOn run history year age pension ≡ value l → (l ≡ pos (natAbs l)) × (natAbs l ≤ largest)
+    → liabilityOn run history age year pension ≡ value l → (l ≡ pos (natAbs l)) × (natAbs l ≤ largest)
 unfolding liabilityOn
 liability-value run history year age pension l small h = by (annuityEnquiry run history Cohort age 0 year) refl h
   where

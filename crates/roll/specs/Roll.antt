@@ -31,7 +31,7 @@ liabilityOf pension annuity = round (whole (pos pension *ℤ annuity) /ᶠ U)
 
 -- in the valuation year
 unfoldable pub liabilityOn : List ℕ → List ℕ → ℕ → ℕ → ℕ → Outcome ℤ
-liabilityOn run history year age pension = andThen (annuityEnquiry run history Cohort age 0 year) (λ a. value (liabilityOf pension a))
+liabilityOn run history age year pension = andThen (annuityEnquiry run history Cohort age 0 year) (λ a. value (liabilityOf pension a))
 
 -- ---- "It refuses a join with the roll full (14), a leave by a number not on it (15) and a join by a number already on it (16), the last
 -- tested before 14 and all before any engine refusal, places member number and 0. A pension above the limit is number 5 with the same places,
@@ -48,7 +48,7 @@ leaveCheck numbers number = unless (isListed numbers number) (refusal 15 number 
 -- what a join comes to: the member's liability, or a refusal
 unfoldable pub liabilityJoining : List ℕ → ℕ → List ℕ → List ℕ → ℕ → ℕ → ℕ → Outcome ℤ
 liabilityJoining numbers year run history number age pension =
-    checked (joinCheck numbers number pension) (liabilityOn run history year age pension)
+    checked (joinCheck numbers number pension) (liabilityOn run history age year pension)
 
 -- ---- "Members join and leave in any order, and a place left is usable by the next to join."
 -- a join: basis and history lent to it, member number, age, pension; or a leave by a member number

@@ -64,9 +64,9 @@ fn liability_of(pension: u32, annuity: u64) -> u64
 }
 
 // The liability on the lent basis and history; a pension of 0 needs its annuity too.
-fn liability_on(run: &[u8], history: &[u8], year: u32, age: u32, pension: u32) -> Answer
+fn liability_on(run: &[u8], history: &[u8], age: u32, year: u32, pension: u32) -> Answer
     requires { ⌜ pension ≤ 10_000_000 ⌝ }
-    ensures { λ r. ⌜ meaning r ≡ liabilityOn (now (run .entry)) (now (history .entry)) year age pension ⌝ }
+    ensures { λ r. ⌜ meaning r ≡ liabilityOn (now (run .entry)) (now (history .entry)) age year pension ⌝ }
 {
     match enquiry::values::annuity(run, history, Kind::Cohort, age, 0, year) {
         Answer::Value(a) => Answer::Value(liability_of(pension, a)),
@@ -88,7 +88,7 @@ pub(crate) fn liability_joining(
         number age pension ⌝ }
 {
     match check_join(roll, number, pension) {
-        Check::Passed => liability_on(run, history, kept::year_in(roll), age, pension),
+        Check::Passed => liability_on(run, history, age, kept::year_in(roll), pension),
         Check::Refused(r) => Answer::Refused(r),
     }
 }

@@ -62,30 +62,30 @@ module _ (b : Basis) (age year : ℕ) where
   year-small s r l h = let m = year-natural (pos s) (pos r) s refl l h in let e : r ≡ m .0 = cc in omega (arith, m .2)
 
 -- the year of a rate is never before the enquiry's
-pub year-late : (kind : Kind) (year j : ℕ) → year ≤ yearOn kind year j
-year-late Period year j = omega arith
-year-late Cohort year j = omega arith
+pub year-late : (kind : Kind) (j year : ℕ) → year ≤ yearOn kind j year
+year-late Period j year = omega arith
+year-late Cohort j year = omega arith
 
 -- ---- survivorship: at first, one year more, after a refusal, and its size
-module _ (b : Basis) (kind : Kind) (age year : ℕ) where
-  pub survivors-first : survivorsOf b kind age year 0 ≡ value (pos U)
+module _ (b : Basis) (kind : Kind) (age : ℕ) where
+  pub survivors-first : (year : ℕ) → survivorsOf b kind age 0 year ≡ value (pos U)
   unfolding survivorsOf
-  survivors-first = none (survivorsStep b kind age year) (pos U)
+  survivors-first year = none (survivorsStep b kind age year) (pos U)
 
-  pub survivors-next : (j : ℕ) (s : ℤ) (o : Outcome ℤ) {at : ℕ} → at ≡ yearOn kind year j → survivorsOf b kind age year j ≡ value s → o ≡ survivorsAfterYear b (age + j) at s →
-      survivorsOf b kind age year (suc j) ≡ o
+  pub survivors-next : (j year : ℕ) (s : ℤ) (o : Outcome ℤ) {at : ℕ} → at ≡ yearOn kind j year → survivorsOf b kind age j year ≡ value s → o ≡ survivorsAfterYear b (age + j) at s →
+      survivorsOf b kind age (suc j) year ≡ o
   unfolding survivorsOf
-  survivors-next j s o e h g = next (survivorsStep b kind age year) (pos U) j s h ∙ sym (g ∙ ap (λ (y : ℕ). survivorsAfterYear b (age + j) y s) e)
+  survivors-next j year s o e h g = next (survivorsStep b kind age year) (pos U) j s h ∙ sym (g ∙ ap (λ (y : ℕ). survivorsAfterYear b (age + j) y s) e)
 
-  pub survivors-refused : (j n : ℕ) (r : Refusal) → j ≤ n → survivorsOf b kind age year j ≡ refused r → survivorsOf b kind age year n ≡ refused r
+  pub survivors-refused : (j n year : ℕ) (r : Refusal) → j ≤ n → survivorsOf b kind age j year ≡ refused r → survivorsOf b kind age n year ≡ refused r
   unfolding survivorsOf
-  survivors-refused j n r l h = persists (survivorsStep b kind age year) (pos U) j n r l h
+  survivors-refused j n year r l h = persists (survivorsStep b kind age year) (pos U) j n r l h
 
-  pub survivors-natural : (n : ℕ) (s : ℤ) → survivorsOf b kind age year n ≡ value s → (m : ℕ) × (s ≡ pos m) × (m ≤ U)
+  pub survivors-natural : (n year : ℕ) (s : ℤ) → survivorsOf b kind age n year ≡ value s → (m : ℕ) × (s ≡ pos m) × (m ≤ U)
   unfolding survivorsOf
-  survivors-natural n s h =
+  survivors-natural n year s h =
       along (survivorsStep b kind age year) (pos U) (λ j a. (m : ℕ) × (a ≡ pos m) × (m ≤ U)) n (U, refl, omega arith)
-      (λ j a g l p q. year-natural b (age + j) (yearOn kind year j) a g (p .0) (p .1) (p .2) q) s h
+      (λ j a g l p q. year-natural b (age + j) (yearOn kind j year) a g (p .0) (p .1) (p .2) q) s h
 
-  pub survivors-small : (n s : ℕ) → survivorsOf b kind age year n ≡ value (pos s) → s ≤ U
-  survivors-small n s h = let m = survivors-natural n (pos s) h in let e : s ≡ m .0 = cc in omega (arith, m .2)
+  pub survivors-small : (n year s : ℕ) → survivorsOf b kind age n year ≡ value (pos s) → s ≤ U
+  survivors-small n year s h = let m = survivors-natural n year (pos s) h in let e : s ≡ m .0 = cc in omega (arith, m .2)

@@ -10,8 +10,8 @@ use Rattle.survivorship.specs.declared.Kind.the-variants.{Period, Cohort
 
 -- the cohort kind moves to the next age and year; the period kind moves the age only
 abbrev pub yearOn : Kind → ℕ → ℕ → ℕ
-yearOn Period year j = year
-yearOn Cohort year j = year + j
+yearOn Period j year = year
+yearOn Cohort j year = year + j
 
 -- round(survivors × (U − rate) / U)
 abbrev pub survivorsNext : ℤ → ℤ → ℤ
@@ -23,8 +23,8 @@ survivorsAfterYear b age year s = andThen (rateOf b age year) (λ q. value (surv
 
 -- the survivors after j + 1 years from those after j
 abbrev pub survivorsStep : Basis → Kind → ℕ → ℕ → ℕ → ℤ → Outcome ℤ
-survivorsStep b kind age year j s = survivorsAfterYear b (age + j) (yearOn kind year j) s
+survivorsStep b kind age year j s = survivorsAfterYear b (age + j) (yearOn kind j year) s
 
 -- U at first, then year by year
 unfoldable pub survivorsOf : Basis → Kind → ℕ → ℕ → ℕ → Outcome ℤ
-survivorsOf b kind age year n = steps (survivorsStep b kind age year) (pos U) n
+survivorsOf b kind age n year = steps (survivorsStep b kind age year) (pos U) n

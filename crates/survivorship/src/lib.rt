@@ -16,9 +16,9 @@ pub enum Kind {
 }
 
 // The year of the rate j years on.
-pub fn year_on(kind: Kind, year: u32, j: u32) -> u32
+pub fn year_on(kind: Kind, j: u32, year: u32) -> u32
     requires { ⌜ (year ≤ 2260) × (j ≤ 130) ⌝ }
-    ensures { λ r. ⌜ r ≡ yearOn kind year j ⌝ }
+    ensures { λ r. ⌜ r ≡ yearOn kind j year ⌝ }
 {
     match kind {
         Kind::Period => year,
@@ -56,14 +56,14 @@ pub fn survivors_after_year(run: &[u8], history: &[u8], age: u32, year: u32, s: 
 }
 
 // The survivors after n years.
-pub fn survivors_at(run: &[u8], history: &[u8], kind: Kind, age: u32, year: u32, n: u32) -> Answer
+pub fn survivors_at(run: &[u8], history: &[u8], kind: Kind, age: u32, n: u32, year: u32) -> Answer
     requires { ⌜ Workable (now run) (now history) × (20 ≤ age) × (age + n ≤ 150) × (basisWith (now run) (now history) .base ≤ year) × (year ≤ 2130) ⌝ }
-    ensures { λ r. ⌜ meaning r ≡ survivorsOf (basisWith (now (run .entry)) (now (history .entry))) kind age year n ⌝ }
+    ensures { λ r. ⌜ meaning r ≡ survivorsOf (basisWith (now (run .entry)) (now (history .entry))) kind age n year ⌝ }
 {
     let mut s: u64 = UNIT;
     let mut j: u32 = 0;
     while j < n {
-        match survivors_after_year(run, history, age + j, year_on(kind, year, j), s) {
+        match survivors_after_year(run, history, age + j, year_on(kind, j, year), s) {
             Answer::Value(v) => {
                 s = v;
             }

@@ -19,8 +19,8 @@ use Rattle.valuation.proofs.Payments.{payment-value, paid-refused, refused-befo
 use Rattle.swept_points.specs.Inner.Due.{dueAfter}
 
 -- the year of a rate is not before the first one
-pub not-before : {at : ℕ} (kind : Kind) (year j : ℕ) → at ≡ yearOn kind year j → year ≤ at
-not-before kind year j e = omega (arith, e, year-late kind year j)
+pub not-before : {at : ℕ} (kind : Kind) (year j : ℕ) → at ≡ yearOn kind j year → year ≤ at
+not-before kind year j e = omega (arith, e, year-late kind j year)
 
 -- ---- what is due in a year
 pub due-none : (b : Basis) (from j : ℕ) (s : ℤ) → j < from → pos 0 ≡ dueAfter b from j s
@@ -32,13 +32,13 @@ unfolding dueAfter
 due-paid b from j s l = rw (le-ltb j from l) refl
 
 -- ---- the passage
-module _ (b : Basis) (kind : Kind) (age year from : ℕ) where
+module _ (b : Basis) (kind : Kind) (age from year : ℕ) where
   -- the first n payments come to a total
   abbrev Made : ℕ → ℕ → Type 0
-  Made n total = sumOf (λ k. paymentAfter b kind age year (from + k)) n ≡ value (pos total)
+  Made n total = sumOf (λ k. paymentAfter b kind age (from + k) year) n ≡ value (pos total)
 
   -- with what is due after j years
-  made-next : (j total s p : ℕ) → Made (j - from) total → survivorsOf b kind age year j ≡ value (pos s) → pos p ≡ dueAfter b from j (pos s) → Made (suc j - from) (total + p)
+  made-next : (j total s p : ℕ) → Made (j - from) total → survivorsOf b kind age j year ≡ value (pos s) → pos p ≡ dueAfter b from j (pos s) → Made (suc j - from) (total + p)
   made-next j total s p m h d = by (decLt j from)
     where
       by : Dec (j < from) → Made (suc j - from) (total + p)
@@ -51,20 +51,20 @@ module _ (b : Basis) (kind : Kind) (age year from : ℕ) where
       by (no l) =
           let e : suc j - from ≡ suc (j - from) = omega arith in
           let f : from + (j - from) ≡ j = omega arith in
-          let paid = payment-value b kind age year from j (pos s) (discountAfter b j) h refl in
+          let paid = payment-value b kind age from year j (pos s) (discountAfter b j) h refl in
           let due = d ∙ sym (due-paid b from j (pos s) (omega arith)) in
           rw e
-          (sum-next (λ k. paymentAfter b kind age year (from + k)) (j - from) (pos total) (pos p) m
-          (ap (paymentAfter b kind age year) f ∙ paid ∙ ap value (sym due)))
+          (sum-next (λ k. paymentAfter b kind age (from + k) year) (j - from) (pos total) (pos p) m
+          (ap (λ j. paymentAfter b kind age j year) f ∙ paid ∙ ap value (sym due)))
 
 -- the survivors after j years, their sum, and the payments so far
-pub record Passing (b : Basis) (kind : Kind) (age year from j s lives payments : ℕ) : Type 0 where
+pub record Passing (b : Basis) (kind : Kind) (age from year j s lives payments : ℕ) : Type 0 where
   pub living : Living b kind age year j s lives
   pub sum : payments ≤ 4 * U * (j + 1)
-  pub made : Made b kind age year from (suc j - from) payments
+  pub made : Made b kind age from year (suc j - from) payments
 
-module _ (b : Basis) (kind : Kind) (age year from : ℕ) where
-  pub passing-first : (p : ℕ) → (pos p ≡ dueAfter b from 0 (pos U)) × (p ≤ 4 * U) → Passing b kind age year from 0 U 0 p
+module _ (b : Basis) (kind : Kind) (age from year : ℕ) where
+  pub passing-first : (p : ℕ) → (pos p ≡ dueAfter b from 0 (pos U)) × (p ≤ 4 * U) → Passing b kind age from year 0 U 0 p
   passing-first p d =
       let living = living-first b kind age year in
       let z : 0 - from ≡ 0 = omega arith in
@@ -72,54 +72,54 @@ module _ (b : Basis) (kind : Kind) (age year from : ℕ) where
       record {
         living = living;
         sum = omega (arith, d .1);
-        made = rw e at (made-next b kind age year from 0 0 U p (rw z (sum-none _)) (living .survivors) (d .0));
+        made = rw e at (made-next b kind age from year 0 0 U p (rw z (sum-none _)) (living .survivors) (d .0));
       }
 
-  pub passing-next : (j s lives payments x p : ℕ) {at : ℕ} → Passing b kind age year from j s lives payments → at ≡ yearOn kind year j
+  pub passing-next : (j s lives payments x p : ℕ) {at : ℕ} → Passing b kind age from year j s lives payments → at ≡ yearOn kind j year
       → value (pos x) ≡ survivorsAfterYear b (age + j) at (pos s) →
-      (pos p ≡ dueAfter b from (j + 1) (pos x)) × (p ≤ 4 * U) → Passing b kind age year from (j + 1) x (lives + x) (payments + p)
+      (pos p ≡ dueAfter b from (j + 1) (pos x)) × (p ≤ 4 * U) → Passing b kind age from year (j + 1) x (lives + x) (payments + p)
   passing-next j s lives payments x p i e g d =
       let living = living-next b kind age year j s lives x (i .living) e g in
       let f : suc j ≡ j + 1 = omega arith in
       record {
         living = living;
         sum = omega (arith, i .sum, d .1);
-        made = made-next b kind age year from (j + 1) payments x p (rw f at (i .made)) (living .survivors) (d .0);
+        made = made-next b kind age from year (j + 1) payments x p (rw f at (i .made)) (living .survivors) (d .0);
       }
 
   -- a rate that is refused refuses both sums
-  module _ (j s lives payments : ℕ) (r : Refusal) {at : ℕ} (i : Passing b kind age year from j s lives payments) (l : j < 150 - age) (e : at ≡ yearOn kind year j)
+  module _ (j s lives payments : ℕ) (r : Refusal) {at : ℕ} (i : Passing b kind age from year j s lives payments) (l : j < 150 - age) (e : at ≡ yearOn kind j year)
       (g : refused r ≡ survivorsAfterYear b (age + j) at (pos s)) where
-    after : survivorsOf b kind age year (suc j) ≡ refused r
-    after = survivors-next b kind age year j (pos s) (refused r) e (i .living .survivors) g
+    after : survivorsOf b kind age (suc j) year ≡ refused r
+    after = survivors-next b kind age j year (pos s) (refused r) e (i .living .survivors) g
 
-    pub expectation-refused : refused r ≡ expectationOf b kind age year 0
-    expectation-refused = lived-refused b kind age year 0 j s lives r (omega arith) (omega arith) (omega arith) (i .living) e g
+    pub expectation-refused : refused r ≡ expectationOf b kind age 0 year
+    expectation-refused = lived-refused b kind age 0 year j s lives r (omega arith) (omega arith) (omega arith) (i .living) e g
 
-    pub annuity-refused : from ≤ 150 - age → refused r ≡ annuityOf b kind age year from
+    pub annuity-refused : from ≤ 150 - age → refused r ≡ annuityOf b kind age from year
     annuity-refused m = by (decLt j from)
       where
-        by : Dec (j < from) → refused r ≡ annuityOf b kind age year from
-        by (yes q) = refused-before b kind age year from r (survivors-refused b kind age year (suc j) from r (omega arith) after)
+        by : Dec (j < from) → refused r ≡ annuityOf b kind age from year
+        by (yes q) = refused-before b kind age from year r (survivors-refused b kind age (suc j) from year r (omega arith) after)
         by (no q) =
             let f : suc j - from ≡ suc (j - from) = omega arith in
-            paid-refused b kind age year from j (pos payments) r (omega arith) l (rw f at (i .made)) after
+            paid-refused b kind age from year j (pos payments) r (omega arith) l (rw f at (i .made)) after
 
   -- at age 150 both sums are whole
-  pub expectation-last : (j s lives payments : ℕ) → j ≡ 150 - age → Passing b kind age year from j s lives payments
-      → value (pos (500_000_000 + lives)) ≡ expectationOf b kind age year 0
-  expectation-last j s lives payments e i = lived-last b kind age year 0 j s lives (omega arith) (omega arith) (omega arith) (i .living)
+  pub expectation-last : (j s lives payments : ℕ) → j ≡ 150 - age → Passing b kind age from year j s lives payments
+      → value (pos (500_000_000 + lives)) ≡ expectationOf b kind age 0 year
+  expectation-last j s lives payments e i = lived-last b kind age 0 year j s lives (omega arith) (omega arith) (omega arith) (i .living)
 
-  pub annuity-last : (j s lives payments : ℕ) → j ≡ 150 - age → from ≤ 150 - age → Passing b kind age year from j s lives payments
-      → value (pos payments) ≡ annuityOf b kind age year from
+  pub annuity-last : (j s lives payments : ℕ) → j ≡ 150 - age → from ≤ 150 - age → Passing b kind age from year j s lives payments
+      → value (pos payments) ≡ annuityOf b kind age from year
   annuity-last j s lives payments e m i =
       let f : suc j - from ≡ suc (j - from) = omega arith in
-      paid-last b kind age year from j (pos payments) e (rw f at (i .made))
+      paid-last b kind age from year j (pos payments) e (rw f at (i .made))
 
 -- ---- the expectation after a deferment is that from the later age in the later year
-pub deferred : (b : Basis) (kind : Kind) (age year from : ℕ) → expectationOf b kind (age + from) (year + from) 0 ≡ expectationOf b kind age year from
+pub deferred : (b : Basis) (kind : Kind) (age from year : ℕ) → expectationOf b kind (age + from) 0 (year + from) ≡ expectationOf b kind age from year
 unfolding expectationOf
-deferred b kind age year from =
+deferred b kind age from year =
     let a : age + from + 0 ≡ age + from = omega arith in
     let y : year + from + 0 ≡ year + from = omega arith in
     let n : 150 - (age + from) - 0 ≡ 150 - age - from = omega arith in

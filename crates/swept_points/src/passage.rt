@@ -57,13 +57,13 @@ pub fn passage_from(
     table: &[u32],
     kind: Kind,
     age: u32,
-    year: u32,
     deferment: u32,
+    year: u32,
 ) -> Passage
     requires { ⌜ Workable (now run) (now history) × FactorTable (basisWith (now run) (now history)) (now table) × (20 ≤ age) × (age + deferment ≤ 150)
         × (basisWith (now run) (now history) .base ≤ year) × (year ≤ 2260) ⌝ }
-    ensures { λ r. ⌜ expectationIn r ≡ expectationOf (basisWith (now (run .entry)) (now (history .entry))) kind age year 0 ⌝ }
-    ensures { λ r. ⌜ annuityIn r ≡ annuityOf (basisWith (now (run .entry)) (now (history .entry))) kind age year deferment ⌝ }
+    ensures { λ r. ⌜ expectationIn r ≡ expectationOf (basisWith (now (run .entry)) (now (history .entry))) kind age 0 year ⌝ }
+    ensures { λ r. ⌜ annuityIn r ≡ annuityOf (basisWith (now (run .entry)) (now (history .entry))) kind age deferment year ⌝ }
 {
     let last = 150 - age;
     let mut s: u64 = UNIT;
@@ -76,7 +76,7 @@ pub fn passage_from(
             history,
             table,
             age + j,
-            survivorship::year_on(kind, year, j),
+            survivorship::year_on(kind, j, year),
             s,
         ) {
             Answer::Value(x) => {

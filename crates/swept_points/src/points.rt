@@ -47,15 +47,15 @@ fn expectation(
 ) -> Answer
     requires { ⌜ Workable (now run) (now history) × FactorTable (basisWith (now run) (now history)) (now table) × (20 ≤ q .age)
         × (q .age + q .deferment ≤ 150) × (basisWith (now run) (now history) .base ≤ q .year) × (q .year ≤ 2130)
-        × (expectationIn known ≡ expectationOf (basisWith (now run) (now history)) kind (q .age) (q .year) 0) ⌝ }
-    ensures { λ r. ⌜ meaning r ≡ expectationOf (basisWith (now (run .entry)) (now (history .entry))) kind (q .age) (q .year) (q .deferment) ⌝ }
+        × (expectationIn known ≡ expectationOf (basisWith (now run) (now history)) kind (q .age) 0 (q .year)) ⌝ }
+    ensures { λ r. ⌜ meaning r ≡ expectationOf (basisWith (now (run .entry)) (now (history .entry))) kind (q .age) (q .deferment) (q .year) ⌝ }
 {
     if q.deferment == 0 {
         return expectation_in(known);
     }
     let age = q.age + q.deferment;
     let year = q.year + q.deferment;
-    expectation_in(passage::passage_from(run, history, table, kind, age, year, 0))
+    expectation_in(passage::passage_from(run, history, table, kind, age, 0, year))
 }
 
 // The results of a question that has been checked.
@@ -66,9 +66,9 @@ fn results_at(run: &[u8], history: &[u8], table: &[u32], q: Question) -> PointAn
 {
     let age = q.age;
     let year = q.year;
-    let wait = q.deferment;
-    let period = passage::passage_from(run, history, table, Kind::Period, age, year, wait);
-    let cohort = passage::passage_from(run, history, table, Kind::Cohort, age, year, wait);
+    let deferment = q.deferment;
+    let period = passage::passage_from(run, history, table, Kind::Period, age, deferment, year);
+    let cohort = passage::passage_from(run, history, table, Kind::Cohort, age, deferment, year);
     model_points::four(
         expectation(run, history, table, Kind::Period, q, period),
         expectation(run, history, table, Kind::Cohort, q, cohort),

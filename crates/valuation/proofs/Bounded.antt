@@ -39,20 +39,20 @@ payment-small v s e =
     let room : v .0 * s .0 ≤ 4 * U * U = mul-le-mul {n₂ = 4 * U} {m₂ = U} (v .2) (s .2) in
     ((2 * (v .0 * s .0) + U) / (2 * U), e ∙ rw (v .1, s .1) refl, round-abs-le (pos (v .0 * s .0)) U (4 * U) (omega arith) room)
 
-module _ (b : Basis) (limits : Limited b) (kind : Kind) (age year : ℕ) where
-  paid-small : (j : ℕ) (p : ℤ) → j ≤ 130 → paymentAfter b kind age year j ≡ value p → UpTo (4 * U) p
+module _ (b : Basis) (limits : Limited b) (kind : Kind) (age : ℕ) where
+  paid-small : (j year : ℕ) (p : ℤ) → j ≤ 130 → paymentAfter b kind age j year ≡ value p → UpTo (4 * U) p
   unfolding paymentAfter
-  paid-small j p l h =
-      let w = came (survivorsOf b kind age year j) (λ s. value (payment (discountAfter b j) s)) p h in
+  paid-small j year p l h =
+      let w = came (survivorsOf b kind age j year) (λ s. value (payment (discountAfter b j) s)) p h in
       let v = discount-natural b limits j l in
       let e : p ≡ payment (discountAfter b j) (w .0) = cc in
-      payment-small (v .0, v .1, omega (arith, v .2)) (survivors-natural b kind age year j (w .0) (w .1)) e
+      payment-small (v .0, v .1, omega (arith, v .2)) (survivors-natural b kind age j year (w .0) (w .1)) e
 
   -- the last payment is after 150 − age years, or after the deferment where that is more
-  pub annuity-small : (deferment : ℕ) (a : ℤ) → 20 ≤ age → deferment ≤ 130 → annuityOf b kind age year deferment ≡ value a
+  pub annuity-small : (deferment year : ℕ) (a : ℤ) → 20 ≤ age → deferment ≤ 130 → annuityOf b kind age deferment year ≡ value a
       → (n : ℕ) × (a ≡ pos n) × (n ≤ 524_000_000_000)
   unfolding annuityOf
-  annuity-small deferment a low near h =
+  annuity-small deferment year a low near h =
       let n = suc (150 - age - deferment) in
-      let t = sum-small (λ k. paymentAfter b kind age year (deferment + k)) (4 * U) n (λ k p l g. paid-small (deferment + k) p (omega arith) g) a h in
+      let t = sum-small (λ k. paymentAfter b kind age (deferment + k) year) (4 * U) n (λ k p l g. paid-small (deferment + k) year p (omega arith) g) a h in
       (t .0, t .1, omega (arith, t .2))

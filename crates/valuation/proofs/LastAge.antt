@@ -10,10 +10,10 @@ use Rattle.valuation.specs.Valuation.{curtateOf, expectationOf, discount
 use Rattle.survivorship.specs.declared.Kind.{Kind}
 
 -- at age 150 there is no year to come, on any basis: half a unit, and one payment at once
-pub expectation-at-end : (b : Basis) (kind : Kind) (year : ℕ) → expectationOf b kind 150 year 0 ≡ value (pos (U / 2))
+pub expectation-at-end : (b : Basis) (kind : Kind) (year : ℕ) → expectationOf b kind 150 0 year ≡ value (pos (U / 2))
 unfolding curtateOf expectationOf steps sumOf
 expectation-at-end b kind year = refl
 
-pub annuity-at-end : (b : Basis) (kind : Kind) (year : ℕ) → annuityOf b kind 150 year 0 ≡ value (pos U)
+pub annuity-at-end : (b : Basis) (kind : Kind) (year : ℕ) → annuityOf b kind 150 0 year ≡ value (pos U)
 unfolding survivorsOf discountAfter paymentAfter annuityOf steps sumOf
 annuity-at-end b kind year = refl

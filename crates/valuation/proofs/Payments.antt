@@ -20,70 +20,70 @@ zero-left : (x : ℤ) → pos 0 +ℤ x ≡ x
 zero-left x = rw (parts x) (simp ring (⊖-eq _ _ _ _ (omega arith)))
 
 -- ---- the payments from a deferment on
-module _ (b : Basis) (kind : Kind) (age year from : ℕ) where
-  pub payment-value : (j : ℕ) (s v : ℤ) → survivorsOf b kind age year j ≡ value s → discountAfter b j ≡ v → paymentAfter b kind age year j ≡ value (payment v s)
+module _ (b : Basis) (kind : Kind) (age from year : ℕ) where
+  pub payment-value : (j : ℕ) (s v : ℤ) → survivorsOf b kind age j year ≡ value s → discountAfter b j ≡ v → paymentAfter b kind age j year ≡ value (payment v s)
   unfolding paymentAfter
   payment-value j s v h k = rw (h, k) refl
 
-  payment-refused : (j : ℕ) (r : Refusal) → survivorsOf b kind age year j ≡ refused r → paymentAfter b kind age year j ≡ refused r
+  payment-refused : (j : ℕ) (r : Refusal) → survivorsOf b kind age j year ≡ refused r → paymentAfter b kind age j year ≡ refused r
   unfolding paymentAfter
   payment-refused j r h = rw h refl
 
   -- those from the deferment to j come to a total
   abbrev pub Paid : ℕ → ℤ → Type 0
-  Paid j total = sumOf (λ k. paymentAfter b kind age year (from + k)) (suc (j - from)) ≡ value total
+  Paid j total = sumOf (λ k. paymentAfter b kind age (from + k) year) (suc (j - from)) ≡ value total
 
-  paid-first : (s v p : ℤ) → survivorsOf b kind age year from ≡ value s → discountAfter b from ≡ v → p ≡ payment v s → Paid from p
+  paid-first : (s v p : ℤ) → survivorsOf b kind age from year ≡ value s → discountAfter b from ≡ v → p ≡ payment v s → Paid from p
   paid-first s v p h k e =
       let z : from - from ≡ 0 = omega arith in
       let f : from ≡ from + 0 = omega arith in
-      let first = ap (paymentAfter b kind age year) (sym f) ∙ payment-value from s v h k in
+      let first = ap (λ j. paymentAfter b kind age j year) (sym f) ∙ payment-value from s v h k in
       rw z
-      (sum-next (λ k. paymentAfter b kind age year (from + k)) 0 (pos 0) (payment v s) (sum-none _) first ∙ ap value (zero-left (payment v s) ∙ sym e))
+      (sum-next (λ k. paymentAfter b kind age (from + k) year) 0 (pos 0) (payment v s) (sum-none _) first ∙ ap value (zero-left (payment v s) ∙ sym e))
 
-  paid-next : (j : ℕ) (total s v p : ℤ) → from ≤ j → Paid j total → survivorsOf b kind age year (suc j) ≡ value s → discountAfter b (suc j) ≡ v
+  paid-next : (j : ℕ) (total s v p : ℤ) → from ≤ j → Paid j total → survivorsOf b kind age (suc j) year ≡ value s → discountAfter b (suc j) ≡ v
       → p ≡ payment v s → Paid (suc j) (total +ℤ p)
   paid-next j total s v p l q h k e =
       let z : suc j - from ≡ suc (j - from) = omega arith in
       let f : from + suc (j - from) ≡ suc j = omega arith in
-      rw (z, e) (sum-next (λ k. paymentAfter b kind age year (from + k)) (suc (j - from)) total (payment v s) q
-      (ap (paymentAfter b kind age year) f ∙ payment-value (suc j) s v h k))
+      rw (z, e) (sum-next (λ k. paymentAfter b kind age (from + k) year) (suc (j - from)) total (payment v s) q
+      (ap (λ j. paymentAfter b kind age j year) f ∙ payment-value (suc j) s v h k))
 
   -- a refusal after the deferment's end, and one before it
-  pub paid-refused : (j : ℕ) (total : ℤ) (r : Refusal) → from ≤ j → j < 150 - age → Paid j total → survivorsOf b kind age year (suc j) ≡ refused r
-      → refused r ≡ annuityOf b kind age year from
+  pub paid-refused : (j : ℕ) (total : ℤ) (r : Refusal) → from ≤ j → j < 150 - age → Paid j total → survivorsOf b kind age (suc j) year ≡ refused r
+      → refused r ≡ annuityOf b kind age from year
   unfolding annuityOf
   paid-refused j total r l m q h =
       let f : from + suc (j - from) ≡ suc j = omega arith in
-      let g = ap (paymentAfter b kind age year) f ∙ payment-refused (suc j) r h in
-      sym (sum-refused (λ k. paymentAfter b kind age year (from + k)) (suc (j - from)) (suc (150 - age - from)) total r (omega arith) q g)
+      let g = ap (λ j. paymentAfter b kind age j year) f ∙ payment-refused (suc j) r h in
+      sym (sum-refused (λ k. paymentAfter b kind age (from + k) year) (suc (j - from)) (suc (150 - age - from)) total r (omega arith) q g)
 
-  pub refused-before : (r : Refusal) → survivorsOf b kind age year from ≡ refused r → refused r ≡ annuityOf b kind age year from
+  pub refused-before : (r : Refusal) → survivorsOf b kind age from year ≡ refused r → refused r ≡ annuityOf b kind age from year
   unfolding annuityOf
   refused-before r h =
       let f : from + 0 ≡ from = omega arith in
-      sym (sum-refused (λ k. paymentAfter b kind age year (from + k)) 0 (suc (150 - age - from)) (pos 0) r (omega arith) (sum-none _)
-      (ap (paymentAfter b kind age year) f ∙ payment-refused from r h))
+      sym (sum-refused (λ k. paymentAfter b kind age (from + k) year) 0 (suc (150 - age - from)) (pos 0) r (omega arith) (sum-none _)
+      (ap (λ j. paymentAfter b kind age j year) f ∙ payment-refused from r h))
 
   -- all of them are the annuity
-  pub paid-last : (j : ℕ) (total : ℤ) → j ≡ 150 - age → Paid j total → value total ≡ annuityOf b kind age year from
+  pub paid-last : (j : ℕ) (total : ℤ) → j ≡ 150 - age → Paid j total → value total ≡ annuityOf b kind age from year
   unfolding annuityOf
   paid-last j total e q = sym (rw e at q)
 
 -- ---- what the loop knows after j years: survivors, discount and the payments so far
-pub record Paying (b : Basis) (kind : Kind) (age year from j s v total : ℕ) : Type 0 where
+pub record Paying (b : Basis) (kind : Kind) (age from year j s v total : ℕ) : Type 0 where
   pub begun : from ≤ j
   pub within : j ≤ 150 - age
   pub people : s ≤ U
   pub sum : total ≤ 4 * U * (j + 1)
-  pub survivors : survivorsOf b kind age year j ≡ value (pos s)
+  pub survivors : survivorsOf b kind age j year ≡ value (pos s)
   pub discount : discountAfter b j ≡ pos v
-  pub paid : Paid b kind age year from j (pos total)
+  pub paid : Paid b kind age from year j (pos total)
 
-module _ (b : Basis) (kind : Kind) (age year from : ℕ) where
-  pub paying-first : (s v p : ℕ) → from ≤ 150 - age → s ≤ U → survivorsOf b kind age year from ≡ value (pos s) →
+module _ (b : Basis) (kind : Kind) (age from year : ℕ) where
+  pub paying-first : (s v p : ℕ) → from ≤ 150 - age → s ≤ U → survivorsOf b kind age from year ≡ value (pos s) →
       pos v ≡ discountAfter b from → (pos p ≡ payment (pos v) (pos s)) × (p ≤ 4 * U) →
-      Paying b kind age year from from s v p
+      Paying b kind age from year from s v p
   paying-first s v p l m h k q =
       record {
         begun = omega arith;
@@ -92,15 +92,15 @@ module _ (b : Basis) (kind : Kind) (age year from : ℕ) where
         sum = omega (arith, q .1);
         survivors = h;
         discount = sym k;
-        paid = paid-first b kind age year from (pos s) (pos v) (pos p) h (sym k) (q .0);
+        paid = paid-first b kind age from year (pos s) (pos v) (pos p) h (sym k) (q .0);
       }
 
-  pub paying-next : (j s v total x w p : ℕ) {at accumulation : ℕ} → Paying b kind age year from j s v total → j < 150 - age → at ≡ yearOn kind year j
+  pub paying-next : (j s v total x w p : ℕ) {at accumulation : ℕ} → Paying b kind age from year j s v total → j < 150 - age → at ≡ yearOn kind j year
       → accumulation ≡ accumulationOf b →
       value (pos x) ≡ survivorsAfterYear b (age + j) at (pos s) → pos w ≡ discountNext (pos v) accumulation → (pos p ≡ payment (pos w) (pos x)) × (p ≤ 4 * U) →
-      Paying b kind age year from (j + 1) x w (total + p)
+      Paying b kind age from year (j + 1) x w (total + p)
   paying-next j s v total x w p {at} i l e f g k q =
-      let h = survivors-next b kind age year j (pos s) (value (pos x)) e (i .survivors) g in
+      let h = survivors-next b kind age j year (pos s) (value (pos x)) e (i .survivors) g in
       let d = discount-turn b j (pos v) f (i .discount) ∙ sym k in
       rw add-one
       (record {
@@ -110,5 +110,5 @@ module _ (b : Basis) (kind : Kind) (age year from : ℕ) where
         sum = omega (arith, i .sum, q .1);
         survivors = h;
         discount = d;
-        paid = paid-next b kind age year from j (pos total) (pos x) (pos w) (pos p) (i .begun) (i .paid) h d (q .0);
+        paid = paid-next b kind age from year j (pos total) (pos x) (pos w) (pos p) (i .begun) (i .paid) h d (q .0);
       })

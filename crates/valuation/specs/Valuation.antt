@@ -10,12 +10,12 @@ use Rattle.survivorship.specs.Survivorship.{survivorsOf}
 -- ---- Expectation
 -- the survivors after 1, 2, up to n years, added: the curtate expectation
 unfoldable pub curtateOf : Basis → Kind → ℕ → ℕ → ℕ → Outcome ℤ
-curtateOf b kind age year n = sumOf (λ k. survivorsOf b kind age year (suc k)) n
+curtateOf b kind age n year = sumOf (λ k. survivorsOf b kind age (suc k) year) n
 
 -- start at age + deferment in year + deferment, and add U/2; N = 150 − age − deferment
 unfoldable pub expectationOf : Basis → Kind → ℕ → ℕ → ℕ → Outcome ℤ
-expectationOf b kind age year deferment =
-    andThen (curtateOf b kind (age + deferment) (year + deferment) (150 - age - deferment)) (λ t. value (pos (U / 2) +ℤ t))
+expectationOf b kind age deferment year =
+    andThen (curtateOf b kind (age + deferment) (150 - age - deferment) (year + deferment)) (λ t. value (pos (U / 2) +ℤ t))
 
 -- ---- Annuity, yearly in advance
 -- round(discount × U / (U + rate of discount))
@@ -33,8 +33,8 @@ payment v s = round (whole (v *ℤ s) /ᶠ U)
 
 -- the payment after j years; survivorship starts at the undeferred age
 unfoldable pub paymentAfter : Basis → Kind → ℕ → ℕ → ℕ → Outcome ℤ
-paymentAfter b kind age year j = andThen (survivorsOf b kind age year j) (λ s. value (payment (discountAfter b j) s))
+paymentAfter b kind age j year = andThen (survivorsOf b kind age j year) (λ s. value (payment (discountAfter b j) s))
 
 -- added for each j from the deferment to 150 − age
 unfoldable pub annuityOf : Basis → Kind → ℕ → ℕ → ℕ → Outcome ℤ
-annuityOf b kind age year deferment = sumOf (λ k. paymentAfter b kind age year (deferment + k)) (suc (150 - age - deferment))
+annuityOf b kind age deferment year = sumOf (λ k. paymentAfter b kind age (deferment + k) year) (suc (150 - age - deferment))

@@ -48,13 +48,13 @@ fn annuity_from(
     history: &[u8],
     kind: Kind,
     age: u32,
-    year: u32,
     deferment: u32,
+    year: u32,
     first: u64,
 ) -> Answer
     requires { ⌜ Workable (now run) (now history) × (20 ≤ age) × (age + deferment ≤ 150) × (basisWith (now run) (now history) .base ≤ year)
-        × (year ≤ 2130) × (first ≤ 1_000_000_000) × (survivorsOf (basisWith (now run) (now history)) kind age year deferment ≡ value (pos first)) ⌝ }
-    ensures { λ r. ⌜ meaning r ≡ annuityOf (basisWith (now (run .entry)) (now (history .entry))) kind age year deferment ⌝ }
+        × (year ≤ 2130) × (first ≤ 1_000_000_000) × (survivorsOf (basisWith (now run) (now history)) kind age deferment year ≡ value (pos first)) ⌝ }
+    ensures { λ r. ⌜ meaning r ≡ annuityOf (basisWith (now (run .entry)) (now (history .entry))) kind age deferment year ⌝ }
 {
     let accumulation = basis::fields::accumulation(run);
     let last = 150 - age;
@@ -67,7 +67,7 @@ fn annuity_from(
             run,
             history,
             age + j,
-            survivorship::year_on(kind, year, j),
+            survivorship::year_on(kind, j, year),
             s,
         ) {
             Answer::Value(x) => {
@@ -88,14 +88,14 @@ pub fn annuity_at(
     history: &[u8],
     kind: Kind,
     age: u32,
-    year: u32,
     deferment: u32,
+    year: u32,
 ) -> Answer
     requires { ⌜ Workable (now run) (now history) × (20 ≤ age) × (age + deferment ≤ 150) × (basisWith (now run) (now history) .base ≤ year) × (year ≤ 2130) ⌝ }
-    ensures { λ r. ⌜ meaning r ≡ annuityOf (basisWith (now (run .entry)) (now (history .entry))) kind age year deferment ⌝ }
+    ensures { λ r. ⌜ meaning r ≡ annuityOf (basisWith (now (run .entry)) (now (history .entry))) kind age deferment year ⌝ }
 {
-    match survivorship::survivors_at(run, history, kind, age, year, deferment) {
-        Answer::Value(s) => annuity_from(run, history, kind, age, year, deferment, s),
+    match survivorship::survivors_at(run, history, kind, age, deferment, year) {
+        Answer::Value(s) => annuity_from(run, history, kind, age, deferment, year, s),
         Answer::Refused(r) => Answer::Refused(r),
     }
 }

@@ -15,11 +15,11 @@ pub fn expectation_at(
     history: &[u8],
     kind: Kind,
     age: u32,
-    year: u32,
     deferment: u32,
+    year: u32,
 ) -> Answer
     requires { ⌜ Workable (now run) (now history) × (20 ≤ age) × (age + deferment ≤ 150) × (basisWith (now run) (now history) .base ≤ year) × (year ≤ 2130) ⌝ }
-    ensures { λ r. ⌜ meaning r ≡ expectationOf (basisWith (now (run .entry)) (now (history .entry))) kind age year deferment ⌝ }
+    ensures { λ r. ⌜ meaning r ≡ expectationOf (basisWith (now (run .entry)) (now (history .entry))) kind age deferment year ⌝ }
 {
     let from = age + deferment;
     let start = year + deferment;
@@ -32,7 +32,7 @@ pub fn expectation_at(
             run,
             history,
             from + j,
-            survivorship::year_on(kind, start, j),
+            survivorship::year_on(kind, j, start),
             s,
         ) {
             Answer::Value(x) => {

@@ -14,10 +14,10 @@ use Rattle.survivorship.proofs.survivors_at.Statement.{statement}
 use Rattle.survivorship.proofs.survivors_at.Tie as tie
 
 abbrev Inv-loop : tie.InvT-loop
-Inv-loop run history kind age year n s₀ j₀ s j = (j ≤ n) × (s ≤ U) × (survivorsOf (basisWith run history) kind age year j ≡ value (pos s))
+Inv-loop run history kind age n year s₀ j₀ s j = (j ≤ n) × (s ≤ U) × (survivorsOf (basisWith run history) kind age j year ≡ value (pos s))
 
 abbrev μ-loop : tie.MeasureT-loop
-μ-loop run history kind age year n s₀ j₀ s j = n - j
+μ-loop run history kind age n year s₀ j₀ s j = n - j
 
 loop-holds : tie.Need-loop-holds Inv-loop μ-loop
 loop-holds c = let a = c .before .before .args in (omega arith, omega arith, survivors-first (basisWith (a .run .now) (a .history .now)) (a .kind) (a .age) (a .year))
@@ -30,7 +30,7 @@ year-on-requires c κs = search needs
 
 survivors-after-year-requires : tie.Need-survivors-after-year-requires Inv-loop μ-loop
 survivors-after-year-requires c κs = let l = c .before .before in let s = l .before .before .before in
-    (s .pre .0, omega arith, omega arith, omega (arith, s .pre .3, c .year-on .ensures, year-late (s .args .kind) (s .args .year) (l .loop .j)), l .loop .inv .1)
+    (s .pre .0, omega arith, omega arith, omega (arith, s .pre .3, c .year-on .ensures, year-late (s .args .kind) (l .loop .j) (s .args .year)), l .loop .inv .1)
 
 enum-known-v : tie.Need-enum-known-v Inv-loop μ-loop
 enum-known-v c = search needs
@@ -43,8 +43,8 @@ returns c = let y = c .before .before .before in let l = y .before .before .befo
     let b = basisWith (a .run .now) (a .history .now) in
     let r = c .before .r .given .0 .0 in
     let g = sym (ap meaning (c .before .r .given .1)) ∙ y .survivors-after-year .ensures in
-    let e = survivors-next b (a .kind) (a .age) (a .year) (l .loop .j) (pos (l .loop .s)) (refused r) (y .before .year-on .ensures) (l .loop .inv .2) g in
-    sym (survivors-refused b (a .kind) (a .age) (a .year) (suc (l .loop .j)) (a .n) r (omega arith) e)
+    let e = survivors-next b (a .kind) (a .age) (l .loop .j) (a .year) (pos (l .loop .s)) (refused r) (y .before .year-on .ensures) (l .loop .inv .2) g in
+    sym (survivors-refused b (a .kind) (a .age) (suc (l .loop .j)) (a .n) (a .year) r (omega arith) e)
 
 add-j : tie.Need-add-j Inv-loop μ-loop
 add-j c = search needs
@@ -60,7 +60,7 @@ loop-again c = let y = c .before .before .before in let l = y .before .before .b
     let small = year-small b (a .age + l .loop .j) (y .before .year-on .result) (l .loop .s) v (l .loop .inv .1) (sym g) in (
       omega arith,
       small,
-      rw add-one (survivors-next b (a .kind) (a .age) (a .year) (l .loop .j) (pos (l .loop .s)) (value (pos v))
+      rw add-one (survivors-next b (a .kind) (a .age) (l .loop .j) (a .year) (pos (l .loop .s)) (value (pos v))
           (y .before .year-on .ensures) (l .loop .inv .2) g),
     )
 

@@ -11,11 +11,11 @@ use Rattle.swept_points.proofs.passage.passage_from.Statement.{statemen
 use Rattle.swept_points.proofs.passage.passage_from.Tie as tie
 
 abbrev Inv-loop : tie.InvT-loop
-Inv-loop run history table kind age year deferment last s₀ j₀ lives₀ payments₀ s j lives payments =
-    (j ≤ last) × Passing (basisWith run history) kind age year deferment j s lives payments
+Inv-loop run history table kind age deferment year last s₀ j₀ lives₀ payments₀ s j lives payments =
+    (j ≤ last) × Passing (basisWith run history) kind age deferment year j s lives payments
 
 abbrev μ-loop : tie.MeasureT-loop
-μ-loop run history table kind age year deferment last s₀ j₀ lives₀ payments₀ s j lives payments = last - j
+μ-loop run history table kind age deferment year last s₀ j₀ lives₀ payments₀ s j lives payments = last - j
 
 sub-last : tie.Need-sub-last Inv-loop μ-loop
 sub-last c = search needs
@@ -26,7 +26,7 @@ due-requires c κs = search needs
 loop-holds : tie.Need-loop-holds Inv-loop μ-loop
 loop-holds c =
     let a = c .before .before .before .before .args in
-    (omega arith, passing-first (basisWith (a .run .now) (a .history .now)) (a .kind) (a .age) (a .year) (a .deferment) (c .due .result) (c .due .ensures))
+    (omega arith, passing-first (basisWith (a .run .now) (a .history .now)) (a .kind) (a .age) (a .deferment) (a .year) (c .due .result) (c .due .ensures))
 
 add-survivors-after-year : tie.Need-add-survivors-after-year Inv-loop μ-loop
 add-survivors-after-year c = search needs
@@ -57,9 +57,9 @@ returns c =
     let r = c .before .r .given .0 .0 in
     let g = sym (ap meaning (c .before .r .given .1)) ∙ y .survivors-after-year .ensures in
     let i = l .loop .inv .1 in (
-      expectation-refused b (a .kind) (a .age) (a .year) (a .deferment) (l .loop .j) (l .loop .s) (l .loop .lives) (l .loop .payments) r i
+      expectation-refused b (a .kind) (a .age) (a .deferment) (a .year) (l .loop .j) (l .loop .s) (l .loop .lives) (l .loop .payments) r i
           (omega arith) (y .before .year-on .ensures) g,
-      annuity-refused b (a .kind) (a .age) (a .year) (a .deferment) (l .loop .j) (l .loop .s) (l .loop .lives) (l .loop .payments) r i (omega arith) (y .before .year-on .ensures) g
+      annuity-refused b (a .kind) (a .age) (a .deferment) (a .year) (l .loop .j) (l .loop .s) (l .loop .lives) (l .loop .payments) r i (omega arith) (y .before .year-on .ensures) g
           (omega (arith, s .pre .3)),
     )
 
@@ -106,7 +106,7 @@ loop-again c =
     let a = l .before .before .before .before .before .args in
     let g = sym (ap meaning (t .x .given .1)) ∙ y .survivors-after-year .ensures in (
       omega arith,
-      passing-next (basisWith (a .run .now) (a .history .now)) (a .kind) (a .age) (a .year) (a .deferment) (l .loop .j) (l .loop .s) (l .loop .lives) (l .loop .payments)
+      passing-next (basisWith (a .run .now) (a .history .now)) (a .kind) (a .age) (a .deferment) (a .year) (l .loop .j) (l .loop .s) (l .loop .lives) (l .loop .payments)
           (t .x .given .0 .0) (c .due2 .result) (l .loop .inv .1) (y .before .year-on .ensures) g (c .due2 .ensures),
     )
 
@@ -119,8 +119,8 @@ returns-2 c =
     let s = l .before .before .before .before .before in
     let a = s .args in
     let b = basisWith (a .run .now) (a .history .now) in (
-      expectation-last b (a .kind) (a .age) (a .year) (a .deferment) (l .loop .j) (l .loop .s) (l .loop .lives) (l .loop .payments) (omega arith) (l .loop .inv .1),
-      annuity-last b (a .kind) (a .age) (a .year) (a .deferment) (l .loop .j) (l .loop .s) (l .loop .lives) (l .loop .payments) (omega arith)
+      expectation-last b (a .kind) (a .age) (a .deferment) (a .year) (l .loop .j) (l .loop .s) (l .loop .lives) (l .loop .payments) (omega arith) (l .loop .inv .1),
+      annuity-last b (a .kind) (a .age) (a .deferment) (a .year) (l .loop .j) (l .loop .s) (l .loop .lives) (l .loop .payments) (omega arith)
           (omega (arith, s .pre .3)) (l .loop .inv .1),
     )
 

@@ -16,7 +16,7 @@ returns c =
     let s = c .before .before .before .before .before .before in
     let a = s .args in
     let none : 0 ≡ a .q .deferment = omega arith in
-    c .expectation-in .ensures ∙ s .pre .6 ∙ ap (expectationOf (basisWith (a .run .now) (a .history .now)) (a .kind) (a .q .age) (a .q .year)) none
+    c .expectation-in .ensures ∙ s .pre .6 ∙ ap (λ d. expectationOf (basisWith (a .run .now) (a .history .now)) (a .kind) (a .q .age) d (a .q .year)) none
 
 add-age : tie.Need-add-age
 add-age c = search needs
@@ -34,7 +34,7 @@ returns-2 : tie.Need-returns-2
 returns-2 c =
     let a = c .before .before .before .before .before .before .before .before .before .args in
     c .expectation-in2 .ensures ∙ c .before .passage-from .ensures .0
-    ∙ deferred (basisWith (a .run .now) (a .history .now)) (a .kind) (a .q .age) (a .q .year) (a .q .deferment)
+    ∙ deferred (basisWith (a .run .now) (a .history .now)) (a .kind) (a .q .age) (a .q .deferment) (a .q .year)
 
 pub expectation-spec : {M : Type 1} → statement M
 expectation-spec =

@@ -18,7 +18,7 @@ enum-known-s c = search needs
 annuity-from-requires : tie.Need-annuity-from-requires
 annuity-from-requires c κs = let s = c .before .before .before .before .before .before in let a = s .args in
     let h = sym (c .before .before .before .survivors-at .ensures) ∙ ap meaning (c .before .s .given .1) in
-    let small = survivors-small (basisWith (a .run .now) (a .history .now)) (a .kind) (a .age) (a .year) (a .deferment) (c .before .s .given .0 .0) h in
+    let small = survivors-small (basisWith (a .run .now) (a .history .now)) (a .kind) (a .age) (a .deferment) (a .year) (c .before .s .given .0 .0) h in
     (s .pre .0, s .pre .1, s .pre .2, s .pre .3, s .pre .4, omega (arith, small), h)
 
 enum-known-r : tie.Need-enum-known-r
@@ -29,7 +29,7 @@ returns c = search needs
 
 returns-2 : tie.Need-returns-2
 returns-2 c = let s = c .before .before .before .before .before .before in let a = s .args in
-    refused-before (basisWith (a .run .now) (a .history .now)) (a .kind) (a .age) (a .year) (a .deferment) _
+    refused-before (basisWith (a .run .now) (a .history .now)) (a .kind) (a .age) (a .deferment) (a .year) _
     (sym (c .before .before .before .survivors-at .ensures) ∙ ap meaning (c .before .r .given .1))
 
 pub annuity-at-spec : {M : Type 1} → statement M

@@ -14,10 +14,10 @@ use Rattle.valuation.proofs.annuity.annuity_from.Statement.{statement}
 use Rattle.valuation.proofs.annuity.annuity_from.Tie as tie
 
 abbrev Inv-loop : tie.InvT-loop
-Inv-loop run history kind age year deferment first accumulation last v₀ s₀ j₀ total₀ v s j total = Paying (basisWith run history) kind age year deferment j s v total
+Inv-loop run history kind age deferment year first accumulation last v₀ s₀ j₀ total₀ v s j total = Paying (basisWith run history) kind age deferment year j s v total
 
 abbrev μ-loop : tie.MeasureT-loop
-μ-loop run history kind age year deferment first accumulation last v₀ s₀ j₀ total₀ v s j total = last - j
+μ-loop run history kind age deferment year first accumulation last v₀ s₀ j₀ total₀ v s j total = last - j
 
 accumulation-requires : tie.Need-accumulation-requires Inv-loop μ-loop
 accumulation-requires c κs = search needs
@@ -37,7 +37,7 @@ payment-requires c κs = let s = c .before .before .before .before in let a = s 
 
 loop-holds : tie.Need-loop-holds Inv-loop μ-loop
 loop-holds c = let d = c .before in let s = d .before .before .before .before in let a = s .args in
-    paying-first (basisWith (a .run .now) (a .history .now)) (a .kind) (a .age) (a .year) (a .deferment) (a .first) (d .discount-after .result) (c .payment .result)
+    paying-first (basisWith (a .run .now) (a .history .now)) (a .kind) (a .age) (a .deferment) (a .year) (a .first) (d .discount-after .result) (c .payment .result)
     (omega arith) (s .pre .5) (s .pre .6) (d .discount-after .ensures ∙ discount-with (a .run .now) (a .history .now) (a .deferment)) (c .payment .ensures)
 
 add-survivors-after-year : tie.Need-add-survivors-after-year Inv-loop μ-loop
@@ -48,7 +48,7 @@ year-on-requires c κs = search needs
 
 survivors-after-year-requires : tie.Need-survivors-after-year-requires Inv-loop μ-loop
 survivors-after-year-requires c κs = let l = c .before .before in let s = l .before .before .before .before .before .before in
-    (s .pre .0, omega arith, omega arith, omega (arith, s .pre .3, c .year-on .ensures, year-late (s .args .kind) (s .args .year) (l .loop .j)), l .loop .inv .people)
+    (s .pre .0, omega arith, omega arith, omega (arith, s .pre .3, c .year-on .ensures, year-late (s .args .kind) (l .loop .j) (s .args .year)), l .loop .inv .people)
 
 enum-known-x : tie.Need-enum-known-x Inv-loop μ-loop
 enum-known-x c = search needs
@@ -62,8 +62,8 @@ returns c = let y = c .before .before .before in let l = y .before .before .befo
     let r = c .before .r .given .0 .0 in
     let i = l .loop .inv in
     let g = sym (ap meaning (c .before .r .given .1)) ∙ y .survivors-after-year .ensures in
-    let h = survivors-next b (a .kind) (a .age) (a .year) (l .loop .j) (pos (l .loop .s)) (refused r) (y .before .year-on .ensures) (i .survivors) g in
-    paid-refused b (a .kind) (a .age) (a .year) (a .deferment) (l .loop .j) (pos (l .loop .total)) r (i .begun) (omega arith) (i .paid) h
+    let h = survivors-next b (a .kind) (a .age) (l .loop .j) (a .year) (pos (l .loop .s)) (refused r) (y .before .year-on .ensures) (i .survivors) g in
+    paid-refused b (a .kind) (a .age) (a .deferment) (a .year) (l .loop .j) (pos (l .loop .total)) r (i .begun) (omega arith) (i .paid) h
 
 discount-next-requires : tie.Need-discount-next-requires Inv-loop μ-loop
 discount-next-requires c κs = let l = c .before .before .before .before .before .before in let h = l .before in let s = h .before .before .before .before .before in
@@ -93,13 +93,13 @@ loop-again : tie.Need-loop-again Inv-loop μ-loop
 loop-again c = let d = c .before in let x = d .before .before in let y = x .before .before in
     let l = y .before .before .before in let h = l .before in let s = h .before .before .before .before .before in let a = s .args in
     let g = sym (ap meaning (x .x .given .1)) ∙ y .survivors-after-year .ensures in
-    paying-next (basisWith (a .run .now) (a .history .now)) (a .kind) (a .age) (a .year) (a .deferment) (l .loop .j) (l .loop .s) (l .loop .v) (l .loop .total)
+    paying-next (basisWith (a .run .now) (a .history .now)) (a .kind) (a .age) (a .deferment) (a .year) (l .loop .j) (l .loop .s) (l .loop .v) (l .loop .total)
     (x .x .given .0 .0) (d .discount-next .result) (c .payment2 .result) (l .loop .inv) (omega arith) (y .before .year-on .ensures)
     (h .before .before .accumulation .ensures ∙ accumulation-with (s .args .run .now) (s .args .history .now)) g (d .discount-next .ensures) (c .payment2 .ensures)
 
 returns-2 : tie.Need-returns-2 Inv-loop μ-loop
 returns-2 c = let l = c .before in let s = l .before .before .before .before .before .before in let a = s .args in
-    paid-last (basisWith (a .run .now) (a .history .now)) (a .kind) (a .age) (a .year) (a .deferment) (l .loop .j) (pos (l .loop .total)) (omega arith) (l .loop .inv .paid)
+    paid-last (basisWith (a .run .now) (a .history .now)) (a .kind) (a .age) (a .deferment) (a .year) (l .loop .j) (pos (l .loop .total)) (omega arith) (l .loop .inv .paid)
 
 pub annuity-from-spec : {M : Type 1} → statement M
 annuity-from-spec =

@@ -11,10 +11,10 @@ use Rattle.valuation.proofs.expectation.expectation_at.Statement.{state
 use Rattle.valuation.proofs.expectation.expectation_at.Tie as tie
 
 abbrev Inv-loop : tie.InvT-loop
-Inv-loop run history kind age year deferment from start last s₀ j₀ total₀ s j total = (j ≤ last) × Living (basisWith run history) kind from start j s total
+Inv-loop run history kind age deferment year from start last s₀ j₀ total₀ s j total = (j ≤ last) × Living (basisWith run history) kind from start j s total
 
 abbrev μ-loop : tie.MeasureT-loop
-μ-loop run history kind age year deferment from start last s₀ j₀ total₀ s j total = last - j
+μ-loop run history kind age deferment year from start last s₀ j₀ total₀ s j total = last - j
 
 add-from : tie.Need-add-from Inv-loop μ-loop
 add-from c = search needs
@@ -37,7 +37,7 @@ year-on-requires c κs = search needs
 
 survivors-after-year-requires : tie.Need-survivors-after-year-requires Inv-loop μ-loop
 survivors-after-year-requires c κs = let l = c .before .before in let s = l .before .before .before in let a = s .args in
-    (s .pre .0, omega arith, omega arith, omega (arith, s .pre .3, c .year-on .ensures, year-late (a .kind) (a .year + a .deferment) (l .loop .j)), l .loop .inv .1 .people)
+    (s .pre .0, omega arith, omega arith, omega (arith, s .pre .3, c .year-on .ensures, year-late (a .kind) (l .loop .j) (a .year + a .deferment)), l .loop .inv .1 .people)
 
 enum-known-x : tie.Need-enum-known-x Inv-loop μ-loop
 enum-known-x c = search needs
@@ -48,7 +48,7 @@ enum-known-r c = search needs
 returns : tie.Need-returns Inv-loop μ-loop
 returns c = let y = c .before .before .before in let l = y .before .before .before in let s = l .before .before .before in let a = s .args in
     let g = sym (ap meaning (c .before .r .given .1)) ∙ y .survivors-after-year .ensures in
-    lived-refused (basisWith (a .run .now) (a .history .now)) (a .kind) (a .age) (a .year) (a .deferment) (l .loop .j) (l .loop .s) (l .loop .total)
+    lived-refused (basisWith (a .run .now) (a .history .now)) (a .kind) (a .age) (a .deferment) (a .year) (l .loop .j) (l .loop .s) (l .loop .total)
     (c .before .r .given .0 .0) refl refl (omega arith) (l .loop .inv .1) (y .before .year-on .ensures) g
 
 add-j : tie.Need-add-j Inv-loop μ-loop
@@ -78,7 +78,7 @@ add-t19 c = omega (arith, c .before .loop .inv .1 .sum)
 
 returns-2 : tie.Need-returns-2 Inv-loop μ-loop
 returns-2 c = let l = c .before in let s = l .before .before .before in let a = s .args in
-    lived-last (basisWith (a .run .now) (a .history .now)) (a .kind) (a .age) (a .year) (a .deferment) (l .loop .j) (l .loop .s)
+    lived-last (basisWith (a .run .now) (a .history .now)) (a .kind) (a .age) (a .deferment) (a .year) (l .loop .j) (l .loop .s)
     (l .loop .total) refl refl (omega arith) (l .loop .inv .1)
 
 pub expectation-at-spec : {M : Type 1} → statement M
