@@ -1,3 +1,4 @@
 pub mod History
 pub mod Accepted
 pub mod Inner
+pub mod Checked

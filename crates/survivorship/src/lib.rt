@@ -2,6 +2,7 @@
 ghost use mathlib.Core.Path.{_≡_};
 ghost use Prim.Native.Nat.{_+_, _≤_};
 ghost use lib.IntN.{pos};
+ghost use Rattle.history.specs.Checked.{Life};
 ghost use Rattle.history.specs.History.{basisWith, Workable};
 ghost use Rattle.outcome.specs.Outcome.{meaning};
 ghost use Rattle.projection.specs.Projection.{rateOf};
@@ -57,7 +58,7 @@ pub fn survivors_after_year(run: &[u8], history: &[u8], age: u32, year: u32, s: 
 
 // The survivors after n years.
 pub fn survivors_at(run: &[u8], history: &[u8], kind: Kind, age: u32, n: u32, year: u32) -> Answer
-    requires { ⌜ Workable (now run) (now history) × (20 ≤ age) × (age + n ≤ 150) × (basisWith (now run) (now history) .base ≤ year) × (year ≤ 2130) ⌝ }
+    requires { ⌜ Life (now run) (now history) age n year ⌝ }
     ensures { λ r. ⌜ meaning r ≡ survivorsOf (basisWith (now (run .entry)) (now (history .entry))) kind age n year ⌝ }
 {
     let mut s: u64 = UNIT;

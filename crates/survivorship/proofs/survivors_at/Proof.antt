@@ -30,7 +30,7 @@ year-on-requires c κs = search needs
 
 survivors-after-year-requires : tie.Need-survivors-after-year-requires Inv-loop μ-loop
 survivors-after-year-requires c κs = let l = c .before .before in let s = l .before .before .before in
-    (s .pre .0, omega arith, omega arith, omega (arith, s .pre .3, c .year-on .ensures, year-late (s .args .kind) (l .loop .j) (s .args .year)), l .loop .inv .1)
+    (s .pre .usable, omega arith, omega arith, omega (arith, s .pre .year-low, c .year-on .ensures, year-late (s .args .kind) (l .loop .j) (s .args .year)), l .loop .inv .1)
 
 enum-known-v : tie.Need-enum-known-v Inv-loop μ-loop
 enum-known-v c = search needs
