@@ -42,8 +42,8 @@ annuity-answered run history w once worth kind age deferment year a answered imp
     let N = 150 - age in
     let h = checked-value (valuationCheck run history age deferment year) (annuityOf b kind age deferment year) a answered in
     let p = valuation-passed run history age deferment year (h .0) in
-    annuity-within b kind age deferment year (largestYears b kind N year) (limits-with (p .0)) (p .1) (p .2) improving
-    (largest-most (λ j. yearsTo b (yearOn kind j year)) N) w once (worth (limits-with (p .0))) a (h .1)
+    annuity-within b kind age deferment year (largestYears b kind N year) (limits-with (p .usable)) (p .age-low) (p .age-high) improving
+    (largest-most (λ j. yearsTo b (yearOn kind j year)) N) w once (worth (limits-with (p .usable))) a (h .1)
 
 pub demand-3 : (run history : List ℕ) → Demand3 run history
 unfolding improvementEnquiry factorEnquiry rateEnquiry survivorshipEnquiry expectationEnquiry
@@ -71,13 +71,13 @@ demand-3 run history =
           let h = checked-value (valuationCheck run history age n year) (survivorsOf b kind age n year) s answered in
           let p = valuation-passed run history age n year (h .0) in
           let K = largestYears b kind n year in
-          within-more (survived b kind age year K n (limits-with (p .0)) (p .1) (p .2) improving (largest-most (λ j. yearsTo b (yearOn kind j year)) n) s (h .1) .near) (omega arith);
+          within-more (survived b kind age year K n (limits-with (p .usable)) (p .age-low) (p .age-high) improving (largest-most (λ j. yearsTo b (yearOn kind j year)) n) s (h .1) .near) (omega arith);
       expectation = λ kind age deferment year e answered improving.
           let h = checked-value (valuationCheck run history age deferment year) (expectationOf b kind age deferment year) e answered in
           let p = valuation-passed run history age deferment year (h .0) in
           let N = 150 - age - deferment in
           quarters-more
-          (expectation-within b kind age deferment year (largestYears b kind N (year + deferment)) (limits-with (p .0)) (p .1) (p .2) improving
+          (expectation-within b kind age deferment year (largestYears b kind N (year + deferment)) (limits-with (p .usable)) (p .age-low) (p .age-high) improving
           (largest-most (λ j. yearsTo b (yearOn kind j (year + deferment))) N) e (h .1))
           (omega arith);
       annuity = λ sign kind age deferment year a answered improving.

@@ -70,7 +70,7 @@ module _ (run history : List ℕ) (age year : ℕ) where
       rw (p .0, q .0, q .2, le-leb (age + n) 150 (old n a)) refl
     where
       old : (n : ℕ) → Advances run history age year n → age + n ≤ 150
-      old zero a = let v = valuation-passed run history age 0 year h in v .2
+      old zero a = let v = valuation-passed run history age 0 year h in v .age-high
       old (suc k) a =
           let s = steps-are-survivorship run history age year k h (λ j l. a j (omega arith)) in
           let last = below run history (age + k) (year + k) (s .0) (ap (λ (x : Stand). stepFrom run history x .says) (sym (s .1)) ∙ a k (omega arith)) in

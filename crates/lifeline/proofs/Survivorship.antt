@@ -63,7 +63,7 @@ module _ (run history : List ℕ) (age year : ℕ) where
       let p = both-passed (runAndHistoryCheck run history) (questionCheck (basisWith run history .base) age n year) h in
       let q = question-parts (basisWith run history .base) age n year (p .1) in
       let v = valuation-passed run history age n year h in
-      rw (p .0, q .0, q .2, le-leb (age + 0) 150 (omega (arith, v .2))) refl
+      rw (p .0, q .0, q .2, le-leb (age + 0) 150 (omega (arith, v .age-high))) refl
 
   -- its steps before the n years are over are let through
   abbrev LetThrough : ℕ → Type 0
@@ -74,7 +74,7 @@ module _ (run history : List ℕ) (age year : ℕ) where
       → stepAt run history (age + k) (year + k) s ≡ yearLater (age + k) (year + k) s (survivorsOf (basisWith run history) Cohort age (suc k) year)
   step-is-next-year n k s h let-through l e =
       let v = valuation-passed run history age n year h in
-      step-lived run history (age + k) (year + k) s (let-through k s l (survivors-small (basisWith run history) Cohort age k year s e)) (ne-eqb (age + k) 150 (λ g. omega (arith, v .2)))
+      step-lived run history (age + k) (year + k) s (let-through k s l (survivors-small (basisWith run history) Cohort age k year s e)) (ne-eqb (age + k) 150 (λ g. omega (arith, v .age-high)))
       ∙ ap (yearLater (age + k) (year + k) s) (sym (survivors-next (basisWith run history) Cohort age k year (pos s) (survivorsAfterYear (basisWith run history) (age + k) (year + k) (pos s)) refl e refl))
 
   and-one : (k : ℕ) → Advances run history age year k → stepFrom run history (standAfter run history age year k) .says ≡ value advanced → Advances run history age year (suc k)
@@ -142,10 +142,10 @@ module _ (run history : List ℕ) (age year : ℕ) where
           let v = valuation-passed run history age n year h in
           rw (
             both-passed (runAndHistoryCheck run history) (questionCheck (basisWith run history .base) age n year) h .0,
-            le-leb 20 (age + k) (omega (arith, v .1)),
-            le-leb (age + k) 150 (omega (arith, v .2)),
-            le-leb (basisWith run history .base) (year + k) (omega (arith, v .3)),
-            le-leb (year + k) (lastStandingYear (age + k)) (omega (arith, v .1, v .4)),
+            le-leb 20 (age + k) (omega (arith, v .age-low)),
+            le-leb (age + k) 150 (omega (arith, v .age-high)),
+            le-leb (basisWith run history .base) (year + k) (omega (arith, v .year-low)),
+            le-leb (year + k) (lastStandingYear (age + k)) (omega (arith, v .age-low, v .year-high)),
             le-leb s U u,
           )
           refl
