@@ -341,6 +341,19 @@ class Histories(Command):
         self.assertIn(f"{out}: rounded to nine decimals: 1 rate\n", said)
         self.assertEqual(out.read_bytes(), (SAMPLE / "basis.bin").read_bytes())
 
+    def test_a_table_without_its_last_line_end(self) -> None:
+        tables, out = self.folder / "tables", self.folder / "m.bin"
+        shutil.copytree(SAMPLE / "older" / "tables", tables)
+        self.assertEqual(self.run_command("basis", "make", tables, out)[::2], (0, ""))
+        made, told = out.read_bytes(), ""
+        for file in ("settings.csv", "base_rates.csv", "age_component.csv", "cohort_component.csv", "actual_improvements.csv"):
+            table = tables / file
+            table.write_bytes(table.read_bytes().rstrip(b"\r\n"))
+            told += (f"parvusek: the last line of {table} has no line end, and is taken as it stands: "
+                     "was the file cut short?\n")
+            self.assertEqual(self.run_command("basis", "make", tables, out, "--force")[::2], (0, told))
+            self.assertEqual(out.read_bytes(), made)
+
     def test_a_basis_on_standard_output(self) -> None:
         status, said, wrong = self.run_process("basis", "make", SAMPLE / "tables", "-")
         self.assertEqual((status, said), (0, (SAMPLE / "basis.bin").read_bytes()))
