@@ -1,4 +1,4 @@
-// Runs the cases of an outside calculation on the enquiries: all nine kinds, with every refusal.
+// Runs the cases of the reference model on the enquiries: all nine kinds, with every refusal.
 //
 // Standard input, all numbers little-endian: the number of bases (2 bytes), as many data runs of 4,554 bytes; the bytes of
 // all histories together (4 bytes), and as many bytes, the history files one after the other; then cases to the end. A case

@@ -1,4 +1,4 @@
-// Runs the cases of an outside calculation on the basis: files read, data runs written and short forms made, with every
+// Runs the cases of the reference model on the basis: files read, data runs written and short forms made, with every
 // refusal.
 //
 // Standard input, all numbers little-endian: a file of 4,608 bytes, then cases to the end. A case is its kind (1 byte:

@@ -1,4 +1,4 @@
-// Runs the cases of an outside calculation on the two readers of a data run: its nine tables, and lifelines over it.
+// Runs the cases of the reference model on the two readers of a data run: its nine tables, and lifelines over it.
 //
 // Standard input, all numbers little-endian: cases to the end. A case is the number of bytes of its data run (4 bytes) and
 // of its history (4), the data run, the history, the number of its lifelines (2), and for each lifeline its age, its year

@@ -1,4 +1,4 @@
-// Runs the year sweep on the bases of an outside calculation, from B through 2260 and a step beyond.
+// Runs the year sweep on the bases of the reference model, from B through 2260 and a step beyond.
 //
 // Standard input, all numbers little-endian: cases to the end. A case is the number of bytes of its history (4 bytes), its
 // data run (4,554 bytes) and its history file. A line a state: the year, and the sum of age × number over the ages from 20
