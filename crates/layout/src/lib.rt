@@ -27,7 +27,12 @@ pub const AGES: usize = 131;
 
 pub const BIRTH_YEARS: usize = 269;
 
-// The offset of each field. Every table begins where the one before it ends; I and L have 4 bytes a number, T and P one.
+// The bytes of a table of base rates, I or L by age, and of I or L by birth year.
+pub const AGE_RATES_LENGTH: usize = 4 * AGES;
+
+pub const BIRTH_YEAR_RATES_LENGTH: usize = 4 * BIRTH_YEARS;
+
+// The offset of each field. Every table begins where the one before it ends.
 pub const FOUNDATION_AT: usize = 4;
 
 pub const BASE_AT: usize = 6;
@@ -40,19 +45,20 @@ pub const ZEROS_AT: usize = 16;
 
 pub const BASE_RATES_AT: usize = 30;
 
-pub const AGE_INITIAL_RATES_AT: usize = BASE_RATES_AT + 4 * AGES;
+pub const AGE_INITIAL_RATES_AT: usize = BASE_RATES_AT + AGE_RATES_LENGTH;
 
-pub const AGE_LONG_TERM_RATES_AT: usize = AGE_INITIAL_RATES_AT + 4 * AGES;
+pub const AGE_LONG_TERM_RATES_AT: usize = AGE_INITIAL_RATES_AT + AGE_RATES_LENGTH;
 
-pub const AGE_PERIODS_AT: usize = AGE_LONG_TERM_RATES_AT + 4 * AGES;
+pub const AGE_PERIODS_AT: usize = AGE_LONG_TERM_RATES_AT + AGE_RATES_LENGTH;
 
 pub const AGE_PROPORTIONS_AT: usize = AGE_PERIODS_AT + AGES;
 
 pub const BIRTH_YEAR_INITIAL_RATES_AT: usize = AGE_PROPORTIONS_AT + AGES;
 
-pub const BIRTH_YEAR_LONG_TERM_RATES_AT: usize = BIRTH_YEAR_INITIAL_RATES_AT + 4 * BIRTH_YEARS;
+pub const BIRTH_YEAR_LONG_TERM_RATES_AT: usize = BIRTH_YEAR_INITIAL_RATES_AT
+    + BIRTH_YEAR_RATES_LENGTH;
 
-pub const BIRTH_YEAR_PERIODS_AT: usize = BIRTH_YEAR_LONG_TERM_RATES_AT + 4 * BIRTH_YEARS;
+pub const BIRTH_YEAR_PERIODS_AT: usize = BIRTH_YEAR_LONG_TERM_RATES_AT + BIRTH_YEAR_RATES_LENGTH;
 
 pub const BIRTH_YEAR_PROPORTIONS_AT: usize = BIRTH_YEAR_PERIODS_AT + BIRTH_YEARS;
 
