@@ -6,7 +6,7 @@
 // 7 and 8 annuity), the place of its basis (1), age, deferment and year (4 each), and where its history starts in those
 // bytes (4) and its length (4). A line a case: `value` and the number, or `refused` and the refusal's number and places.
 ghost use mathlib.Core.Path.{_≡_};
-ghost use Prim.Native.Nat.{_≤_};
+ghost use Prim.Native.Nat.{_*_, _≤_};
 ghost use lib.ListN.{length};
 ghost use lib.IntN.{natAbs};
 ghost use Rattle.layout.specs.Layout.{mpb1, runLength};
