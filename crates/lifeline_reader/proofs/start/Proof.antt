@@ -42,11 +42,13 @@ use denote.Exit.{yes}
 use denote.Triple.Clauses.{ensured, lasts}
 use Rattle.lifeline.specs.Said.{Start, startMeaning}
 use Rattle.lifeline.specs.Lifeline.{startAt}
-use Rattle.lifeline_reader.specs.Reader.{lineAt, lineBegun}
-use Rattle.lifeline.specs.declared.Begun.{Begun}
+use Rattle.lifeline_reader.specs.Reader.{lineAt}
+use Rattle.lifeline.specs.declared.LifelineStart.{LifelineStart}
 use Rattle.lifeline_reader.specs.declared.Started.{Started}
-use Rattle.lifeline.proofs.Begun as B
-use Rattle.lifeline.proofs.Begun.Laws as B′
+use Rattle.lifeline.proofs.LifelineStart as B
+use Rattle.lifeline.proofs.LifelineStart.Laws as B′
+use Rattle.lifeline.proofs.Position as P
+use Rattle.lifeline.proofs.Position.Laws as P′
 use Rattle.lifeline_reader.proofs.Lifeline as L
 use Rattle.lifeline_reader.proofs.Lifeline.Laws as L′
 use Rattle.outcome.proofs.Check as F
@@ -97,8 +99,8 @@ module _ {M : Type 1} (𝓤 : URA M) (H : Heap 𝓤) (A : Atoms 𝓤) (W : Given
   Post = walkOf 𝓤 H A start.ended stayed (start.clauses 𝓤 H A mem run) .post (((κ₀, (κ₁, tt)), (q₀, (q₁, tt)), tt, a, at), tt)
 
   -- the machine values of what the call returns and of the result, as the structs' laws spell them. (`lowered` does not compute at a check that is not known.)
-  abbrev begun-val : Begun → Val
-  begun-val r = LL.val B.the-type B′.the-laws r
+  abbrev answer-val : LifelineStart → Val
+  answer-val r = LL.val B.the-type B′.the-laws r
 
   abbrev started-val : Started → Val
   started-val r = LL.val (S.the-type α) (S′.the-laws α) r
@@ -128,29 +130,30 @@ module _ {M : Type 1} (𝓤 : URA M) (H : Heap 𝓤) (A : Atoms 𝓤) (W : Given
   abbrev found : Start
   found = startAt (now s) (now h) x t
 
-  said : (r : Begun) → ent 𝓤 (ensured 𝓤 H A start-at.ended (start-at.clauses 𝓤 H A mem run) (κ₀, (κ₁, tt)) a tt r) (fact 𝓤 (startMeaning r ≡ found))
+  said : (r : LifelineStart) → ent 𝓤 (ensured 𝓤 H A start-at.ended (start-at.clauses 𝓤 H A mem run) (κ₀, (κ₁, tt)) a tt r) (fact 𝓤 (startMeaning r ≡ found))
   said r = exE 𝓤 _ (λ ws. snd∗ 𝓤 (sem 𝓤 H A (lasts start-at.ended (κ₀, (κ₁, tt)) a ws)) (fact 𝓤 (startMeaning r ≡ found)))
 
   -- ---- at a result r of the call, whose machine value is written out
-  module _ (r : Begun) (is : Is B.the-row r (begun-val r ∷ [])) where
+  module _ (r : LifelineStart) (is : Is B.the-row r (answer-val r ∷ [])) where
     abbrev made : Started
-    made = record { line = lineAt s (r .age) (r .year) (r .survivors); check = r .check }
+    made = record { line = lineAt s (r .position); check = r .check }
 
     -- what the run owns, with the facts of what the call returned, is what the struct owns
     makes : ent 𝓤 (sem 𝓤 H A Own) (sem 𝓤 H A (S.the-row α .own made (started-val made ∷ [])))
     makes =
         let had = LL.owed B.the-type B′.the-laws r _ is in
-        qed W (‵ Own ∷ []) ∵ nothing ! $ owned ! u64 (Is u64) (uint-makes 𝓤 H A W w64) (r .survivors) _ (had .1 .1 .0) $ fjoin ! $
-        owned ! u32 (Is u32) (uint-makes 𝓤 H A W w32) (r .year) _ (had .1 .0) $ fjoin ! $ owned ! u32 (Is u32) (uint-makes 𝓤 H A W w32) (r .age) _ (had .0) $ fjoin ! $ move ! (1 ∷ 0 ∷ []) $ fjoin ! $
-        use1 W (‵ (L.the-row α .own (made .line) (L′.lowered (made .line) ∷ []))) (own-shut 𝓤 H A W (L.the-type α) (L′.the-laws α) (s, (r .age, (r .year, (r .survivors, tt))))) $
-        nothing ! $ owned ! F.the-row (Is F.the-row) (EL.makes F.the-type F′.the-plain 𝓤 H A) (r .check) _ (had .1 .1 .1 .0) $ fjoin ! $ move ! (1 ∷ 0 ∷ []) $ fjoin ! $
+        let at = LL.owed P.the-type P′.the-laws (r .position) _ (had .0) in
+        qed W (‵ Own ∷ []) ∵ nothing ! $ owned ! u64 (Is u64) (uint-makes 𝓤 H A W w64) (r .position .survivors) _ (at .1 .1 .0) $ fjoin ! $
+        owned ! u32 (Is u32) (uint-makes 𝓤 H A W w32) (r .position .year) _ (at .1 .0) $ fjoin ! $ owned ! u32 (Is u32) (uint-makes 𝓤 H A W w32) (r .position .age) _ (at .0) $ fjoin ! $ move ! (1 ∷ 0 ∷ []) $ fjoin ! $
+        use1 W (‵ (L.the-row α .own (made .line) (L′.lowered (made .line) ∷ []))) (own-shut 𝓤 H A W (L.the-type α) (L′.the-laws α) (s, (r .position .age, (r .position .year, (r .position .survivors, tt))))) $
+        nothing ! $ owned ! F.the-row (Is F.the-row) (EL.makes F.the-type F′.the-plain 𝓤 H A) (r .check) _ (had .1 .0) $ fjoin ! $ move ! (1 ∷ 0 ∷ []) $ fjoin ! $
         by ! (own-shut 𝓤 H A W (S.the-type α) (S′.the-laws α) (made .line, (r .check, tt)))
 
     exits : startMeaning r ≡ found → ent 𝓤 (⋆ 𝓤 H A (Tok ∷ ‵ Own ∷ ‵ HOwn ∷ [])) (Post (started-val made))
     exits e =
         qed W (Tok ∷ ‵ Own ∷ ‵ HOwn ∷ []) ∵
         suffices ! _ (ends-at 𝓤 H A start.ended stayed (start.clauses 𝓤 H A mem run) W (((κ₀, (κ₁, tt)), (q₀, (q₁, tt)), tt, a, at), tt) (started-val made) made (tt, (tt, (tt, (tt, tt)))) (tt, (tt, (tt, (tt, tt))))) $
-        says ! (ap (lineBegun s) e, ap (λ (b : Start). b .check) e) $
+        says ! (ap (λ (b : Start). lineAt s (b .position)) e, ap (λ (b : Start). b .check) e) $
         frame ! $ use1 W (‵ Own ⊛ ‵ Own) (shr-slice-copy 𝓤 H A W (named 0) κ₀ u8 .twice s (v ∷ [])) $ split ! $
         nothing ! $ owned ! u32 (Is u32) (uint-makes 𝓤 H A W w32) t _ (refl, t-fits) $ fjoin ! $ owned ! u32 (Is u32) (uint-makes 𝓤 H A W w32) x _ (refl, x-fits) $ fjoin ! $ move ! (3 ∷ 0 ∷ []) $
         fjoin ! $ move ! (1 ∷ 0 ∷ []) $ fjoin ! $ frame ! $ by ! makes
@@ -167,7 +170,7 @@ module _ {M : Type 1} (𝓤 : URA M) (H : Heap 𝓤) (A : Atoms 𝓤) (W : Given
         -- [what `start_at` asks; what the run owns; what the history owns; _6; …; _5; …; _4; …; _3; …; _2; …; _1; …; room for _0; …]
         calls-at ! fm (StartAt 𝓤 H A mem run) known to (and-then ! (load ! (from ! (stop !)) (look ! 13 refl)) (and-then ! (load ! (from ! (stop !)) (look ! 11 refl))
         (and-then ! (load ! (from ! (stop !)) (look ! 9 refl)) (and-then ! (load ! (from ! (stop !)) (look ! 7 refl)) (no-more !))))) (λ u.
-        use1 W (later (some (λ (r : Begun). (Tok ⊛ ‵ (B.the-row .own r (u ∷ []))) ⊛ raw (ensured 𝓤 H A start-at.ended (start-at.clauses 𝓤 H A mem run) (κ₀, (κ₁, tt)) a tt r))))
+        use1 W (later (some (λ (r : LifelineStart). (Tok ⊛ ‵ (B.the-row .own r (u ∷ []))) ⊛ raw (ensured 𝓤 H A start-at.ended (start-at.clauses 𝓤 H A mem run) (κ₀, (κ₁, tt)) a tt r))))
         (id⊢ 𝓤 _) $ await ! tt $ pick ! (λ r.
         split ! $ move ! (1 ∷ []) $ use1 W (raw (fact 𝓤 (startMeaning r ≡ found))) (said r) $ heard ! (startMeaning r ≡ found) (λ e. split ! $ move ! (1 ∷ []) $
         facts ! B.the-row (Is B.the-row) (shows 𝓤 H A B.the-row) r (u ∷ []) (λ isu.
@@ -176,13 +179,13 @@ module _ {M : Type 1} (𝓤 : URA M) (H : Heap 𝓤) (A : Atoms 𝓤) (W : Given
         rewrite ! 5 (λ (w : Val). ‵ (fat fullShare B′.mir l₅ 0 w)) (ap only (LL.tells B.the-type B′.the-laws r (u ∷ []) isu)) refl $
         let is = subst (Is B.the-row r) (LL.tells B.the-type B′.the-laws r (u ∷ []) isu) isu in
         let wt = LL.lawful B.the-type B′.the-laws 𝓤 H A W .typed r _ is .0 in
-        assigns ! (agg ! (and-then ! (load ! (from ! (stop !)) (look ! 13 refl)) (and-then ! (load ! (from ! (fld ! refl (stop !))) (look-in ! 5 (sub ! 0 refl (whole !))))
-        (and-then ! (load ! (from ! (fld ! refl (stop !))) (look-in ! 5 (sub ! 1 refl (whole !))))
-        (and-then ! (load ! (from ! (fld ! refl (stop !))) (look-in ! 5 (sub ! 2 refl (whole !)))) (no-more !))))))
-        (from ! (stop !)) (init ! 3 refl (tt, ((tt, (record { fits = room .0 }, tt)), (wt .1 .0, (wt .1 .1 .0, (wt .1 .1 .1 .0, tt)))))) $
+        assigns ! (agg ! (and-then ! (load ! (from ! (stop !)) (look ! 13 refl)) (and-then ! (load ! (from ! (fld ! refl (fld ! refl (stop !)))) (look-in ! 5 (sub ! 0 refl (sub ! 0 refl (whole !)))))
+        (and-then ! (load ! (from ! (fld ! refl (fld ! refl (stop !)))) (look-in ! 5 (sub ! 1 refl (sub ! 0 refl (whole !)))))
+        (and-then ! (load ! (from ! (fld ! refl (fld ! refl (stop !)))) (look-in ! 5 (sub ! 2 refl (sub ! 0 refl (whole !))))) (no-more !))))))
+        (from ! (stop !)) (init ! 3 refl (tt, ((tt, (record { fits = room .0 }, tt)), wt .1 .0))) $
         assigns ! (agg ! (and-then ! (load ! (from ! (stop !)) (look ! 3 refl))
-        (and-then ! (load ! (from ! (fld ! refl (stop !))) (look-in ! 5 (sub ! 3 refl (whole !)))) (no-more !)))) (from ! (stop !))
-        (init ! 15 refl (wt .0, (((tt, (record { fits = room .0 }, tt)), (wt .1 .0, (wt .1 .1 .0, (wt .1 .1 .1 .0, tt)))), (wt .1 .1 .1 .1 .0, tt)))) $
+        (and-then ! (load ! (from ! (fld ! refl (stop !))) (look-in ! 5 (sub ! 1 refl (whole !)))) (no-more !)))) (from ! (stop !))
+        (init ! 15 refl (wt .0, (((tt, (record { fits = room .0 }, tt)), wt .1 .0), (wt .1 .1 .0, tt)))) $
         returns ! (look ! 15 refl) $ forget ! 3 refl $ forget ! 5 refl $ forget ! 7 refl $ forget ! 9 refl $ forget ! 11 refl $ forget ! 13 refl $ forget ! 15 refl $
         move ! (15 ∷ 16 ∷ []) $ free1 ! $ move ! (13 ∷ 14 ∷ []) $ free1 ! $ move ! (11 ∷ 12 ∷ []) $ free1 ! $ move ! (9 ∷ 10 ∷ []) $ free1 ! $ move ! (7 ∷ 8 ∷ []) $ free1 ! $ move ! (5 ∷ 6 ∷ []) $
         free1 ! $ move ! (3 ∷ 4 ∷ []) $ free1 ! $ free0 ! $ by ! (exits r is e))))))))))))

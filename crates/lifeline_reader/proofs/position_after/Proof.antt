@@ -1,4 +1,4 @@
--- `lifeline_reader::stand_after` meets its contract: a walk of its MIR, by hand, with a loop in it. A lifeline that `start` made is passed to `step`
+-- `lifeline_reader::position_after` meets its contract: a walk of its MIR, by hand, with a loop in it. A lifeline that `start` made is passed to `step`
 -- with the history, and taken out of its result, n times.
 -- The loop's invariant, at i: the local holds the line after i steps, and what a Lifeline owns is had of it. Assumes nothing.
 use mathlib.Core.Path.{_≡_, refl, sym, ap, _∙_, subst}
@@ -46,11 +46,12 @@ use denote.Triple.Table.{entered, cited}
 use denote.Triple.Walked.{says, Stays, stay-none, stay-none-slice, walkOf, goes-none, goes-none-slice, Walks, ends-at, walked, walk-meets}
 use denote.Exit.{yes}
 use denote.Triple.Clauses.{ensured, lasts}
-use Rattle.lifeline.specs.Lifeline.{standAfter}
+use Rattle.lifeline.specs.Lifeline.{positionAfter}
 use Rattle.lifeline_reader.specs.declared.Lifeline.{Lifeline}
 use Rattle.lifeline_reader.specs.declared.Started.{Started}
 use Rattle.lifeline_reader.specs.declared.Stepped.{Stepped}
-use Rattle.lifeline_reader.proofs.After.{Starting, Stepping, lineAfter, standOf, stand-is, after-none, after-one}
+use Rattle.lifeline_reader.specs.Reader.{positionOf}
+use Rattle.lifeline_reader.proofs.After.{Starting, Stepping, lineAfter, position-is, after-none, after-one}
 use Rattle.arithmetic.proofs.Walk.{tests}
 use Rattle.lifeline_reader.proofs.Lifeline as L
 use Rattle.lifeline_reader.proofs.Lifeline.Laws as L′
@@ -58,8 +59,8 @@ use Rattle.lifeline_reader.proofs.Started as Z
 use Rattle.lifeline_reader.proofs.Started.Laws as Z′
 use Rattle.lifeline_reader.proofs.Stepped as S
 use Rattle.lifeline_reader.proofs.Stepped.Laws as S′
-use Rattle.lifeline.proofs.Stand as K
-use Rattle.lifeline.proofs.Stand.Laws as K′
+use Rattle.lifeline.proofs.Position as P
+use Rattle.lifeline.proofs.Position.Laws as P′
 use Rattle.lifeline_reader.proofs.start as start
 use Rattle.lifeline_reader.proofs.start.Symbol as start-def
 use Rattle.lifeline_reader.proofs.start.Symbol.{name as #lifeline-reader·start}
@@ -68,13 +69,13 @@ use Rattle.lifeline_reader.proofs.step as step
 use Rattle.lifeline_reader.proofs.step.Symbol as step-def
 use Rattle.lifeline_reader.proofs.step.Symbol.{name as #lifeline-reader·step}
 use Rattle.lifeline_reader.proofs.step.Met as step-thm
-use Rattle.lifeline_reader.proofs.stand_after.Key.{name as #lifeline-reader·stand-after}
-use Rattle.lifeline_reader.proofs.stand_after as stand
-use Rattle.lifeline_reader.proofs.stand_after.Statement as stated
-use Rattle.lifeline_reader.proofs.stand_after.Code as code
-use Rattle.lifeline_reader.proofs.stand_after.Code.Mir as parts
+use Rattle.lifeline_reader.proofs.position_after.Key.{name as #lifeline-reader·position-after}
+use Rattle.lifeline_reader.proofs.position_after as after
+use Rattle.lifeline_reader.proofs.position_after.Statement as stated
+use Rattle.lifeline_reader.proofs.position_after.Code as code
+use Rattle.lifeline_reader.proofs.position_after.Code.Mir as parts
 
-abbrev stayed : Stays (stand.ended .signature .params) (stand.ended .kept)
+abbrev stayed : Stays (after.ended .signature .params) (after.ended .kept)
 stayed = (
   stay-none-slice (0 ∷ []) tt (plain (λ _. u8)) yes,
   (stay-none-slice (1 ∷ []) tt (plain (λ _. u8)) yes, (stay-none (λ _. u32) yes, (stay-none (λ _. u32) yes, (stay-none (λ _. u32) yes, tt)))),
@@ -99,7 +100,7 @@ function = record {
   lifetimes = 2;
   outlives = [];
   params = 5;
-  locals = local K′.mir valueLocal ∷ local run-ty valueLocal ∷ local history-ty valueLocal ∷ local half valueLocal ∷ local half valueLocal ∷ local half valueLocal ∷ local (Z′.mir erased) valueLocal
+  locals = local P′.mir valueLocal ∷ local run-ty valueLocal ∷ local history-ty valueLocal ∷ local half valueLocal ∷ local half valueLocal ∷ local half valueLocal ∷ local (Z′.mir erased) valueLocal
       ∷ local line-ty valueLocal ∷ local half valueLocal ∷ local (S′.mir erased) valueLocal ∷ local tyBool valueLocal ∷ local line-ty valueLocal ∷ local half valueLocal ∷ local half valueLocal
       ∷ local (tyInt w64) valueLocal ∷ [];
   body = parts.t-1;
@@ -137,11 +138,11 @@ module _ {M : Type 1} (𝓤 : URA M) (H : Heap 𝓤) (A : Atoms 𝓤) (W : Given
   abbrev a : Arg
   a = (s, (h, (x, (t, (n, tt)))))
 
-  abbrev at : Vals stand.signature (κ₀, (κ₁, tt))
+  abbrev at : Vals after.signature (κ₀, (κ₁, tt))
   at = (v ∷ [], (hv ∷ [], (vint w32 x ∷ [], (vint w32 t ∷ [], (vint w32 n ∷ [], tt)))))
 
   abbrev Post : Val → SProp 𝓤
-  Post = walkOf 𝓤 H A stand.ended stayed (stand.clauses 𝓤 H A mem run) .post (((κ₀, (κ₁, tt)), (q₀, (q₁, tt)), tt, a, at), tt)
+  Post = walkOf 𝓤 H A after.ended stayed (after.clauses 𝓤 H A mem run) .post (((κ₀, (κ₁, tt)), (q₀, (q₁, tt)), tt, a, at), tt)
 
   -- what the run owns, what the history owns, and what a Lifeline owns
   abbrev Own : Fml
@@ -210,15 +211,15 @@ module _ {M : Type 1} (𝓤 : URA M) (H : Heap 𝓤) (A : Atoms 𝓤) (W : Given
       fsplit ! $ move ! (1 ∷ []) $ drop ! $ done !)
 
   -- ---- the exit, at the line d
-  exits : (d : Lifeline) → Is (L.the-row α) d (L′.lowered d ∷ []) → standOf d ≡ standAfter (s .now) (h .now) x t n → ent 𝓤 (⋆ 𝓤 H A (‵ (LOwn d) ∷ Tok ∷ ‵ HOwn ∷ ‵ Own ∷ [])) (Post (K′.lowered (standOf d)))
+  exits : (d : Lifeline) → Is (L.the-row α) d (L′.lowered d ∷ []) → positionOf d ≡ positionAfter (s .now) (h .now) x t n → ent 𝓤 (⋆ 𝓤 H A (‵ (LOwn d) ∷ Tok ∷ ‵ HOwn ∷ ‵ Own ∷ [])) (Post (P′.lowered (positionOf d)))
   exits d g e =
       let had = LL.owed (L.the-type α) (L′.the-laws α) d _ g in
       qed W (‵ (LOwn d) ∷ Tok ∷ ‵ HOwn ∷ ‵ Own ∷ []) ∵ drop ! $
-      suffices ! _ (ends-at 𝓤 H A stand.ended stayed (stand.clauses 𝓤 H A mem run) W (((κ₀, (κ₁, tt)), (q₀, (q₁, tt)), tt, a, at), tt) (K′.lowered (standOf d)) (standOf d) (tt, (tt, (tt, (tt, (tt, tt)))))
+      suffices ! _ (ends-at 𝓤 H A after.ended stayed (after.clauses 𝓤 H A mem run) W (((κ₀, (κ₁, tt)), (q₀, (q₁, tt)), tt, a, at), tt) (P′.lowered (positionOf d)) (positionOf d) (tt, (tt, (tt, (tt, (tt, tt)))))
       (tt, (tt, (tt, (tt, (tt, tt)))))) $ says ! e $ frame ! $
       nothing ! $ owned ! u32 (Is u32) (uint-makes 𝓤 H A W w32) n _ (refl, n-fits) $ fjoin ! $ owned ! u32 (Is u32) (uint-makes 𝓤 H A W w32) t _ (refl, t-fits) $ fjoin ! $
       owned ! u32 (Is u32) (uint-makes 𝓤 H A W w32) x _ (refl, x-fits) $ fjoin ! $ move ! (1 ∷ 0 ∷ []) $ fjoin ! $ move ! (1 ∷ 0 ∷ []) $ fjoin ! $ frame ! $
-      owned ! K.the-row (Is K.the-row) (LL.makes K.the-type K′.the-plain 𝓤 H A) (standOf d) _ (LL.owes K.the-type K′.the-laws (standOf d) (had .1 .0, (had .1 .1 .0, (had .1 .1 .1 .0, tt)))) $ done !
+      owned ! P.the-row (Is P.the-row) (LL.makes P.the-type P′.the-plain 𝓤 H A) (positionOf d) _ (LL.owes P.the-type P′.the-laws (positionOf d) (had .1 .0, (had .1 .1 .0, (had .1 .1 .1 .0, tt)))) $ done !
 
   module _ (𝓣 : Tables 𝓤 H) (fm : FmC 𝓤 H (W .laws) (𝓣 .C)) (known-start : Triple 𝓤 (𝓣 .C #lifeline-reader·start) (Start 𝓤 H A mem run))
       (known-step : Triple 𝓤 (𝓣 .C #lifeline-reader·step) (Step 𝓤 H A mem run)) (l₀ l₁ l₂ l₃ l₄ l₅ l₆ l₇ l₈ l₉ l₁₀ l₁₁ l₁₂ l₁₃ l₁₄ : ℕ) where
@@ -229,7 +230,7 @@ module _ {M : Type 1} (𝓤 : URA M) (H : Heap 𝓤) (A : Atoms 𝓤) (W : Given
     Λ = 𝓣 .Λ
 
     abbrev En : Env 𝓤 H
-    En = (K′.mir, l₀) ∷ (run-ty, l₁) ∷ (history-ty, l₂) ∷ (half, l₃) ∷ (half, l₄) ∷ (half, l₅) ∷ (Z′.mir erased, l₆) ∷ (line-ty, l₇) ∷ (half, l₈) ∷ (S′.mir erased, l₉) ∷ (tyBool, l₁₀)
+    En = (P′.mir, l₀) ∷ (run-ty, l₁) ∷ (history-ty, l₂) ∷ (half, l₃) ∷ (half, l₄) ∷ (half, l₅) ∷ (Z′.mir erased, l₆) ∷ (line-ty, l₇) ∷ (half, l₈) ∷ (S′.mir erased, l₉) ∷ (tyBool, l₁₀)
         ∷ (line-ty, l₁₁) ∷ (half, l₁₂) ∷ (half, l₁₃) ∷ (tyInt w64, l₁₄) ∷ []
 
     -- the locals between statements, with what _8 and _7 hold: [_14; …; _0; …]. Every other local of the body is empty
@@ -239,8 +240,8 @@ module _ {M : Type 1} (𝓤 : URA M) (H : Heap 𝓤) (A : Atoms 𝓤) (W : Given
         ∷ ‵ (froom tyBool l₁₀ 0) ∷ ‵ (fdies tyBool l₁₀) ∷ ‵ (froom (S′.mir erased) l₉ 0) ∷ ‵ (fdies (S′.mir erased) l₉) ∷ ‵ at₈ ∷ ‵ (fdies half l₈) ∷ ‵ at₇ ∷ ‵ (fdies line-ty l₇)
         ∷ ‵ (froom (Z′.mir erased) l₆ 0) ∷ ‵ (fdies (Z′.mir erased) l₆)
         ∷ ‵ (fat fullShare half l₅ 0 (vint w32 n)) ∷ ‵ (fdies half l₅) ∷ ‵ (fat fullShare half l₄ 0 (vint w32 t)) ∷ ‵ (fdies half l₄) ∷ ‵ (fat fullShare half l₃ 0 (vint w32 x))
-        ∷ ‵ (fdies half l₃) ∷ ‵ (fat fullShare history-ty l₂ 0 hv) ∷ ‵ (fdies history-ty l₂) ∷ ‵ (fat fullShare run-ty l₁ 0 v) ∷ ‵ (fdies run-ty l₁) ∷ ‵ (froom K′.mir l₀ 0)
-        ∷ ‵ (fdies K′.mir l₀) ∷ []
+        ∷ ‵ (fdies half l₃) ∷ ‵ (fat fullShare history-ty l₂ 0 hv) ∷ ‵ (fdies history-ty l₂) ∷ ‵ (fat fullShare run-ty l₁ 0 v) ∷ ‵ (fdies run-ty l₁) ∷ ‵ (froom P′.mir l₀ 0)
+        ∷ ‵ (fdies P′.mir l₀) ∷ []
 
     abbrev Upto : Type 0
     Upto = (i : ℕ) × (i ≤ n)
@@ -303,7 +304,7 @@ module _ {M : Type 1} (𝓤 : URA M) (H : Heap 𝓤) (A : Atoms 𝓤) (W : Given
         (and-then ! (load ! (from ! (stop !)) (look ! 4 refl)) (no-more !))))) (from ! (stop !)) (init ! 32 refl (tt, (wt .1 .1 .0, (wt .1 .1 .1 .0, (wt .1 .1 .1 .1 .0, tt))))) $
         returns ! (look ! 32 refl) $ forget ! 4 refl $ forget ! 6 refl $ forget ! 8 refl $ forget ! 12 refl $ forget ! 16 refl $ forget ! 18 refl $ forget ! 22 refl $ forget ! 24 refl $ forget ! 26 refl $ forget ! 28 refl $ forget ! 30 refl $ forget ! 32 refl $
         move ! (32 ∷ 33 ∷ []) $ free1 ! $ move ! (30 ∷ 31 ∷ []) $ free1 ! $ move ! (28 ∷ 29 ∷ []) $ free1 ! $ move ! (26 ∷ 27 ∷ []) $ free1 ! $ move ! (24 ∷ 25 ∷ []) $ free1 ! $ move ! (22 ∷ 23 ∷ []) $ free1 ! $ move ! (20 ∷ 21 ∷ []) $ free1 ! $ move ! (18 ∷ 19 ∷ []) $ free1 ! $ move ! (16 ∷ 17 ∷ []) $ free1 ! $ move ! (14 ∷ 15 ∷ []) $ free1 ! $ move ! (12 ∷ 13 ∷ []) $ free1 ! $ move ! (10 ∷ 11 ∷ []) $ free1 ! $ move ! (8 ∷ 9 ∷ []) $ free1 ! $ move ! (6 ∷ 7 ∷ []) $ free1 ! $ move ! (4 ∷ 5 ∷ []) $ free1 ! $ free0 ! $
-        by ! (exits (line (i .0)) g (stand-is s (now h) x t (i .0) ∙ ap (standAfter (s .now) (h .now) x t) (le-antisymm (i .1) (nltb→le (i .0) n over))))))
+        by ! (exits (line (i .0)) g (position-is s (now h) x t (i .0) ∙ ap (positionAfter (s .now) (h .now) x t) (le-antisymm (i .1) (nltb→le (i .0) n over))))))
       where
         fits : (j : Upto) → j .0 < 2 ^ 32
         fits j = lt-of-le-of-lt (j .1) n-fits
@@ -345,7 +346,7 @@ module _ {M : Type 1} (𝓤 : URA M) (H : Heap 𝓤) (A : Atoms 𝓤) (W : Given
   -- ---- the entry
   walk : (𝓣 : Tables 𝓤 H) → FmC 𝓤 H (W .laws) (𝓣 .C) → Room u8 (length (s .now)) → Room u8 (length (h .now)) → Triple 𝓤 (𝓣 .C #lifeline-reader·start) (Start 𝓤 H A mem run)
       → Triple 𝓤 (𝓣 .C #lifeline-reader·step) (Step 𝓤 H A mem run)
-      → ent 𝓤 (onEntry 𝓤 H A stand.signature (κ₀, (κ₁, tt)) (q₀, (q₁, tt)) a at) (WpFn 𝓤 H (𝓣 .C) (𝓣 .Λ) function (v ∷ hv ∷ vint w32 x ∷ vint w32 t ∷ vint w32 n ∷ []) Post)
+      → ent 𝓤 (onEntry 𝓤 H A after.signature (κ₀, (κ₁, tt)) (q₀, (q₁, tt)) a at) (WpFn 𝓤 H (𝓣 .C) (𝓣 .Λ) function (v ∷ hv ∷ vint w32 x ∷ vint w32 t ∷ vint w32 n ∷ []) Post)
   walk 𝓣 fm room hroom known-start known-step =
       qed W (Tok ∷ ‵ (owns (ShrSlice (named 0) κ₀ u8 ∷ ShrSlice (named 1) κ₁ u8 ∷ u32 ∷ u32 ∷ u32 ∷ []) a at) ∷ []) ∵ move ! (1 ∷ []) $ fsplit ! $ move ! (1 ∷ []) $ fsplit ! $ move ! (1 ∷ []) $ drop ! $
       move ! (2 ∷ 0 ∷ []) $
@@ -358,18 +359,18 @@ module _ {M : Type 1} (𝓤 : URA M) (H : Heap 𝓤) (A : Atoms 𝓤) (W : Given
       move ! (30 ∷ 31 ∷ 32 ∷ []) $ by ! (begins 𝓣 fm known-start known-step l₀ l₁ l₂ l₃ l₄ l₅ l₆ l₇ l₈ l₉ l₁₀ l₁₁ l₁₂ l₁₃ l₁₄))))))))))))))))
 
 module _ {M : Type 1} (𝓤 : URA M) (H : Heap 𝓤) (A : Atoms 𝓤) (W : Given 𝓤 H A) (mem : Memory → SProp 𝓤) (run : Routine → Fun 𝓤) (𝓣 : Tables 𝓤 H) where
-  stand-after-walks : Triple 𝓤 (𝓣 .C #lifeline-reader·start) (Start 𝓤 H A mem run) → Triple 𝓤 (𝓣 .C #lifeline-reader·step) (Step 𝓤 H A mem run)
-      → Walks 𝓤 H A stand.ended stayed (WpFn 𝓤 H (𝓣 .C) (𝓣 .Λ) function) (stand.clauses 𝓤 H A mem run)
-  stand-after-walks known-start known-step = walked 𝓤 H A stand.ended stayed (stand.clauses 𝓤 H A mem run) (WpFn 𝓤 H (𝓣 .C) (𝓣 .Λ) function)
+  position-after-walks : Triple 𝓤 (𝓣 .C #lifeline-reader·start) (Start 𝓤 H A mem run) → Triple 𝓤 (𝓣 .C #lifeline-reader·step) (Step 𝓤 H A mem run)
+      → Walks 𝓤 H A after.ended stayed (WpFn 𝓤 H (𝓣 .C) (𝓣 .Λ) function) (after.clauses 𝓤 H A mem run)
+  position-after-walks known-start known-step = walked 𝓤 H A after.ended stayed (after.clauses 𝓤 H A mem run) (WpFn 𝓤 H (𝓣 .C) (𝓣 .Λ) function)
       (λ κs. (slice-vals, (slice-vals, (uint-vals w32, (uint-vals w32, (uint-vals w32, tt))))))
       (λ κs. (shr-slice-tells (named 0) (κs .0) u8, (shr-slice-tells (named 1) (κs .1 .0) u8, (uint-tells w32, (uint-tells w32, (uint-tells w32, tt))))))
       (λ κs qs bounds a g are. via 𝓤 _ (fst∗ 𝓤 _ (emp 𝓤)) (walk 𝓤 H A W mem run (κs .0) (κs .1 .0) (qs .0) (qs .1 .0) (a .0) (a .1 .0) (a .1 .1 .0) (a .1 .1 .1 .0) (a .1 .1 .1 .1 .0)
       (are .1 .1 .0 .1) (are .1 .1 .1 .0 .1) (are .1 .1 .1 .1 .0 .1) 𝓣 (fmOf 𝓤 H (W .laws) 𝓣) (are .0 .0 .1) (are .1 .0 .0 .1) known-start known-step))
 
-  stand-after-meets : Triple 𝓤 (𝓣 .C #lifeline-reader·start) (Start 𝓤 H A mem run) → Triple 𝓤 (𝓣 .C #lifeline-reader·step) (Step 𝓤 H A mem run)
-      → Meets 𝓤 H A stand.signature (WpFn 𝓤 H (𝓣 .C) (𝓣 .Λ) function) (stand.spec 𝓤 H A mem run)
-  stand-after-meets known-start known-step =
-      walk-meets 𝓤 H A stand.ended stayed W (
+  position-after-meets : Triple 𝓤 (𝓣 .C #lifeline-reader·start) (Start 𝓤 H A mem run) → Triple 𝓤 (𝓣 .C #lifeline-reader·step) (Step 𝓤 H A mem run)
+      → Meets 𝓤 H A after.signature (WpFn 𝓤 H (𝓣 .C) (𝓣 .Λ) function) (after.spec 𝓤 H A mem run)
+  position-after-meets known-start known-step =
+      walk-meets 𝓤 H A after.ended stayed W (
         goes-none-slice 𝓤 H A W 2 (0 ∷ []) tt (plain (λ _. u8)) yes,
         (
           goes-none-slice 𝓤 H A W 2 (1 ∷ []) tt (plain (λ _. u8)) yes,
@@ -379,13 +380,13 @@ module _ {M : Type 1} (𝓤 : URA M) (H : Heap 𝓤) (A : Atoms 𝓤) (W : Given
           ),
         ),
       )
-      (stand.clauses 𝓤 H A mem run) (WpFn 𝓤 H (𝓣 .C) (𝓣 .Λ) function) (WpFn-mono 𝓤 H (W .laws) 𝓣 function) (stand-after-walks known-start known-step)
+      (after.clauses 𝓤 H A mem run) (WpFn 𝓤 H (𝓣 .C) (𝓣 .Λ) function) (WpFn-mono 𝓤 H (W .laws) 𝓣 function) (position-after-walks known-start known-step)
 
-pub stand-after-spec : {M : Type 1} → stated.statement M
+pub position-after-spec : {M : Type 1} → stated.statement M
 unfolding code.routine tablesOf
-stand-after-spec 𝓤 H 𝓜 𝓖 𝓡 =
-    entered 𝓤 H (tripleOf 𝓤 H (𝓖 .A) stand.signature (stand.spec 𝓤 H (𝓖 .A) (𝓜 .mem) (𝓡 .run)))
-    (tables 𝓤 H 𝓜 𝓡 code.env .C) (tables 𝓤 H 𝓜 𝓡 code.env .Λ) #lifeline-reader·stand-after code.function (code.unfolded 𝓤 H 𝓜 𝓡)
-    (stand-after-meets 𝓤 H (𝓖 .A) (givenOf 𝓤 H 𝓜 𝓖) (𝓜 .mem) (𝓡 .run) (tablesOf 𝓤 H 𝓜 (tables 𝓤 H 𝓜 𝓡 code.env))
+position-after-spec 𝓤 H 𝓜 𝓖 𝓡 =
+    entered 𝓤 H (tripleOf 𝓤 H (𝓖 .A) after.signature (after.spec 𝓤 H (𝓖 .A) (𝓜 .mem) (𝓡 .run)))
+    (tables 𝓤 H 𝓜 𝓡 code.env .C) (tables 𝓤 H 𝓜 𝓡 code.env .Λ) #lifeline-reader·position-after code.function (code.unfolded 𝓤 H 𝓜 𝓡)
+    (position-after-meets 𝓤 H (𝓖 .A) (givenOf 𝓤 H 𝓜 𝓖) (𝓜 .mem) (𝓡 .run) (tablesOf 𝓤 H 𝓜 (tables 𝓤 H 𝓜 𝓡 code.env))
     (cited 𝓤 H (Start 𝓤 H (𝓖 .A) (𝓜 .mem) (𝓡 .run)) 𝓜 𝓡 code.env #lifeline-reader·start start-def.routine code.calls-lifeline-reader·start (start-thm.met 𝓤 H 𝓜 𝓖 𝓡))
     (cited 𝓤 H (Step 𝓤 H (𝓖 .A) (𝓜 .mem) (𝓡 .run)) 𝓜 𝓡 code.env #lifeline-reader·step step-def.routine code.calls-lifeline-reader·step (step-thm.met 𝓤 H 𝓜 𝓖 𝓡)))
