@@ -51,7 +51,7 @@ use denote.Triple.Table.{entered, cited}
 use denote.Triple.Walked.{says, needs, Stays, stay-none, stay-none-slice, stay-slice, walkOf, goes-none, goes-none-slice, goes-slice, Walks, ends-at, walked, walk-meets}
 use denote.Exit.{yes}
 use denote.Triple.Clauses.{ensured, lasts}
-use Rattle.arithmetic.proofs.Walk.{tests}
+use Rattle.walk.proofs.Tests.{tests}
 use Rattle.history.specs.History.{basisWith, Workable}
 use Rattle.grid_record.specs.declared.Point.{Point}
 use Rattle.grid_record.specs.Record.{answeredOf}
