@@ -78,8 +78,8 @@ fn follow(run: &[u8], history: &[u8]) {
     let age = little_endian::read_u32(&asked, 0);
     let year = little_endian::read_u32(&asked, 4);
     let steps = little_endian::read_u32(&asked, 8);
-    let s = lifeline_reader::stand_after(run, history, age, year, steps);
-    print_three(s.age as u64, s.year as u64, s.survivors);
+    let p = lifeline_reader::position_after(run, history, age, year, steps);
+    print_three(p.age as u64, p.year as u64, p.survivors);
 }
 
 fn follow_all(run: &[u8], history: &[u8]) {

@@ -36,9 +36,10 @@ use Rattle.grid_record.specs.Record.{recordOf, answeredOf}
 use Rattle.grid_record.specs.declared.Point.{Point}
 use Rattle.grid.specs.Grid.{gridCheck, recordsOf, gridOf}
 use Rattle.grid.proofs.Filled.{answers-none}
-use Rattle.lifeline.specs.Lifeline.{stepCheck, moved, yearLater, lived, unlessRefused, stepAt, standAt, standMoved}
-use Rattle.lifeline.proofs.Standing.{start-refused, step-refused}
-use Rattle.lifeline.specs.Said.{Start, ended, Step}
+use Rattle.lifeline.specs.declared.Position.{Position}
+use Rattle.lifeline.specs.Lifeline.{stepCheck, yearUnlessEnded, stepAt}
+use Rattle.lifeline.proofs.Steps.{step-by, start-refused, step-refused}
+use Rattle.lifeline.specs.Said.{Start, Step}
 use Rattle.roll.specs.Roll.{joinCheck, liabilityOf, liabilityOn, liabilityJoining, afterCall}
 use Rattle.roll.specs.Kept.{rollCheck, numbersIn, openedRoll, joining, joinedRoll, leftRoll}
 use Rattle.roll.proofs.Liability.{join-value}
@@ -84,7 +85,7 @@ module _ (run history : List ℕ) where
         smallSet = λ questions. numbered-refusals run history .smallSet questions ∙ ap refusalOf h;
         grid = grid-refused r h;
         start = λ age year. ap (λ (b : Start). b .check) (start-refused run history age year r (first _));
-        step = λ age year survivors. ap (λ (s : Step). s .says) (step-refused run history age year survivors r (first _));
+        step = λ p. ap (λ (s : Step). s .says) (step-refused run history p r (first _));
         join = join-refused r h;
       }
 
@@ -92,16 +93,13 @@ module _ (run history : List ℕ) where
   unfolding gridOf
   grid-unchanged points r h = rw (ap recordsOf h) (answers-none (basisWith run history) points)
 
-  -- a refused step leaves a lifeline where it stands, whichever check or work refused it
-  line-unchanged : (age year survivors : ℕ) (r : Refusal) → stepAt run history age year survivors .says ≡ refused r
-      → standMoved (stepAt run history age year survivors) ≡ standAt age year survivors
-  unfolding stepAt lived
-  line-unchanged age year survivors r h =
-      by (stepCheck run history age year survivors) (eqb age 150) (survivorsAfterYear (basisWith run history) age year (pos survivors)) h
+  -- a refused step leaves a lifeline unchanged, whichever check or work refused it
+  line-unchanged : (p : Position) (r : Refusal) → stepAt run history p .says ≡ refused r → stepAt run history p .position ≡ p
+  unfolding stepAt yearUnlessEnded
+  line-unchanged p r h =
+      by (stepCheck run history p) (eqb (p .age) 150) (survivorsAfterYear (basisWith run history) (p .age) (p .year) (pos (p .survivors))) h
     where
-      by : (c : Finding) (t : Bool) (o : Outcome ℤ)
-          → unlessRefused age year survivors c (cond t (moved age year survivors (value ended)) (yearLater age year survivors o)) .says ≡ refused r
-          → standMoved (unlessRefused age year survivors c (cond t (moved age year survivors (value ended)) (yearLater age year survivors o))) ≡ standAt age year survivors
+      by : (c : Finding) (t : Bool) (o : Outcome ℤ) → step-by run history p c t o .says ≡ refused r → step-by run history p c t o .position ≡ p
       by (refusedBy q) t o g = refl
       by passed true o g = refl
       by passed false (refused q) g = refl

@@ -37,7 +37,8 @@ use Rattle.small_set.specs.SmallSet.{smallSetOf}
 use Rattle.grid_record.specs.declared.Point.{Point}
 use Rattle.grid_record.specs.Record.{questionOf, recordOf, answeredOf}
 use Rattle.grid.specs.Grid.{gridCheck, gridOf}
-use Rattle.lifeline.specs.Lifeline.{startAt, stepAt, standAt, standMoved}
+use Rattle.lifeline.specs.declared.Position.{Position}
+use Rattle.lifeline.specs.Lifeline.{startAt, stepAt}
 use Rattle.lifeline.specs.Survivorship.{IsCohortSurvivorship}
 use Rattle.roll.specs.Roll.{joinCheck, liabilityOf, liabilityOn, liabilityJoining, Call, afterCall, membersAfter, totalOf}
 use Rattle.roll.specs.Kept.{rollCheck, numbersIn, openedRoll, joinedRoll, leftRoll, totalSaid, rollBy, rollAfter}
@@ -61,7 +62,7 @@ pub record RefusedThroughout (run history : List ℕ) (r : Refusal) : Type 0 whe
   pub smallSet : (questions : Questions) → smallSetOf run history questions .refusal ≡ r
   pub grid : (count : ℕ) → 119 ≤ count → gridCheck run history count ≡ refusedBy r
   pub start : (age year : ℕ) → startAt run history age year .check ≡ refusedBy r
-  pub step : (age year survivors : ℕ) → stepAt run history age year survivors .says ≡ refused r
+  pub step : (p : Position) → stepAt run history p .says ≡ refused r
   -- a join comes to its basis once the list's room and the roll's own refusals are passed (02, change 6)
   pub join : (roll : List ℕ) (number age pension : ℕ) → firstOf (rollCheck roll) (joinCheck (numbersIn roll) number pension) ≡ passed →
       joinedRoll roll run history number age pension ≡ refused r
@@ -72,14 +73,13 @@ pub record Demand1 (run history : List ℕ) : Type 0 where
   pub zeroIsNone : ZeroIsNone
   -- "checks all it is given"
   pub checked : (r : Refusal) → runAndHistoryCheck run history ≡ refusedBy r → RefusedThroughout run history r
-  -- "and on a refusal writes no byte of lent output": reading, writing, the short form, the grid; and a lifeline stays where it stands
+  -- "and on a refusal writes no byte of lent output": reading, writing, the short form, the grid; and a lifeline is left unchanged
   pub readUnchanged : (file out : List ℕ) (r : Refusal) → readCheck file out ≡ refusedBy r → written (readCheck file out) (runIn file) out ≡ out
   pub writeUnchanged : (out : List ℕ) (r : Refusal) → writeCheck run out ≡ refusedBy r → written (writeCheck run out) (fileOf run) out ≡ out
   pub shortFormUnchanged : (rate : ℤ) (out : List ℕ) (r : Refusal) → shortCheck run rate out ≡ refusedBy r
       → written (shortCheck run rate out) (shortFormOf run rate) out ≡ out
   pub gridUnchanged : (points : List Point) (r : Refusal) → gridCheck run history (length points) ≡ refusedBy r → gridOf run history points ≡ points
-  pub lifelineUnchanged : (age year survivors : ℕ) (r : Refusal) → stepAt run history age year survivors .says ≡ refused r →
-      standMoved (stepAt run history age year survivors) ≡ standAt age year survivors
+  pub lifelineUnchanged : (p : Position) (r : Refusal) → stepAt run history p .says ≡ refused r → stepAt run history p .position ≡ p
   -- "A refused call leaves the roll unchanged" (02, change 6), whatever stands in the list
   pub openUnchanged : (year : ℕ) (roll : List ℕ) (r : Refusal) → openedRoll year roll ≡ refused r → afterCall roll (openedRoll year roll) ≡ roll
   pub joinUnchanged : (roll : List ℕ) (number age pension : ℕ) (r : Refusal) → joinedRoll roll run history number age pension ≡ refused r →

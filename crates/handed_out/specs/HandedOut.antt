@@ -21,9 +21,9 @@ use Rattle.grid_record.specs.declared.Point.{Point}
 use Rattle.grid_record.specs.Record.{questionOf}
 use Rattle.grid.specs.Grid.{gridCheck, gridOf}
 use Rattle.lifeline.specs.Said.{advanced}
-use Rattle.lifeline.specs.Lifeline.{startAt, stepFrom, standAfter}
+use Rattle.lifeline.specs.Lifeline.{startAt, stepAt, positionAfter}
 use Rattle.engine.specs.Enquiry.{refusalOf, answerOf, signedAnswerOf}
-use Rattle.engine.specs.Lifelines.{lifelineBegun}
+use Rattle.engine.specs.Lifelines.{lifelineOfStart}
 use Rattle.exact.specs.Model.{exactImprovement, yearsTo, exactFactor, exactRate, exactSurvivors, exactExpectation, exactAnnuity}
 use Rattle.exact.specs.Distance.{Improving, ImprovingOver, largestYears, WithinQuarters}
 
@@ -93,6 +93,6 @@ pub record HandedOut (run history : List ℕ) : Type 0 where
       let a = getD (smallSetOf run history questions .points) i noAnswer in
       a .refusal .number ≡ 0 → ResultsNear (basisWith run history) (getD (questions .points) i noQuestion) (a .results)
   -- a lifeline whose start is not refused, after n steps that have all advanced
-  pub lifeline : (age year n : ℕ) → lifelineBegun (startAt run history age year) .refusal .number ≡ 0 →
-      ((k : ℕ) → k < n → stepFrom run history (standAfter run history age year k) .says ≡ value advanced) →
-      SurvivorsNear (basisWith run history) Cohort age n year (pos (standAfter run history age year n .survivors))
+  pub lifeline : (age year n : ℕ) → lifelineOfStart (startAt run history age year) .refusal .number ≡ 0 →
+      ((k : ℕ) → k < n → stepAt run history (positionAfter run history age year k) .says ≡ value advanced) →
+      SurvivorsNear (basisWith run history) Cohort age n year (pos (positionAfter run history age year n .survivors))

@@ -2,8 +2,8 @@
 use mathlib.Core.Path.{refl}
 use borrow.Author.Needs.{needs}
 use borrow.Author.Tests.{le-leb, lt-leb}
-use Rattle.lifeline.proofs.cohort.is_standing_year.Statement.{statement}
-use Rattle.lifeline.proofs.cohort.is_standing_year.Tie as tie
+use Rattle.lifeline.proofs.cohort.is_step_year.Statement.{statement}
+use Rattle.lifeline.proofs.cohort.is_step_year.Tie as tie
 
 add-result : tie.Need-add-result
 add-result c = search needs
@@ -14,5 +14,5 @@ returns c = rw (le-leb _ _ (c .if1 .taken)) refl
 returns-2 : tie.Need-returns-2
 returns-2 c = rw (lt-leb _ _ (c .if1 .left)) refl
 
-pub is-standing-year-spec : {M : Type 1} → statement M
-is-standing-year-spec = tie.close (tie.spec add-result returns returns-2)
+pub is-step-year-spec : {M : Type 1} → statement M
+is-step-year-spec = tie.close (tie.spec add-result returns returns-2)

@@ -1,7 +1,7 @@
 -- By cases: the arm says what the step did.
 use borrow.Author.Needs.{needs}
-use Rattle.engine.proofs.lifelines.moved.Statement.{statement}
-use Rattle.engine.proofs.lifelines.moved.Tie as tie
+use Rattle.engine.proofs.lifelines.lifeline_of_step.Statement.{statement}
+use Rattle.engine.proofs.lifelines.lifeline_of_step.Tie as tie
 
 enum-told : tie.Need-enum-told
 enum-told c = search needs
@@ -21,6 +21,6 @@ returns-2 c = simp (c .enum-told2 .given .1)
 returns-3 : tie.Need-returns-3
 returns-3 c = simp (c .before .status .given .1)
 
-pub moved-spec : {M : Type 1} → statement M
-moved-spec =
+pub lifeline-of-step-spec : {M : Type 1} → statement M
+lifeline-of-step-spec =
     tie.close (tie.spec enum-told enum-told-2 enum-known-status returns returns-2 returns-3)
