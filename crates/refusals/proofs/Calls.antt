@@ -7,7 +7,6 @@ use native.Mathlib.Omega.{arith}
 use lib.Dec.{eqb}
 use lib.IntN.{ℤ, pos, natAbs}
 use borrow.Author.Tests.{ne-eqb}
-use Rattle.outcome.specs.declared.Refusal.{Refusal}
 use Rattle.basis.specs.Basis.{basisOf}
 use Rattle.outcome.specs.Outcome.{Finding, passed, refusedBy, Outcome, value, refused, firstOf}
 use Rattle.outcome.specs.Refusals.{numbers, recordNumbers, isListed, Listed, RefusesBy, RefusedBy}
@@ -23,7 +22,6 @@ use Rattle.improvement.specs.Improvement.{firstYear, improvementOf}
 use Rattle.improvement.proofs.Numbered.{needed-numbered}
 use Rattle.projection.proofs.Numbered.{factor-numbered, rate-numbered}
 use Rattle.survivorship.specs.declared.Kind.the-variants.{Cohort}
-use Rattle.survivorship.specs.Survivorship.{survivorsAfterYear}
 use Rattle.question.specs.Question.{cellCheck}
 use Rattle.question.proofs.Numbered.{cell-numbered, question-numbered}
 use Rattle.enquiry.specs.Enquiry.{valuationCheck, improvementEnquiry, factorEnquiry, rateEnquiry, survivorshipEnquiry, expectationEnquiry, annuityEnquiry}
