@@ -9,7 +9,6 @@ use lib.IntN.{ℤ, pos, natAbs}
 use borrow.Author.Tests.{ne-eqb}
 use lib.ListN.{length}
 use Rattle.layout.specs.Layout.{formOf, runLength, fileLength}
-use Rattle.outcome.specs.declared.Refusal.{Refusal}
 use Rattle.basis.specs.Basis.{basisOf}
 use Rattle.outcome.specs.Outcome.{Finding, passed, refusedBy, Outcome, value, refused, firstOf}
 use Rattle.outcome.specs.Refusals.{numbers, recordNumbers, isListed, Listed, RefusesBy, RefusedBy}
@@ -25,7 +24,6 @@ use Rattle.improvement.specs.Improvement.{firstYear, improvementOf}
 use Rattle.improvement.proofs.Numbered.{needed-numbered}
 use Rattle.projection.proofs.Numbered.{factor-numbered, rate-numbered}
 use Rattle.survivorship.specs.declared.Kind.the-variants.{Cohort}
-use Rattle.survivorship.specs.Survivorship.{survivorsAfterYear}
 use Rattle.question.specs.Question.{cellCheck}
 use Rattle.question.proofs.Numbered.{cell-numbered, question-numbered}
 use Rattle.enquiry.specs.Enquiry.{valuationCheck, improvementEnquiry, factorEnquiry, rateEnquiry, survivorshipEnquiry, expectationEnquiry, annuityEnquiry}
