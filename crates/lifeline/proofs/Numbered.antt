@@ -13,11 +13,11 @@ standing-year-numbered : (base age year : ℕ) → RefusesBy numbers (standingYe
 unfolding standingYearCheck numbers isListed
 standing-year-numbered base age year = unless-by (inRange base (lastStandingYear age) year) _ refl
 
-survivors-numbered : (survivors : ℕ) → RefusesBy numbers (survivorsCheck survivors)
+survivors-numbered : (size survivors : ℕ) → RefusesBy numbers (survivorsCheck size survivors)
 unfolding survivorsCheck numbers isListed
-survivors-numbered survivors = unless-by (leb survivors U) _ refl
+survivors-numbered size survivors = unless-by (leb survivors U) _ refl
 
-pub standing-numbered : (base age year survivors : ℕ) → RefusesBy numbers (standingCheck base age year survivors)
+pub standing-numbered : (size base age year survivors : ℕ) → RefusesBy numbers (standingCheck size base age year survivors)
 unfolding standingCheck
-standing-numbered base age year survivors =
-    first-by (check-among record-numbers (age-numbered age)) (first-by (standing-year-numbered base age year) (survivors-numbered survivors))
+standing-numbered size base age year survivors =
+    first-by (check-among record-numbers (age-numbered age)) (first-by (standing-year-numbered base age year) (survivors-numbered size survivors))

@@ -6,6 +6,7 @@ use Prim.Native.Nat.{ℕ, _+_, _≤_}
 use lib.Dec.{eqb, leb}
 use lib.IntN.{pos}
 use borrow.Author.Tests.{leb-true}
+use lib.ListN.{length}
 use Rattle.arithmetic.specs.Fraction.{U}
 use Rattle.outcome.specs.declared.Refusal.{Refusal}
 use Rattle.outcome.specs.Outcome.{passed, refusedBy, value, refused, firstOf}
@@ -23,21 +24,21 @@ standing-year-passed : (base age year : ℕ) → standingYearCheck base age year
 unfolding standingYearCheck
 standing-year-passed base age year h = in-range base (lastStandingYear age) year (unless-passed (inRange base (lastStandingYear age) year) _ h)
 
-survivors-passed : (survivors : ℕ) → survivorsCheck survivors ≡ passed → survivors ≤ U
+survivors-passed : (size survivors : ℕ) → survivorsCheck size survivors ≡ passed → survivors ≤ U
 unfolding survivorsCheck
-survivors-passed survivors h = leb-true survivors U (unless-passed (leb survivors U) _ h)
+survivors-passed size survivors h = leb-true survivors U (unless-passed (leb survivors U) _ h)
 
 pub step-passed : (run history : List ℕ) (age year survivors : ℕ) → stepCheck run history age year survivors ≡ passed
     → Workable run history × (20 ≤ age) × (age ≤ 150) × (basisWith run history .base ≤ year) × (year ≤ lastStandingYear age) × (survivors ≤ U)
 unfolding standingCheck
 step-passed run history age year survivors h =
     let base = basisWith run history .base in
-    let p = both-passed (runAndHistoryCheck run history) (standingCheck base age year survivors) h in
-    let q = both-passed (ageCheck age) (firstOf (standingYearCheck base age year) (survivorsCheck survivors)) (p .1) in
-    let s = both-passed (standingYearCheck base age year) (survivorsCheck survivors) (q .1) in
+    let p = both-passed (runAndHistoryCheck run history) (standingCheck (length run) base age year survivors) h in
+    let q = both-passed (ageCheck age) (firstOf (standingYearCheck base age year) (survivorsCheck (length run) survivors)) (p .1) in
+    let s = both-passed (standingYearCheck base age year) (survivorsCheck (length run) survivors) (q .1) in
     let a = age-passed age (q .0) in
     let y = standing-year-passed base age year (s .0) in
-    (accepted-workable run history (p .0), a .0, a .1, y .0, y .1, survivors-passed survivors (s .1))
+    (accepted-workable run history (p .0), a .0, a .1, y .0, y .1, survivors-passed (length run) survivors (s .1))
 
 -- ---- the start
 module _ (run history : List ℕ) (age year : ℕ) where

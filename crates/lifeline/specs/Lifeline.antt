@@ -3,6 +3,7 @@
 use Prim.Native.Nat.{ℕ, zero, suc, _+_}
 use mathlib.Core.Bool.{cond}
 use mathlib.Core.List.{List}
+use lib.ListN.{length}
 use lib.Dec.{eqb, leb}
 use lib.IntN.{ℤ, pos, natAbs}
 use Rattle.arithmetic.specs.Fraction.{U}
@@ -37,17 +38,18 @@ lastStandingYear age = 2110 + age
 unfoldable pub standingYearCheck : ℕ → ℕ → ℕ → Finding
 standingYearCheck base age year = unless (inRange base (lastStandingYear age) year) (refusal 7 year 0)
 
--- 5: survivors above U, places 4554 and 0
-unfoldable pub survivorsCheck : ℕ → Finding
-survivorsCheck survivors = unless (leb survivors U) (refusal 5 4554 0)
+-- 5: survivors above U, places the length of the data run and 0
+unfoldable pub survivorsCheck : ℕ → ℕ → Finding
+survivorsCheck size survivors = unless (leb survivors U) (refusal 5 size 0)
 
 -- the age (6), the year, then the survivors
-unfoldable pub standingCheck : ℕ → ℕ → ℕ → ℕ → Finding
-standingCheck base age year survivors = firstOf (ageCheck age) (firstOf (standingYearCheck base age year) (survivorsCheck survivors))
+unfoldable pub standingCheck : ℕ → ℕ → ℕ → ℕ → ℕ → Finding
+standingCheck size base age year survivors = firstOf (ageCheck age) (firstOf (standingYearCheck base age year) (survivorsCheck size survivors))
 
 -- first of all the data run, and directly after it the history
 abbrev pub stepCheck : List ℕ → List ℕ → ℕ → ℕ → ℕ → Finding
-stepCheck run history age year survivors = firstOf (runAndHistoryCheck run history) (standingCheck (basisWith run history .base) age year survivors)
+stepCheck run history age year survivors =
+    firstOf (runAndHistoryCheck run history) (standingCheck (length run) (basisWith run history .base) age year survivors)
 
 -- ---- the step
 abbrev pub moved : ℕ → ℕ → ℕ → Outcome Said → Step
