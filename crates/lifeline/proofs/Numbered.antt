@@ -14,11 +14,11 @@ step-year-numbered : (base age year : ℕ) → RefusesBy numbers (stepYearCheck 
 unfolding stepYearCheck numbers isListed
 step-year-numbered base age year = unless-by (inRange base (lastYearAt age) year) _ refl
 
-survivors-numbered : (survivors : ℕ) → RefusesBy numbers (survivorsCheck survivors)
+survivors-numbered : (size survivors : ℕ) → RefusesBy numbers (survivorsCheck size survivors)
 unfolding survivorsCheck numbers isListed
-survivors-numbered survivors = unless-by (leb survivors U) _ refl
+survivors-numbered size survivors = unless-by (leb survivors U) _ refl
 
-pub position-numbered : (base : ℕ) (p : Position) → RefusesBy numbers (positionCheck base p)
+pub position-numbered : (size base : ℕ) (p : Position) → RefusesBy numbers (positionCheck size base p)
 unfolding positionCheck
-position-numbered base p =
-    first-by (check-among record-numbers (age-numbered (p .age))) (first-by (step-year-numbered base (p .age) (p .year)) (survivors-numbered (p .survivors)))
+position-numbered size base p =
+    first-by (check-among record-numbers (age-numbered (p .age))) (first-by (step-year-numbered base (p .age) (p .year)) (survivors-numbered size (p .survivors)))

@@ -4,6 +4,7 @@ use mathlib.Core.Bool.{Bool, true, false, cond}
 use mathlib.Core.List.{List}
 use Prim.Native.Nat.{ℕ, _+_, _≤_}
 use native.Mathlib.Omega.{arith}
+use lib.ListN.{length}
 use lib.Dec.{eqb, leb}
 use lib.IntN.{ℤ, pos, natAbs}
 use borrow.Author.Tests.{leb-true}
@@ -26,21 +27,21 @@ step-year-passed : (base age year : ℕ) → stepYearCheck base age year ≡ pas
 unfolding stepYearCheck
 step-year-passed base age year h = in-range base (lastYearAt age) year (unless-passed (inRange base (lastYearAt age) year) _ h)
 
-survivors-passed : (survivors : ℕ) → survivorsCheck survivors ≡ passed → survivors ≤ U
+survivors-passed : (size survivors : ℕ) → survivorsCheck size survivors ≡ passed → survivors ≤ U
 unfolding survivorsCheck
-survivors-passed survivors h = leb-true survivors U (unless-passed (leb survivors U) _ h)
+survivors-passed size survivors h = leb-true survivors U (unless-passed (leb survivors U) _ h)
 
 pub step-passed : (run history : List ℕ) (p : Position) → stepCheck run history p ≡ passed
     → Workable run history × (20 ≤ p .age) × (p .age ≤ 150) × (basisWith run history .base ≤ p .year) × (p .year ≤ lastYearAt (p .age)) × (p .survivors ≤ U)
 unfolding positionCheck
 step-passed run history p h =
     let base = basisWith run history .base in
-    let c = both-passed (runAndHistoryCheck run history) (positionCheck base p) h in
-    let q = both-passed (ageCheck (p .age)) (firstOf (stepYearCheck base (p .age) (p .year)) (survivorsCheck (p .survivors))) (c .1) in
-    let s = both-passed (stepYearCheck base (p .age) (p .year)) (survivorsCheck (p .survivors)) (q .1) in
+    let c = both-passed (runAndHistoryCheck run history) (positionCheck (length run) base p) h in
+    let q = both-passed (ageCheck (p .age)) (firstOf (stepYearCheck base (p .age) (p .year)) (survivorsCheck (length run) (p .survivors))) (c .1) in
+    let s = both-passed (stepYearCheck base (p .age) (p .year)) (survivorsCheck (length run) (p .survivors)) (q .1) in
     let a = age-passed (p .age) (q .0) in
     let y = step-year-passed base (p .age) (p .year) (s .0) in
-    (accepted-workable run history (c .0), a .0, a .1, y .0, y .1, survivors-passed (p .survivors) (s .1))
+    (accepted-workable run history (c .0), a .0, a .1, y .0, y .1, survivors-passed (length run) (p .survivors) (s .1))
 
 -- ---- the start
 module _ (run history : List ℕ) (age year : ℕ) where

@@ -3,6 +3,7 @@
 use Prim.Native.Nat.{ℕ, zero, suc, _+_}
 use mathlib.Core.Bool.{cond}
 use mathlib.Core.List.{List}
+use lib.ListN.{length}
 use lib.Dec.{eqb, leb}
 use lib.IntN.{ℤ, pos, natAbs}
 use Rattle.arithmetic.specs.Fraction.{U}
@@ -40,17 +41,17 @@ lastYearAt age = 2110 + age
 unfoldable pub stepYearCheck : ℕ → ℕ → ℕ → Finding
 stepYearCheck base age year = unless (inRange base (lastYearAt age) year) (refusal 7 year 0)
 
--- 5: survivors above U, places 4554 and 0
-unfoldable pub survivorsCheck : ℕ → Finding
-survivorsCheck survivors = unless (leb survivors U) (refusal 5 4554 0)
+-- 5: survivors above U, places the length of the data run and 0
+unfoldable pub survivorsCheck : ℕ → ℕ → Finding
+survivorsCheck size survivors = unless (leb survivors U) (refusal 5 size 0)
 
 -- the age (6), the year, then the survivors
-unfoldable pub positionCheck : ℕ → Position → Finding
-positionCheck base p = firstOf (ageCheck (p .age)) (firstOf (stepYearCheck base (p .age) (p .year)) (survivorsCheck (p .survivors)))
+unfoldable pub positionCheck : ℕ → ℕ → Position → Finding
+positionCheck size base p = firstOf (ageCheck (p .age)) (firstOf (stepYearCheck base (p .age) (p .year)) (survivorsCheck size (p .survivors)))
 
 -- first of all the data run, and directly after it the history
 abbrev pub stepCheck : List ℕ → List ℕ → Position → Finding
-stepCheck run history p = firstOf (runAndHistoryCheck run history) (positionCheck (basisWith run history .base) p)
+stepCheck run history p = firstOf (runAndHistoryCheck run history) (positionCheck (length run) (basisWith run history .base) p)
 
 -- ---- the step
 abbrev pub stepTo : Position → Outcome Said → Step

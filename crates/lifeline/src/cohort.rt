@@ -1,6 +1,7 @@
 // The start and the step of a lifeline by its numbers: any bytes, any age and year, any survivors.
 ghost use mathlib.Core.Path.{_≡_};
 ghost use Prim.Native.Nat.{_+_, _≤_, _<_};
+ghost use lib.ListN.{length};
 ghost use lib.IntN.{pos};
 ghost use Rattle.outcome.specs.Outcome.{finding};
 ghost use Rattle.basis.specs.Basis.{basisOf, Accepted};
@@ -65,15 +66,15 @@ fn check_step_year(base: u32, age: u32, year: u32) -> Check
 }
 
 // 5: survivors above U, with the length of the run for a place.
-fn check_survivors(survivors: u64) -> Check
-    ensures { λ r. ⌜ finding r ≡ survivorsCheck survivors ⌝ }
+fn check_survivors(run: &[u8], survivors: u64) -> Check
+    ensures { λ r. ⌜ finding r ≡ survivorsCheck (length (now (run .entry))) survivors ⌝ }
 {
     if survivors <= UNIT {
         Check::Passed
     } else {
         Check::Refused(Refusal {
             number: 5,
-            first: 4554,
+            first: run.len() as u64,
             second: 0,
         })
     }
@@ -82,12 +83,12 @@ fn check_survivors(survivors: u64) -> Check
 // The age, the year, then the survivors.
 fn check_position(run: &[u8], position: Position) -> Check
     requires { ⌜ Accepted (now run) ⌝ }
-    ensures { λ r. ⌜ finding r ≡ positionCheck (basisOf (now (run .entry)) .base) position ⌝ }
+    ensures { λ r. ⌜ finding r ≡ positionCheck (length (now (run .entry))) (basisOf (now (run .entry)) .base) position ⌝ }
 {
     let of_year = check_step_year(basis::fields::base_year(run), position.age, position.year);
     outcome::first_of(
         question::check_age(position.age),
-        outcome::first_of(of_year, check_survivors(position.survivors)),
+        outcome::first_of(of_year, check_survivors(run, position.survivors)),
     )
 }
 
