@@ -1,14 +1,15 @@
 // Runs the cases of the reference model on the enquiries: all nine kinds, with every refusal.
 //
-// Standard input, all numbers little-endian: the number of bases (2 bytes), as many data runs of 4,554 bytes; the bytes of
+// Standard input, all numbers little-endian: the number of bases (2 bytes), as many data runs; the bytes of
 // all histories together (4 bytes), and as many bytes, the history files one after the other; then cases to the end. A case
 // is its kind (1 byte: 0 improvement, 1 factor, 2 rate, then period and cohort: 3 and 4 survivorship, 5 and 6 expectation,
 // 7 and 8 annuity), the place of its basis (1), age, deferment and year (4 each), and where its history starts in those
 // bytes (4) and its length (4). A line a case: `value` and the number, or `refused` and the refusal's number and places.
 ghost use mathlib.Core.Path.{_≡_};
-ghost use Prim.Native.Nat.{_≤_};
+ghost use Prim.Native.Nat.{_*_, _≤_};
 ghost use lib.ListN.{length};
 ghost use lib.IntN.{natAbs};
+ghost use Rattle.layout.specs.Layout.{mpb1, runLength};
 use libc::STDIN_FILENO;
 use libc::STDOUT_FILENO;
 use outcome::Answer;
@@ -20,10 +21,12 @@ use survivorship::Kind;
 
 // ---- the bases and the histories
 // Room for 64 data runs.
-fn room() -> [u8; 291456]
-    ensures { λ r. ⌜ 291456 ≡ length r ⌝ }
+const ROOM: usize = 64 * layout::RUN_LENGTH;
+
+fn room() -> [u8; ROOM]
+    ensures { λ r. ⌜ 64 * runLength mpb1 ≡ length r ⌝ }
 {
-    [0; 291456]
+    [0; ROOM]
 }
 
 // Room for the histories.
@@ -38,7 +41,11 @@ fn read_length() -> u32 {
     let mut bytes = [0u8; 2];
     io::read_full(STDIN_FILENO, &mut bytes);
     let bases = little_endian::read_u16(&bytes, 0);
-    if bases < 64 { 4554 * bases } else { 291456 }
+    if bases < 64 {
+        layout::RUN_LENGTH as u32 * bases
+    } else {
+        ROOM as u32
+    }
 }
 
 // Reads the number of bytes of the histories, at most those there is room for.
@@ -51,8 +58,8 @@ fn read_history_length() -> u32 {
 
 // The data run at a place; where there is none, no bytes, which every enquiry refuses.
 fn run_at(runs: &[u8], place: u8) -> &[u8] {
-    let start = 4554 * (place as usize);
-    let end = start + 4554;
+    let start = layout::RUN_LENGTH * (place as usize);
+    let end = start + layout::RUN_LENGTH;
     if end <= runs.len() {
         &runs[start..end]
     } else {

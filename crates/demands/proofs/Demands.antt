@@ -13,7 +13,7 @@ use Rattle.outcome.specs.declared.Refusal.{Refusal}
 use Rattle.outcome.specs.Outcome.{Finding, passed, refusedBy, Outcome, value, refused, firstOf, andThen}
 use Rattle.outcome.proofs.Outcome.{both-passed, checked-passed, first-refused}
 use Rattle.run_check.proofs.Acceptance.{accepted, passes}
-use Rattle.basis_file.specs.File.{runIn, fileOf}
+use Rattle.basis_file.specs.File.{runIn, fileOf, readCheck, writeCheck}
 use Rattle.arithmetic.proofs.Rounding.{ties-go-up}
 use Rattle.basis_file.proofs.RoundTrip.{round-trips}
 use Rattle.history.proofs.Acceptance.{history-acceptance}
@@ -26,7 +26,7 @@ use Rattle.lifeline.proofs.Survivorship.{is-cohort-survivorship}
 use Rattle.enquiry_text.proofs.Says.{line-says}
 use Rattle.figures.proofs.Computed.{figures-hold}
 use Rattle.history.specs.History.{basisWith, runAndHistoryCheck}
-use Rattle.short_form.specs.ShortForm.{shortFormOf}
+use Rattle.short_form.specs.ShortForm.{shortFormOf, shortCheck}
 use Rattle.sweep.proofs.Steps.{each-step}
 use Rattle.sweep.proofs.Fixed.{encoding-is-fixed}
 use Rattle.factor_table.proofs.Fixed.{factor-table-is-fixed}
@@ -45,7 +45,7 @@ use Rattle.roll.specs.Kept.{rollCheck, numbersIn, openedRoll, joining, joinedRo
 use Rattle.roll.proofs.Liability.{join-value}
 use Rattle.roll.proofs.RunningTotal.{running-total}
 use Rattle.roll.proofs.Further.{further-kept}
-use Rattle.engine.specs.Enquiry.{refusalOf, readCheck, writeCheck, shortCheck}
+use Rattle.engine.specs.Enquiry.{refusalOf}
 use Rattle.refusals.proofs.Calls.{numbered-refusals, zero-is-none}
 use Rattle.exact.proofs.Demands.{demand-3}
 use Rattle.handed_out.proofs.Distances.{handed-out}

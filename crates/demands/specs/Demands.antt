@@ -12,11 +12,11 @@ use Rattle.outcome.specs.declared.Refusal.{Refusal}
 use Rattle.basis.specs.Basis.{Accepted}
 use Rattle.outcome.specs.Outcome.{passed, refusedBy, value, refused, firstOf, andThen}
 use Rattle.run_check.specs.Run.{runCheck}
-use Rattle.basis_file.specs.File.{runIn, fileOf}
+use Rattle.basis_file.specs.File.{runIn, fileOf, readCheck, writeCheck}
 use Rattle.basis_file.specs.RoundTrips.{RoundTrips}
 use Rattle.history.specs.History.{basisWith, runAndHistoryCheck}
 use Rattle.history.specs.Accepted.{HistoryAcceptance}
-use Rattle.short_form.specs.ShortForm.{shortFormOf, ShortFormStands}
+use Rattle.short_form.specs.ShortForm.{shortFormOf, shortCheck, ShortFormStands}
 use Rattle.improvement.specs.Improvement.{firstYear, improvementOf, improvementNeeded}
 use Rattle.improvement.specs.Answered.{Edges, ActualAnswered}
 use Rattle.improvement.specs.OneRounding.{OneRounding}
@@ -45,7 +45,7 @@ use Rattle.roll.specs.Kept.{rollCheck, numbersIn, openedRoll, joinedRoll, leftR
 use Rattle.roll.specs.Totals.{RunningTotal, FurtherKept}
 use Rattle.enquiry_text.specs.Said.{LineSays}
 use Rattle.figures.specs.Figures.{FiguresHold}
-use Rattle.engine.specs.Enquiry.{answerOf, readCheck, writeCheck, shortCheck}
+use Rattle.engine.specs.Enquiry.{answerOf}
 use Rattle.refusals.specs.Numbered.{workOn, NumberedRefusals, ZeroIsNone}
 use Rattle.exact.specs.Distance.{Demand3}
 use Rattle.handed_out.specs.HandedOut.{HandedOut}

@@ -7,6 +7,8 @@ use native.Mathlib.Omega.{arith}
 use lib.Dec.{eqb}
 use lib.IntN.{ℤ, pos, natAbs}
 use borrow.Author.Tests.{ne-eqb}
+use lib.ListN.{length}
+use Rattle.layout.specs.Layout.{formOf, runLength, fileLength}
 use Rattle.outcome.specs.declared.Refusal.{Refusal}
 use Rattle.basis.specs.Basis.{basisOf}
 use Rattle.outcome.specs.Outcome.{Finding, passed, refusedBy, Outcome, value, refused, firstOf}
@@ -112,9 +114,9 @@ numbered-refusals run history =
     let b = basisWith run history in
     record {
       checkBasis = run-numbered run;
-      readBasis = λ file out. first-by (count-numbered 4554 _) (file-numbered file);
-      writeBasis = λ out. first-by (count-numbered 4608 _) (run-numbered run);
-      shortForm = λ rate out. first-by (count-numbered 4554 _) (short-form-numbered run rate);
+      readBasis = λ file out. first-by (count-numbered (runLength (formOf (length file))) _) (file-numbered file);
+      writeBasis = λ out. first-by (count-numbered (fileLength (formOf (length run))) _) (run-numbered run);
+      shortForm = λ rate out. first-by (count-numbered (runLength (formOf (length run))) _) (short-form-numbered run rate);
       withHistory = basis-numbered run history;
       factorWork = factor-numbered b;
       rateWork = rate-numbered b;

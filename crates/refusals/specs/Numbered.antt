@@ -27,7 +27,9 @@ use Rattle.grid.specs.Grid.{gridCheck}
 use Rattle.lifeline.specs.Said.{Said}
 use Rattle.lifeline.specs.Lifeline.{startAt, stepAt}
 use Rattle.roll.specs.Kept.{rollCheck, joinedRoll, leftRoll, totalSaid, totalAnswer}
-use Rattle.engine.specs.Enquiry.{refusalOf, answerOf, signedAnswerOf, readCheck, writeCheck, shortCheck}
+use Rattle.engine.specs.Enquiry.{refusalOf, answerOf, signedAnswerOf}
+use Rattle.basis_file.specs.File.{readCheck, writeCheck}
+use Rattle.short_form.specs.ShortForm.{shortCheck}
 use Rattle.engine.specs.Lifelines.{stepRefusal}
 use Rattle.reply_text.specs.Ascii.{ascii}
 use Rattle.reply_text.specs.Reply.{questionText, resultsText, refusalLine, replyOf}

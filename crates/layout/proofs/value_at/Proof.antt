@@ -7,10 +7,10 @@ use mir.Syntax.{w32, w64}
 use mir.Val.{SFits}
 use mir.Facts.{toZ-pos, toZ-ofZ, sfits-widen}
 use Rattle.little_endian.specs.Bytes.{byteAt}
-use Rattle.field_check.specs.Field.{widthOf}
+use Rattle.layout.specs.Layout.{widthOf}
 use borrow.Author.Needs.{needs}
-use Rattle.field_check.proofs.value_at.Statement.{statement}
-use Rattle.field_check.proofs.value_at.Tie as tie
+use Rattle.layout.proofs.value_at.Statement.{statement}
+use Rattle.layout.proofs.value_at.Tie as tie
 
 enum-told : tie.Need-enum-told
 enum-told c = search needs
