@@ -19,6 +19,7 @@ use Rattle.basis_file.proofs.RoundTrip.{round-trips}
 use Rattle.history.proofs.Acceptance.{history-acceptance}
 use Rattle.improvement.proofs.Cases.{actual-answered}
 use Rattle.improvement.proofs.OneRounding.{one-rounding}
+use Rattle.improvement.proofs.LongTerm.{long-term-from-2130}
 use Rattle.improvement.proofs.Edges.{edges}
 use Rattle.short_form.proofs.Accepted.{short-form-stands}
 use Rattle.lifeline.proofs.Survivorship.{is-cohort-survivorship}
@@ -27,7 +28,7 @@ use Rattle.figures.proofs.Computed.{figures-hold}
 use Rattle.history.specs.History.{basisWith, runAndHistoryCheck}
 use Rattle.short_form.specs.ShortForm.{shortFormOf, shortCheck}
 use Rattle.sweep.proofs.Steps.{each-step}
-use Rattle.sweep.proofs.Fixed.{held-is-fixed}
+use Rattle.sweep.proofs.Fixed.{encoding-is-fixed}
 use Rattle.factor_table.proofs.Fixed.{factor-table-is-fixed}
 use Rattle.survivorship.specs.Survivorship.{survivorsAfterYear}
 use Rattle.enquiry.specs.Enquiry.{improvementEnquiry, factorEnquiry, rateEnquiry, survivorshipEnquiry, expectationEnquiry, annuityEnquiry}
@@ -142,7 +143,7 @@ module _ (run history : List ℕ) where
         handedTotal = handed-total;
         furtherKept = further-kept;
         sweep = each-step run history;
-        heldIsFixed = held-is-fixed;
+        encodingIsFixed = encoding-is-fixed;
         factorTableIsFixed = factor-table-is-fixed;
         roundTrips = round-trips;
         historyAccepted = history-acceptance;
@@ -151,6 +152,7 @@ module _ (run history : List ℕ) where
         lines = line-says;
         ties = ties-go-up;
         oneRounding = one-rounding;
+        longTerm = long-term-from-2130 (basisWith run history);
         shortForm = short-form-stands run;
         lifeline = is-cohort-survivorship run history;
         figures = figures-hold;

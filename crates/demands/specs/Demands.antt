@@ -20,9 +20,10 @@ use Rattle.short_form.specs.ShortForm.{shortFormOf, shortCheck, ShortFormStands
 use Rattle.improvement.specs.Improvement.{firstYear, improvementOf, improvementNeeded}
 use Rattle.improvement.specs.Answered.{Edges, ActualAnswered}
 use Rattle.improvement.specs.OneRounding.{OneRounding}
+use Rattle.improvement.specs.LongTerm.{LongTermFrom2130}
 use Rattle.projection.specs.Projection.{factorOf, rateOf}
 use Rattle.sweep.specs.EachStep.{EachStep}
-use Rattle.sweep.specs.Fixed.{HeldIsFixed}
+use Rattle.sweep.specs.Fixed.{EncodingIsFixed}
 use Rattle.survivorship.specs.declared.Kind.{Kind}
 use Rattle.survivorship.specs.declared.Kind.the-variants.{Cohort}
 use Rattle.survivorship.specs.Survivorship.{survivorsOf}
@@ -132,16 +133,18 @@ pub record Demand2 (run history : List ℕ) : Type 0 where
   -- ties go up, and the two components are rounded once (02, change 3)
   pub ties : TiesGoUp
   pub oneRounding : OneRounding
+  -- from 2130 on an improvement is the long-term rates, age plus birth year, plus the addition (02, change 9)
+  pub longTerm : LongTermFrom2130 (basisWith run history)
   -- the short form is accepted, and differs only in what it may
   pub shortForm : (rate : ℤ) → ShortFormStands run rate
   -- a lifeline's steps are cohort survivorship, and say what their checks, their age and their year say
   pub lifeline : (age year : ℕ) → IsCohortSurvivorship run history age year
   -- the marked figures of the paper
   pub figures : FiguresHold
-  -- the sweep holds what the direct engine answers (02, change 5)
+  -- the sweep has what the direct engine answers (02, change 5)
   pub sweep : EachStep run history
-  -- and what it and the factor table hold leaves no number of a lent list free
-  pub heldIsFixed : HeldIsFixed
+  -- and neither it nor the factor table leaves a number of a lent list free
+  pub encodingIsFixed : EncodingIsFixed
   pub factorTableIsFixed : FactorTableIsFixed
   -- "A basis read and written back is the same file; written and read back, the same basis"
   pub roundTrips : RoundTrips

@@ -9,7 +9,7 @@ use Rattle.history.proofs.With.{accumulation-with, limits-with}
 use Rattle.outcome.specs.Outcome.{refused, meaning}
 use Rattle.valuation.proofs.Discount.{discount-turn, discount-with, discount-small, discount-ranges}
 use Rattle.valuation.proofs.Payments.{Paying, paying-first, paying-next, paid-refused, paid-last}
-use Rattle.survivorship.proofs.Survivors.{survivors-next, year-small, year-late}
+use Rattle.survivorship.proofs.Survivors.{survivors-next, year-small, cell-on}
 use Rattle.valuation.proofs.annuity.annuity_from.Statement.{statement}
 use Rattle.valuation.proofs.annuity.annuity_from.Tie as tie
 
@@ -48,7 +48,7 @@ year-on-requires c κs = search needs
 
 survivors-after-year-requires : tie.Need-survivors-after-year-requires Inv-loop μ-loop
 survivors-after-year-requires c κs = let l = c .before .before in let s = l .before .before .before .before .before .before in
-    (s .pre .0 .usable, omega arith, omega arith, omega (arith, s .pre .0 .year-low, c .year-on .ensures, year-late (s .args .kind) (l .loop .j) (s .args .year)), l .loop .inv .people)
+    (cell-on (s .args .age) (s .args .year) (s .args .kind) (l .loop .j) (s .pre .0 .usable) (s .pre .0 .age-low) (omega arith) (s .pre .0 .year-low) (c .year-on .ensures), l .loop .inv .people)
 
 enum-known-x : tie.Need-enum-known-x Inv-loop μ-loop
 enum-known-x c = search needs

@@ -4,8 +4,8 @@ use Prim.Native.Nat.{_-_, _≤_}
 use native.Mathlib.Omega.{arith}
 use Rattle.factor_table.proofs.Copying.{Copied, copied-none, copied-next}
 use borrow.Author.Needs.{needs}
-use Rattle.factor_table.proofs.factors.note_state.Statement.{statement}
-use Rattle.factor_table.proofs.factors.note_state.Tie as tie
+use Rattle.factor_table.proofs.factors.store_state.Statement.{statement}
+use Rattle.factor_table.proofs.factors.store_state.Tie as tie
 
 abbrev Inv-loop : tie.InvT-loop
 Inv-loop state at numbers₀ i₀ numbers i = (i ≤ 131) × Copied at state numbers₀ numbers i
@@ -53,8 +53,8 @@ returns c =
     let e : l .loop .i ≡ 131 = omega arith in
     (rw e at (l .loop .inv .1 .stands), l .loop .inv .1 .kept)
 
-pub note-state-spec : {M : Type 1} → statement M
-note-state-spec =
+pub store-state-spec : {M : Type 1} → statement M
+store-state-spec =
     tie.close
     (tie.spec
     Inv-loop

@@ -1,12 +1,13 @@
--- After k turns the first k years are noted, and the state is that of the year B + k.
+-- After k turns the first k years are stored, and the state is that of the year B + k.
 use mathlib.Core.Path.{_≡_, _∙_, sym, refl}
 use Prim.Native.Nat.{_+_, _*_, _-_, _≤_}
 use native.Mathlib.Omega.{arith}
 use borrow.Author.Needs.{needs}
 use Rattle.history.specs.History.{basisWith}
+use Rattle.factor_table.specs.FactorTable.{tableYears}
 use Rattle.factor_table.proofs.Sweeping.{Sweeping, sweeping-none, sweeping-next}
-use Rattle.factor_table.proofs.factors.note_years.Statement.{statement}
-use Rattle.factor_table.proofs.factors.note_years.Tie as tie
+use Rattle.factor_table.proofs.factors.store_years.Statement.{statement}
+use Rattle.factor_table.proofs.factors.store_years.Tie as tie
 
 abbrev Inv-loop : tie.InvT-loop
 Inv-loop run history numbers₀ base years state₀ k₀ numbers state k = (k ≤ years) × Sweeping (basisWith run history) numbers state k
@@ -28,17 +29,17 @@ loop-holds c =
     let s = c .before .before .before .before .before in
     (omega arith, sweeping-none (basisWith (s .args .run .now) (s .args .history .now)) (s .args .numbers .now) (c .start .result) (s .pre .1) (c .start .ensures))
 
-slice-aggregate-note-state : tie.Need-slice-aggregate-note-state Inv-loop μ-loop
-slice-aggregate-note-state c = sym (c .before .before .loop .inv .1 .holds .size)
+slice-aggregate-store-state : tie.Need-slice-aggregate-store-state Inv-loop μ-loop
+slice-aggregate-store-state c = sym (c .before .before .loop .inv .1 .holds .size)
 
-cast-note-state : tie.Need-cast-note-state Inv-loop μ-loop
-cast-note-state c = search needs
+cast-store-state : tie.Need-cast-store-state Inv-loop μ-loop
+cast-store-state c = search needs
 
-mul-note-state : tie.Need-mul-note-state Inv-loop μ-loop
-mul-note-state c = search needs
+mul-store-state : tie.Need-mul-store-state Inv-loop μ-loop
+mul-store-state c = search needs
 
-note-state-requires : tie.Need-note-state-requires Inv-loop μ-loop
-note-state-requires c κs =
+store-state-requires : tie.Need-store-state-requires Inv-loop μ-loop
+store-state-requires c κs =
     let l = c .before .before .before in
     let b = l .before .before in
     (l .loop .inv .1 .holds .size, omega (arith, l .loop .inv .1 .size, b .base-year .ensures, b .before .before .before .before .pre .0 .basis .limits .base-low))
@@ -68,9 +69,9 @@ loop-again c =
     let b = l .before .before in
     let s = b .before .before .before .before in (
       omega arith,
-      sweeping-next (basisWith (s .args .run .now) (s .args .history .now)) (l .loop .numbers) (l .loop .state) (y .note-state .last .1 .1 .0) (c .before .step .last .1 .1 .1 .0)
+      sweeping-next (basisWith (s .args .run .now) (s .args .history .now)) (l .loop .numbers) (l .loop .state) (y .store-state .last .1 .1 .0) (c .before .step .last .1 .1 .1 .0)
           (l .loop .k) (131 * l .loop .k) (b .base-year .result + l .loop .k) refl (omega (arith, b .base-year .ensures)) (search needs)
-          (l .loop .inv .1) (y .note-state .ensures .0) (y .note-state .ensures .1) (c .before .step .ensures .1),
+          (l .loop .inv .1) (y .store-state .ensures .0) (y .store-state .ensures .1) (c .before .step .ensures .1),
     )
 
 same-length : tie.Need-same-length Inv-loop μ-loop
@@ -81,11 +82,11 @@ returns c =
     let l = c .before in
     let b = l .before .before in
     let a = b .before .before .before .before .args in
-    let e : l .loop .k ≡ 2131 - basisWith (a .run .now) (a .history .now) .base = omega (arith, b .base-year .ensures) in
+    let e : l .loop .k ≡ tableYears (basisWith (a .run .now) (a .history .now)) = omega (arith, b .base-year .ensures) in
     rw e at (l .loop .inv .1 .years)
 
-pub note-years-spec : {M : Type 1} → statement M
-note-years-spec =
+pub store-years-spec : {M : Type 1} → statement M
+store-years-spec =
     tie.close
     (tie.spec
     Inv-loop
@@ -94,10 +95,10 @@ note-years-spec =
     sub-years
     start-requires
     loop-holds
-    slice-aggregate-note-state
-    cast-note-state
-    mul-note-state
-    note-state-requires
+    slice-aggregate-store-state
+    cast-store-state
+    mul-store-state
+    store-state-requires
     add-step
     slice-aggregate-step
     step-requires

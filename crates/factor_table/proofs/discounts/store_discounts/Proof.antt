@@ -1,4 +1,4 @@
--- After j turns the first j discounts are noted, and v is the next one.
+-- After j turns the first j discounts are stored, and v is the next one.
 use mathlib.Core.Path.{_≡_, _∙_}
 use Prim.Native.Nat.{_-_, _≤_}
 use native.Mathlib.Omega.{arith}
@@ -7,8 +7,8 @@ use Rattle.history.proofs.With.{accumulation-with, limits-with}
 use Rattle.valuation.proofs.Discount.{discount-ranges}
 use Rattle.factor_table.proofs.Discounting.{Discounted, discounted-none, discounted-next}
 use borrow.Author.Needs.{needs}
-use Rattle.factor_table.proofs.discounts.note_discounts.Statement.{statement}
-use Rattle.factor_table.proofs.discounts.note_discounts.Tie as tie
+use Rattle.factor_table.proofs.discounts.store_discounts.Statement.{statement}
+use Rattle.factor_table.proofs.discounts.store_discounts.Tie as tie
 
 abbrev Inv-loop : tie.InvT-loop
 Inv-loop run history numbers₀ accumulation v₀ j₀ numbers v j = (j ≤ 131) × Discounted (basisWith run history) numbers₀ numbers j v
@@ -73,10 +73,10 @@ returns : tie.Need-returns Inv-loop μ-loop
 returns c =
     let l = c .before in
     let e : l .loop .j ≡ 131 = omega arith in
-    (rw e at (l .loop .inv .1 .noted), l .loop .inv .1 .kept)
+    (rw e at (l .loop .inv .1 .stored), l .loop .inv .1 .kept)
 
-pub note-discounts-spec : {M : Type 1} → statement M
-note-discounts-spec =
+pub store-discounts-spec : {M : Type 1} → statement M
+store-discounts-spec =
     tie.close
     (tie.spec
     Inv-loop

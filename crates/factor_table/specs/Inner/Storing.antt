@@ -1,4 +1,4 @@
--- What the parts of the table promise one another while they are noted down.
+-- What the parts of the table promise one another while they are stored.
 use mathlib.Core.Path.{_≡_}
 use mathlib.Core.List.{List}
 use Prim.Native.Nat.{ℕ, _+_, _<_}
