@@ -10,13 +10,10 @@ ghost use Prim.Native.Nat.{_*_, _≤_};
 ghost use lib.ListN.{length};
 ghost use lib.IntN.{natAbs};
 ghost use Rattle.layout.specs.Layout.{mpb1, runLength};
-use libc::STDIN_FILENO;
-use libc::STDOUT_FILENO;
+use case_io::MOST_CASES;
 use outcome::Answer;
 use outcome::Refusal;
 use outcome::SignedAnswer;
-use reply_text::digits;
-use reply_text::reply;
 use survivorship::Kind;
 
 // ---- the bases and the histories
@@ -39,7 +36,7 @@ fn history_room() -> [u8; 262144]
 // Reads the number of bases and gives the bytes of as many, at most those there is room for.
 fn read_length() -> u32 {
     let mut bytes = [0u8; 2];
-    io::read_full(STDIN_FILENO, &mut bytes);
+    case_io::read_bytes(&mut bytes);
     let bases = little_endian::read_u16(&bytes, 0);
     if bases < 64 {
         layout::RUN_LENGTH as u32 * bases
@@ -51,55 +48,37 @@ fn read_length() -> u32 {
 // Reads the number of bytes of the histories, at most those there is room for.
 fn read_history_length() -> u32 {
     let mut bytes = [0u8; 4];
-    io::read_full(STDIN_FILENO, &mut bytes);
+    case_io::read_bytes(&mut bytes);
     let length = little_endian::read_u32(&bytes, 0);
     if length < 262144 { length } else { 262144 }
 }
 
-// The data run at a place; where there is none, no bytes, which every enquiry refuses.
-fn run_at(runs: &[u8], place: u8) -> &[u8] {
-    let start = layout::RUN_LENGTH * (place as usize);
-    let end = start + layout::RUN_LENGTH;
-    if end <= runs.len() {
-        &runs[start..end]
-    } else {
-        &runs[..0]
-    }
-}
-
-// A stretch of the histories; where they have no such stretch, no bytes.
-fn history_at(histories: &[u8], start: usize, length: usize) -> &[u8]
+// A stretch of the bytes; where they have no such stretch, no bytes.
+fn stretch(bytes: &[u8], start: usize, length: usize) -> &[u8]
     requires { ⌜ (start ≤ 4294967295) × (length ≤ 4294967295) ⌝ }
 {
     let end = start + length;
-    if end <= histories.len() {
-        &histories[start..end]
+    if end <= bytes.len() {
+        &bytes[start..end]
     } else {
-        &histories[..0]
+        &bytes[..0]
     }
 }
 
+// The data run at a place.
+fn run_at(runs: &[u8], place: u8) -> &[u8] {
+    stretch(
+        runs,
+        layout::RUN_LENGTH * (place as usize),
+        layout::RUN_LENGTH,
+    )
+}
+
 // ---- a case
-fn print_refused(r: Refusal) {
-    let mut line = [0u8; 192];
-    let end = reply::put_refusal(&mut line, 0, r);
-    io::write_all(STDOUT_FILENO, &line[..end]);
-}
-
-// A number behind a word, and byte 10.
-fn print_number(word: &[u8], n: u64)
-    requires { ⌜ length (now word) ≤ 7 ⌝ }
-{
-    let mut line = [0u8; 28];
-    let at = digits::put_text(&mut line, 0, word);
-    let end = digits::put_number(&mut line, at, n, b'\n');
-    io::write_all(STDOUT_FILENO, &line[..end]);
-}
-
 fn print_answer(a: Answer) {
     match a {
-        Answer::Value(n) => print_number(b"value ", n),
-        Answer::Refused(r) => print_refused(r),
+        Answer::Value(n) => case_io::print_named(b"value ", n),
+        Answer::Refused(r) => case_io::print_refused(r),
     }
 }
 
@@ -112,16 +91,16 @@ fn magnitude(n: i64) -> u64
 
 fn print_signed(n: i64) {
     if n < 0 {
-        print_number(b"value -", magnitude(n));
+        case_io::print_named(b"value -", magnitude(n));
     } else {
-        print_number(b"value ", magnitude(n));
+        case_io::print_named(b"value ", magnitude(n));
     }
 }
 
 fn print_signed_answer(a: SignedAnswer) {
     match a {
         SignedAnswer::Value(n) => print_signed(n),
-        SignedAnswer::Refused(r) => print_refused(r),
+        SignedAnswer::Refused(r) => case_io::print_refused(r),
     }
 }
 
@@ -161,7 +140,7 @@ fn run_case(run: &[u8], history: &[u8], kind: u8, age: u32, deferment: u32, year
 // Reads a case and works it; false at the end of the input.
 fn next_case(runs: &[u8], histories: &[u8]) -> bool {
     let mut asked = [0u8; 22];
-    if io::read_full(STDIN_FILENO, &mut asked) < 22 {
+    if !case_io::read_bytes(&mut asked) {
         return false;
     }
     let age = little_endian::read_u32(&asked, 2);
@@ -170,27 +149,26 @@ fn next_case(runs: &[u8], histories: &[u8]) -> bool {
     let start = little_endian::read_u32(&asked, 14);
     let length = little_endian::read_u32(&asked, 18);
     let run = run_at(runs, asked[1]);
-    let history = history_at(histories, start as usize, length as usize);
+    let history = stretch(histories, start as usize, length as usize);
     run_case(run, history, asked[0], age, deferment, year);
     true
 }
 
-// Nothing says that the input ends, so the cases are counted up to a number that no run reaches.
 fn run_cases(runs: &[u8], histories: &[u8]) -> u64 {
     let mut cases: u64 = 0;
-    while cases < 1000000000000000 && next_case(runs, histories) {
+    while cases < MOST_CASES && next_case(runs, histories) {
         cases += 1;
     }
     cases
 }
 
 fn answer_cases(runs: &[u8], histories: &mut [u8]) {
-    io::read_full(STDIN_FILENO, histories);
-    print_number(b"cases ", run_cases(runs, histories));
+    case_io::read_bytes(histories);
+    case_io::print_named(b"cases ", run_cases(runs, histories));
 }
 
 fn work(runs: &mut [u8]) {
-    io::read_full(STDIN_FILENO, runs);
+    case_io::read_bytes(runs);
     let mut space = history_room();
     let length = io::count(read_history_length() as isize, &space);
     answer_cases(runs, &mut space[..length]);

@@ -12,11 +12,8 @@ ghost use lib.ListN.{length};
 ghost use Rattle.layout.specs.Layout.{mpb1, fileLength};
 use basis_file::read;
 use basis_file::write;
-use libc::STDIN_FILENO;
-use libc::STDOUT_FILENO;
+use case_io::MOST_CASES;
 use outcome::Check;
-use outcome::Refusal;
-use reply_text::digits;
 
 // ---- the input and the output of a case
 fn room() -> [u8; 5000]
@@ -57,7 +54,7 @@ fn lay_base(file: &[u8], kind: u8, input: &mut [u8])
 // One patch of standard input.
 fn patch(input: &mut [u8]) {
     let mut read = [0u8; 3];
-    io::read_full(STDIN_FILENO, &mut read);
+    case_io::read_bytes(&mut read);
     let at = little_endian::read_u16(&read, 0) as usize;
     if at < input.len() {
         input[at] = read[2];
@@ -93,27 +90,13 @@ fn sum_of(output: &[u8]) -> u32
     sum
 }
 
-// The refusal's number and places, and the sum.
-fn print_line(r: Refusal, sum: u32) {
-    let mut line = [0u8; 84];
-    let a = digits::put_number(&mut line, 0, r.number as u64, b' ');
-    let b = digits::put_number(&mut line, a, r.first, b' ');
-    let c = digits::put_number(&mut line, b, r.second, b' ');
-    let d = digits::put_number(&mut line, c, sum as u64, b'\n');
-    io::write_all(STDOUT_FILENO, &line[..d]);
-}
-
+// The refusal's number and places, or zeros, and the sum.
 fn print_answer(c: Check, sum: u32) {
     match c {
-        Check::Passed => print_line(
-            Refusal {
-                number: 0,
-                first: 0,
-                second: 0,
-            },
-            sum,
+        Check::Passed => case_io::print_numbers(&[0, 0, 0, sum as u64]),
+        Check::Refused(r) => case_io::print_numbers(
+            &[r.number as u64, r.first, r.second, sum as u64],
         ),
-        Check::Refused(r) => print_line(r, sum),
     }
 }
 
@@ -151,31 +134,23 @@ fn run_case(file: &[u8], header: &[u8])
 // Reads a case and works it; false at the end of the input.
 fn next_case(file: &[u8]) -> bool {
     let mut header = [0u8; 11];
-    if io::read_full(STDIN_FILENO, &mut header) < 11 {
+    if !case_io::read_bytes(&mut header) {
         return false;
     }
     run_case(file, &header);
     true
 }
 
-// Nothing says that the input ends, so the cases are counted up to a number that no run reaches.
 fn run_cases(file: &[u8]) -> u64 {
     let mut cases: u64 = 0;
-    while cases < 1000000000000000 && next_case(file) {
+    while cases < MOST_CASES && next_case(file) {
         cases += 1;
     }
     cases
 }
 
-fn print_cases(cases: u64) {
-    let mut line = [0u8; 27];
-    let a = digits::put_text(&mut line, 0, b"cases ");
-    let b = digits::put_number(&mut line, a, cases, b'\n');
-    io::write_all(STDOUT_FILENO, &line[..b]);
-}
-
 fn main() {
     let mut file = file_room();
-    io::read_full(STDIN_FILENO, &mut file);
-    print_cases(run_cases(&file));
+    case_io::read_bytes(&mut file);
+    case_io::print_named(b"cases ", run_cases(&file));
 }

@@ -7,9 +7,7 @@
 // survivors.
 ghost use mathlib.Core.Path.{_≡_};
 ghost use lib.ListN.{length};
-use libc::STDIN_FILENO;
-use libc::STDOUT_FILENO;
-use reply_text::digits;
+use case_io::MOST_CASES;
 use tables::Table;
 
 // Room for a data run that is too long.
@@ -19,28 +17,13 @@ fn run_room() -> [u8; 5000]
     [0; 5000]
 }
 
-// Room for the longest history, of 88 years.
-fn history_room() -> [u8; 90112]
-    ensures { λ r. ⌜ 90112 ≡ length r ⌝ }
-{
-    [0; 90112]
-}
-
-fn print_three(first: u64, second: u64, third: u64) {
-    let mut line = [0u8; 63];
-    let a = digits::put_number(&mut line, 0, first, b' ');
-    let b = digits::put_number(&mut line, a, second, b' ');
-    let c = digits::put_number(&mut line, b, third, b'\n');
-    io::write_all(STDOUT_FILENO, &line[..c]);
-}
-
 // ---- the tables
 fn wide(b: u8) -> u32 {
     b as u32
 }
 
 fn print_sums(length: usize, sum: u32, sums: u32) {
-    print_three(length as u64, sum as u64, sums as u64);
+    case_io::print_numbers(&[length as u64, sum as u64, sums as u64]);
 }
 
 // The length of a stretch, the sum of its bytes and the sum of those sums, which tells their order.
@@ -74,17 +57,17 @@ fn print_tables(run: &[u8]) {
 // One lifeline of standard input, n steps from its start.
 fn follow(run: &[u8], history: &[u8]) {
     let mut asked = [0u8; 12];
-    io::read_full(STDIN_FILENO, &mut asked);
+    case_io::read_bytes(&mut asked);
     let age = little_endian::read_u32(&asked, 0);
     let year = little_endian::read_u32(&asked, 4);
     let steps = little_endian::read_u32(&asked, 8);
     let p = lifeline_reader::position_after(run, history, age, year, steps);
-    print_three(p.age as u64, p.year as u64, p.survivors);
+    case_io::print_numbers(&[p.age as u64, p.year as u64, p.survivors]);
 }
 
 fn follow_all(run: &[u8], history: &[u8]) {
     let mut number = [0u8; 2];
-    io::read_full(STDIN_FILENO, &mut number);
+    case_io::read_bytes(&mut number);
     for _ in 0..little_endian::read_u16(&number, 0) {
         follow(run, history);
     }
@@ -92,8 +75,8 @@ fn follow_all(run: &[u8], history: &[u8]) {
 
 // ---- the cases
 fn run_case(run: &mut [u8], history: &mut [u8]) {
-    io::read_full(STDIN_FILENO, run);
-    io::read_full(STDIN_FILENO, history);
+    case_io::read_bytes(run);
+    case_io::read_bytes(history);
     print_tables(run);
     follow_all(run, history);
 }
@@ -101,21 +84,20 @@ fn run_case(run: &mut [u8], history: &mut [u8]) {
 // Reads a case and works it; false at the end of the input.
 fn next_case() -> bool {
     let mut head = [0u8; 8];
-    if io::read_full(STDIN_FILENO, &mut head) < 8 {
+    if !case_io::read_bytes(&mut head) {
         return false;
     }
     let mut run = run_room();
-    let mut history = history_room();
+    let mut history = case_io::history_room();
     let given = io::count(little_endian::read_u32(&head, 0) as isize, &run);
     let lent = io::count(little_endian::read_u32(&head, 4) as isize, &history);
     run_case(&mut run[..given], &mut history[..lent]);
     true
 }
 
-// Nothing says that the input ends, so the cases are counted up to a number that no run reaches.
 fn main() {
     let mut cases: u64 = 0;
-    while cases < 1000000000000000 && next_case() {
+    while cases < MOST_CASES && next_case() {
         cases += 1;
     }
 }

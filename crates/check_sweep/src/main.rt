@@ -8,32 +8,8 @@ ghost use mathlib.Core.Path.{_≡_};
 ghost use Prim.Native.Nat.{_≤_};
 ghost use lib.ListN.{length};
 ghost use Rattle.history.specs.History.{Workable};
-use libc::STDIN_FILENO;
-use libc::STDOUT_FILENO;
+use case_io::MOST_CASES;
 use outcome::Check;
-use outcome::Refusal;
-use reply_text::digits;
-use reply_text::reply;
-
-// Room for the longest history, of 88 years.
-fn history_room() -> [u8; 90112]
-    ensures { λ r. ⌜ 90112 ≡ length r ⌝ }
-{
-    [0; 90112]
-}
-
-fn print_refused(r: Refusal) {
-    let mut line = [0u8; 192];
-    let end = reply::put_refusal(&mut line, 0, r);
-    io::write_all(STDOUT_FILENO, &line[..end]);
-}
-
-fn print_pair(first: u64, second: u64) {
-    let mut line = [0u8; 42];
-    let at = digits::put_number(&mut line, 0, first, b' ');
-    let end = digits::put_number(&mut line, at, second, b'\n');
-    io::write_all(STDOUT_FILENO, &line[..end]);
-}
 
 fn wide(n: u32) -> u64
     ensures { λ r. ⌜ r ≤ 4294967295 ⌝ }
@@ -61,6 +37,12 @@ fn weighed(state: &[u32]) -> u64
     sum
 }
 
+fn print_state(year: u32, state: &[u32])
+    requires { ⌜ length (now state) ≡ 131 ⌝ }
+{
+    case_io::print_numbers(&[year as u64, weighed(state)]);
+}
+
 // The states of all years, and the step after the last year.
 fn sweep_years(run: &[u8], history: &[u8])
     requires { ⌜ Workable (now run) (now history) ⌝ }
@@ -68,43 +50,42 @@ fn sweep_years(run: &[u8], history: &[u8])
     let mut state = sweep::start();
     let mut year = basis::fields::base_year(run);
     while year <= 2260 {
-        print_pair(year as u64, weighed(&state));
+        print_state(year, &state);
         sweep::step(run, history, year, &mut state);
         year += 1;
     }
-    print_pair(year as u64, weighed(&state));
+    print_state(year, &state);
 }
 
 fn sweep_case(run: &[u8], history: &[u8]) {
     match history::check::check_run_and_history(run, history) {
         Check::Passed => sweep_years(run, history),
-        Check::Refused(r) => print_refused(r),
+        Check::Refused(r) => case_io::print_refused(r),
     }
 }
 
 // Reads a case and works it; false at the end of the input.
 fn next_case() -> bool {
     let mut head = [0u8; 4];
-    if io::read_full(STDIN_FILENO, &mut head) < 4 {
+    if !case_io::read_bytes(&mut head) {
         return false;
     }
     let mut run = [0u8; layout::RUN_LENGTH];
-    io::read_full(STDIN_FILENO, &mut run);
-    let mut space = history_room();
+    case_io::read_bytes(&mut run);
+    let mut space = case_io::history_room();
     let length = io::count(little_endian::read_u32(&head, 0) as isize, &space);
     read_history(&run, &mut space[..length]);
     true
 }
 
 fn read_history(run: &[u8], history: &mut [u8]) {
-    io::read_full(STDIN_FILENO, history);
+    case_io::read_bytes(history);
     sweep_case(run, history);
 }
 
-// Nothing says that the input ends, so the cases are counted up to a number that no run reaches.
 fn main() {
     let mut cases: u64 = 0;
-    while cases < 1000000000000000 && next_case() {
+    while cases < MOST_CASES && next_case() {
         cases += 1;
     }
 }

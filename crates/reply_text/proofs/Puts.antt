@@ -3,21 +3,17 @@ use Prim.Native.Nat.{ℕ, zero, suc, _+_, _-_, _≤_, _<_}
 use mathlib.Core.Path.{_≡_, refl, ap, sym, _∙_}
 use mathlib.Core.List.{List, [], _∷_, _++_, append-assoc}
 use native.Mathlib.Omega.{arith}
-use native.Mathlib.Numerals.{add-one}
 use lib.ListN.{length, drop, set, replicate, length-append, length-set}
-use lib.Seq.{drop-set-lt, take-suc-set}
 use Rattle.lent.specs.Lent.{placed}
-use Rattle.lent.proofs.Lent.{placed-none, placed-next}
+use Rattle.lent.proofs.Lent.{placed-none, placed-one, placed-length, placed-next}
 use Rattle.reply_text.specs.declared.ReplyText.{ReplyText}
-use Rattle.reply_text.specs.Inner.Put.{Put}
-
--- a text's first byte first
-pub front : (out : List ℕ) (p x : ℕ) (t : List ℕ) → p < length out → placed (set out p x) (p + 1) t ≡ placed out p (x ∷ t)
-front out p x t h =
-    let e : p + 1 + length t ≡ p + suc (length t) = omega arith in
-    rw (drop-set-lt (p + 1 + length t) out p x (omega arith), e, add-one, take-suc-set out p x h) (simp append-assoc)
+use Rattle.reply_text.specs.Put.{Put}
 
 -- ---- putting
+-- what stands at a place has been put there
+pub put : {out after : List ℕ} (at : ℕ) (text : List ℕ) → at + length text ≤ length out → after ≡ placed out at text → Put out at text after (at + length text)
+put {out} at text h e = record { next = refl; fits = h; same = ap length e ∙ placed-length out at text h; all = e }
+
 -- no text at all
 pub nothing : (out : List ℕ) (at : ℕ) → at ≤ length out → Put out at [] out at
 nothing out at h = record { next = omega arith; fits = omega arith; same = refl; all = sym (placed-none out at) }
@@ -28,7 +24,7 @@ byte out p x h = record {
   next = refl;
   fits = omega arith;
   same = length-set out p x;
-  all = sym (placed-none (set out p x) (p + 1)) ∙ front out p x [] h;
+  all = sym (placed-none (set out p x) (p + 1)) ∙ placed-one out p x [] h;
 }
 
 -- one text, then another

@@ -3,23 +3,15 @@ use Prim.Native.Nat.{ℕ, zero, suc, _+_, _-_, _/_, _%_, _≤_, _<_}
 use mathlib.Core.Path.{_≡_, refl, ap, sym, _∙_}
 use mathlib.Core.List.{List, [], _∷_, _++_, append-assoc}
 use native.Mathlib.Omega.{arith}
-use native.Mathlib.Numerals.{add-one}
-use lib.ListN.{length, getD, take, drop, set, length-append}
-use lib.Seq.{take-set-le, set-split, drop-at, length-take-le, drop-cons}
+use lib.ListN.{length, take, drop, set, length-append}
+use lib.Seq.{take-set-le, set-split, drop-at, length-take-le}
 use Rattle.arithmetic.specs.Fraction.{U}
 use Rattle.lent.specs.Lent.{placed}
-use Rattle.lent.proofs.Lent.{placed-none, placed-length}
+use Rattle.lent.proofs.Lent.{placed-none}
 use Rattle.reply_text.specs.Decimal.{digits, placesFrom, digitsOf, decimalOf}
-use Rattle.reply_text.specs.Inner.Put.{Put}
+use Rattle.reply_text.specs.Put.{Put}
 use Rattle.reply_text.proofs.Numerals.{digits-length, places-more}
-use Rattle.reply_text.proofs.Puts.{front, byte, then, being}
-
--- ---- a text forwards
-pub text-turn : (out : List ℕ) (at i : ℕ) (t : List ℕ) → i < length t → at + i < length out →
-    placed (set out (at + i) (getD t i 0)) (at + (i + 1)) (drop (i + 1) t) ≡ placed out (at + i) (drop i t)
-text-turn out at i t h f =
-    let e : at + (i + 1) ≡ at + i + 1 = omega arith in
-    rw (e, drop-cons t i 0 h, add-one i) (front out (at + i) (getD t i 0) (drop (suc i) t) f)
+use Rattle.reply_text.proofs.Puts.{put, byte, then, being}
 
 -- ---- digits backwards
 drop-here : (out : List ℕ) (p x : ℕ) → p < length out → drop p (set out p x) ≡ x ∷ drop (suc p) out
@@ -53,14 +45,7 @@ places-end k n h = let e : 20 - k ≡ 0 = omega arith in rw e
 
 -- ---- what the loops have put
 digits-put : (out : List ℕ) (at k n : ℕ) (after : List ℕ) → at + k ≤ length out → after ≡ placed out at (digits k n) → Put out at (digits k n) after (at + k)
-digits-put out at k n after h e =
-    let l = digits-length k n in
-    record {
-      next = omega arith;
-      fits = omega arith;
-      same = ap length e ∙ placed-length out at (digits k n) (omega arith);
-      all = e;
-    }
+digits-put out at k n after h e = let l = digits-length k n in being refl (omega arith) (put at (digits k n) (omega arith) e)
 
 pub number-put : (out : List ℕ) (at n k b : ℕ) (after : List ℕ) → k ≡ placesFrom 19 n → at + k < length out → after ≡ placed out at (digits k n) →
     Put out at (digitsOf n ++ b ∷ []) (set after (at + k) b) (at + k + 1)

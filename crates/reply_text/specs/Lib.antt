@@ -1,4 +1,4 @@
 pub mod Decimal
 pub mod Ascii
 pub mod Reply
-pub mod Inner
+pub mod Put

@@ -5,7 +5,7 @@ ghost use Prim.Native.Nat.{_+_, _%_, _≤_};
 ghost use lib.ListN.{length};
 ghost use Rattle.lent.specs.Lent.{placed};
 ghost use Rattle.reply_text.specs.Decimal.{digits, placesFrom, digitsOf, decimalOf};
-ghost use Rattle.reply_text.specs.Inner.Put.{Put};
+ghost use Rattle.reply_text.specs.Put.{Put};
 use arithmetic::UNIT;
 
 // The last k digits of n.
@@ -68,10 +68,6 @@ pub fn put_text(out: &mut [u8], at: usize, text: &[u8]) -> usize
     requires { ⌜ at + length (now text) ≤ length (now out) ⌝ }
     ensures { λ r. ⌜ Put (now (out .entry)) at (now (text .entry)) (now (out .exit)) r ⌝ }
 {
-    let mut i = 0;
-    while i < text.len() {
-        out[at + i] = text[i];
-        i += 1;
-    }
-    at + i
+    lent::put(text, out, at);
+    at + text.len()
 }

@@ -4,7 +4,7 @@ ghost use mathlib.Core.List.{_++_};
 ghost use Prim.Native.Nat.{_+_, _≤_};
 ghost use lib.ListN.{length};
 ghost use Rattle.reply_text.specs.Ascii.{ascii};
-ghost use Rattle.reply_text.specs.Inner.Put.{Put};
+ghost use Rattle.reply_text.specs.Put.{Put};
 ghost use Rattle.reply_text.specs.Reply.{headerLine, questionText, resultsText, refusalLine, replyOf, replyText};
 use crate::ReplyText;
 use crate::digits;

@@ -1,5 +1,5 @@
 -- In each year the state has its 131 numbers, and the year is not before B.
-use mathlib.Core.Path.{_≡_, sym}
+use mathlib.Core.Path.{_≡_}
 use Prim.Native.Nat.{_-_, _≤_}
 use native.Mathlib.Omega.{arith}
 use lib.ListN.{length}
@@ -25,17 +25,11 @@ loop-holds c =
     let s = c .before .before .before .before in
     (omega (arith, c .base-year .ensures), omega (arith, c .base-year .ensures, s .pre .basis .limits .base-high), c .before .start .ensures .size)
 
-cast-print-pair : tie.Need-cast-print-pair Inv-loop μ-loop
-cast-print-pair c = search needs
+slice-aggregate-print-state : tie.Need-slice-aggregate-print-state Inv-loop μ-loop
+slice-aggregate-print-state c = search needs
 
-slice-aggregate-weighed : tie.Need-slice-aggregate-weighed Inv-loop μ-loop
-slice-aggregate-weighed c = sym (c .before .before .loop .inv .2)
-
-weighed-requires : tie.Need-weighed-requires Inv-loop μ-loop
-weighed-requires c κs = c .before .before .loop .inv .2
-
-print-pair-requires : tie.Need-print-pair-requires Inv-loop μ-loop
-print-pair-requires c κs = search needs
+print-state-requires : tie.Need-print-state-requires Inv-loop μ-loop
+print-state-requires c κs = search needs
 
 slice-aggregate-step : tie.Need-slice-aggregate-step Inv-loop μ-loop
 slice-aggregate-step c = search needs
@@ -52,17 +46,11 @@ loop-less c = search needs
 loop-again : tie.Need-loop-again Inv-loop μ-loop
 loop-again c = search needs
 
-cast-print-pair-2 : tie.Need-cast-print-pair-2 Inv-loop μ-loop
-cast-print-pair-2 c = search needs
+slice-aggregate-print-state-2 : tie.Need-slice-aggregate-print-state-2 Inv-loop μ-loop
+slice-aggregate-print-state-2 c = search needs
 
-slice-aggregate-weighed-2 : tie.Need-slice-aggregate-weighed-2 Inv-loop μ-loop
-slice-aggregate-weighed-2 c = search needs
-
-weighed-requires-2 : tie.Need-weighed-requires-2 Inv-loop μ-loop
-weighed-requires-2 c κs = search needs
-
-print-pair-requires-2 : tie.Need-print-pair-requires-2 Inv-loop μ-loop
-print-pair-requires-2 c κs = search needs
+print-state-requires-2 : tie.Need-print-state-requires-2 Inv-loop μ-loop
+print-state-requires-2 c κs = search needs
 
 returns : tie.Need-returns Inv-loop μ-loop
 returns c = search needs
@@ -76,17 +64,13 @@ sweep-years-spec =
     start-requires
     base-year-requires
     loop-holds
-    cast-print-pair
-    slice-aggregate-weighed
-    weighed-requires
-    print-pair-requires
+    slice-aggregate-print-state
+    print-state-requires
     slice-aggregate-step
     step-requires
     add-year
     loop-less
     loop-again
-    cast-print-pair-2
-    slice-aggregate-weighed-2
-    weighed-requires-2
-    print-pair-requires-2
+    slice-aggregate-print-state-2
+    print-state-requires-2
     returns)

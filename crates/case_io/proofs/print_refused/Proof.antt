@@ -3,27 +3,21 @@ use mathlib.Core.Path.{sym}
 use native.Mathlib.Omega.{arith}
 use lib.Seq.{length-take-le}
 use borrow.Author.Needs.{needs}
-use Rattle.check_sweep.proofs.print_pair.Statement.{statement}
-use Rattle.check_sweep.proofs.print_pair.Tie as tie
+use Rattle.case_io.proofs.print_refused.Statement.{statement}
+use Rattle.case_io.proofs.print_refused.Tie as tie
 
-slice-aggregate-put-number : tie.Need-slice-aggregate-put-number
-slice-aggregate-put-number c = search needs
+slice-aggregate-put-refusal : tie.Need-slice-aggregate-put-refusal
+slice-aggregate-put-refusal c = search needs
 
-put-number-requires : tie.Need-put-number-requires
-put-number-requires c κs = search needs
-
-slice-aggregate-put-number-2 : tie.Need-slice-aggregate-put-number-2
-slice-aggregate-put-number-2 c = search needs
-
-put-number-requires-2 : tie.Need-put-number-requires-2
-put-number-requires-2 c κs = search needs
+put-refusal-requires : tie.Need-put-refusal-requires
+put-refusal-requires c κs = search needs
 
 array-share-prefix-line : tie.Need-array-share-prefix-line
 array-share-prefix-line c = search needs
 
 slice-aggregate-write-all : tie.Need-slice-aggregate-write-all
 slice-aggregate-write-all c =
-    let p = c .before .before .put-number2 in
+    let p = c .before .before .put-refusal in
     sym (length-take-le (p .result) (p .last .0) (omega (arith, p .ensures .0 .next, p .ensures .0 .fits, p .ensures .0 .same)))
 
 write-all-requires : tie.Need-write-all-requires
@@ -32,14 +26,12 @@ write-all-requires c κs = search needs
 returns : tie.Need-returns
 returns c = search needs
 
-pub print-pair-spec : {M : Type 1} → statement M
-print-pair-spec =
+pub print-refused-spec : {M : Type 1} → statement M
+print-refused-spec =
     tie.close
     (tie.spec
-    slice-aggregate-put-number
-    put-number-requires
-    slice-aggregate-put-number-2
-    put-number-requires-2
+    slice-aggregate-put-refusal
+    put-refusal-requires
     array-share-prefix-line
     slice-aggregate-write-all
     write-all-requires
