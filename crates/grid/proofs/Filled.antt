@@ -29,7 +29,8 @@ module _ (b : Basis) where
   answers-length (suc i) (p ∷ points) = ap suc (answers-length i points)
 
   -- one more record is answered
-  pub answers-set : (i : ℕ) (points : List Point) (past : Point) → i < length points → set (answers b i points) i (answeredOf b (getD (answers b i points) i past)) ≡ answers b (suc i) points
+  pub answers-set : (i : ℕ) (points : List Point) (past : Point) → i < length points
+      → set (answers b i points) i (answeredOf b (getD (answers b i points) i past)) ≡ answers b (suc i) points
   unfolding answers
   answers-set i [] past h = absurd (not-suc-le-zero h)
   answers-set zero (p ∷ points) past h = refl

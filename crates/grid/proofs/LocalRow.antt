@@ -1,5 +1,6 @@
--- An array of 32-bit numbers in a local, and the row of its numbers in memory, which is what can be lent as a slice: an array of n zeros is a row of n zeros, and a row of n numbers is room for the array.
--- They hold at any n, so a proof that cites them at 18,340 counts nothing. Also a step that the logic's kit lacks: a constant that MIR writes as a large one (`big`). Assumes nothing.
+-- An array of 32-bit numbers in a local, and the row of its numbers in memory, which is what can be lent as a slice: an array of n zeros is a row of
+-- n zeros, and a row of n numbers is room for the array. They hold at any n, so a proof that cites them at 18,340 counts nothing. Also a step that
+-- the logic's kit lacks: a constant that MIR writes as a large one (`big`). Assumes nothing.
 use mathlib.Core.Path.{_≡_, refl, sym, subst}
 use Prim.Native.Nat.{ℕ, zero, suc}
 use mathlib.Core.List.{List, [], _∷_}
@@ -73,7 +74,8 @@ module _ {M : Type 1} (𝓤 : URA M) (H : Heap 𝓤) (A : Atoms 𝓤) (W : Given
   zeros-lie n b =
       qed W (‵ (fat fullShare (array-of n) b 0 (zeros-val n)) ∷ []) ∵
       use1 W (‵ (cellAt fullShare (Array u32 n .mir) (zeros-val n ∷ []) b 0)) (W .laws .at-raw fullShare (array-of n) b 0 (zeros-val n)) $
-      owned ! (Array u32 n) (Is (Array u32 n)) (array-makes 𝓤 H A W u32 (uint-makes 𝓤 H A W w32) n) (replicate n 0) (zeros-val n ∷ []) (zeros-are n) $ move ! (1 ∷ 0 ∷ []) $ fjoin ! $
+      owned ! (Array u32 n) (Is (Array u32 n)) (array-makes 𝓤 H A W u32 (uint-makes 𝓤 H A W w32) n) (replicate n 0) (zeros-val n ∷ []) (zeros-are n) $
+      move ! (1 ∷ 0 ∷ []) $ fjoin ! $
       fpack ! (List Val) (λ us. fsep (cellAt fullShare (Array u32 n .mir) us b 0) (Array u32 n .own (replicate n 0) us)) (zeros-val n ∷ []) $
       use1 W (‵ (arr-parts (shares u32) n .part fullShare (replicate n 0) b 0)) (array-apart 𝓤 H A W u32 fullShare tt n (replicate n 0) b 0) $ fsplit ! $ drop ! $
       by ! (whole-in 𝓤 H A W u32 (replicate n 0) b 0)
@@ -95,4 +97,5 @@ module _ {M : Type 1} (𝓤 : URA M) (H : Heap 𝓤) (A : Atoms 𝓤) (W : Given
       fpick ! (λ vs. fsplit ! $ move ! (1 ∷ []) $ fpick ! (λ us. fsplit ! $ fsplit ! $ feqL ! (λ e.
       -- [there are n; what the numbers own; their cell]
       rewrite ! 2 (λ (ws : List Val). ‵ (cellAt fullShare (Array u32 n .mir) ws b 0)) e refl $ keep ! (2 ∷ []) $
-      use1 W (‵ (fat fullShare (array-of n) b 0 (arrayVal us))) (W .laws .raw-at fullShare (array-of n) b 0 (arrayVal us)) $ by ! (W .laws .at-room (array-of n) b 0 (arrayVal us)))))
+      use1 W (‵ (fat fullShare (array-of n) b 0 (arrayVal us))) (W .laws .raw-at fullShare (array-of n) b 0 (arrayVal us)) $
+      by ! (W .laws .at-room (array-of n) b 0 (arrayVal us)))))

@@ -3,3 +3,4 @@ pub mod Locals
 pub mod Statements
 pub mod Calls
 pub mod Meets
+pub mod Counting

@@ -1,6 +1,7 @@
--- `grid::fill` meets its contract: a walk of its MIR, by hand. The array of zeros in the local is lent to `begin_grid` as a `&mut` slice, and what that leaves is lent to `fill_records` as a `&` slice,
--- each for a lifetime that the walk makes and ends. `fill_records` is called at the list's own lifetime, share and ghost name, so what it says of the last list is said of this one (`gave-slice`).
--- All that the proof knows of the two is that each meets its contract: what the first says of its result and of the row is what the second asks. Assumes nothing.
+-- `grid::fill` meets its contract: a walk of its MIR, by hand. The array of zeros in the local is lent to `begin_grid` as a `&mut` slice, and what that
+-- leaves is lent to `fill_records` as a `&` slice, each for a lifetime that the walk makes and ends. `fill_records` is called at the list's own lifetime,
+-- share and ghost name, so what it says of the last list is said of this one (`gave-slice`). All that the proof knows of the two is that each meets its
+-- contract: what the first says of its result and of the row is what the second asks. Assumes nothing.
 use mathlib.Core.Path.{_≡_, refl, sym, ap, subst, _∙_}
 use Prim.Native.Nat.{ℕ, _≤_, _<_, _^_}
 use mathlib.Core.List.{List, [], _∷_}
@@ -28,24 +29,24 @@ use sound.WpLaws.{FmC, fmOf}
 use denote.RattleType.{owns}
 use denote.Laws.{Is}
 use denote.Memory.{mem, pointee}
-use denote.Plain.{uint-makes, nothing-tells}
+use denote.Plain.{nothing-tells}
 use denote.Builtin.{u8, u32, usize, unit}
 use denote.Ref.{RefT, now}
 use denote.Signature.{plain}
-use denote.Slice.{sliceTy, sliceVal, MutSlice, ShrSlice, Room, finally, slice-vals, shr-slice-tells, mut-slice-tells, shr-slice-copy}
+use denote.Slice.{sliceTy, sliceVal, MutSlice, ShrSlice, Room, finally, slice-vals, shr-slice-tells, mut-slice-tells}
 use denote.Lend.{Held, lends-slice, lends-shr-slice}
 use denote.Steps.{owned, heard, nothing}
 use denote.Struct.Laws as LL
 use denote.Enum.Laws as EL
 use denote.Triple.Statement.{Contract, Triple}
-use denote.Triple.Entry.{onEntry}
+use denote.Triple.Entry.{Vals, onEntry}
 use denote.Triple.Spec.{Meets, tripleOf}
 use denote.Triple.Table.{entered, cited}
 use denote.Triple.Walked.{says, Stays, stay-none-slice, gave-slice, onExit, walkOf, goes-none-slice, goes-gave-slice, ends-at}
 use denote.Exit.{yes}
 use denote.Triple.Clauses.{ensured, lasts}
-use Rattle.walk.proofs.Locals.{Content, empty, holds, locals, blocks, enters, empties}
-use Rattle.walk.proofs.Statements.{number-typed, slice-typed, spot, arg, field, sets, gets, ends, takes, places}
+use Rattle.walk.proofs.Locals.{values, Content, empty, holds, locals, blocks, enters, empties}
+use Rattle.walk.proofs.Statements.{number, copies, number-typed, slice-typed, spot, arg, field, sets, gets, ends, takes, places}
 use Rattle.walk.proofs.Calls.{calls-told}
 use Rattle.walk.proofs.Meets.{meets-by}
 use Rattle.history.specs.History.{basisWith}
@@ -101,9 +102,8 @@ function = record {
   lifetimes = 3;
   outlives = [];
   params = 3;
-  locals = local F′.mir valueLocal ∷ local run-ty valueLocal ∷ local history-ty valueLocal ∷ local list-ty valueLocal ∷ local array-ty memorySlot ∷ local G′.mir valueLocal ∷ local (tyInt w64) valueLocal
-      ∷ local (tyRef erased mut array-ty) valueLocal ∷ local (slice-of mut) valueLocal ∷ local tyUnit valueLocal ∷ local (tyRef erased imm array-ty) valueLocal ∷ local (slice-of imm) valueLocal
-      ∷ local list-ptr valueLocal ∷ local (sliceTy list-ptr) valueLocal ∷ [];
+  locals = local F′.mir valueLocal ∷ local run-ty valueLocal ∷ local history-ty valueLocal ∷ local list-ty valueLocal ∷ local array-ty memorySlot
+      ∷ values (G′.mir ∷ tyInt w64 ∷ tyRef erased mut array-ty ∷ slice-of mut ∷ tyUnit ∷ tyRef erased imm array-ty ∷ slice-of imm ∷ list-ptr ∷ sliceTy list-ptr ∷ []);
   body = parts.t-1;
 }
 
@@ -159,8 +159,8 @@ module _ {M : Type 1} (𝓤 : URA M) (H : Heap 𝓤) (A : Atoms 𝓤) (W : Given
   -- both slices are Copy
   copied : ent 𝓤 (⋆ 𝓤 H A (Owned ∷ [])) (⋆ 𝓤 H A (‵ Own₀ ∷ ‵ Own₁ ∷ Owned ∷ []))
   copied =
-      qed W (Owned ∷ []) ∵ split ! $ use1 W (‵ Own₀ ⊛ ‵ Own₀) (shr-slice-copy 𝓤 H A W (named 0) κ₀ u8 .twice s₀ (val s₀ ∷ [])) $ split ! $
-      move ! (2 ∷ []) $ use1 W (‵ Own₁ ⊛ ‵ Own₁) (shr-slice-copy 𝓤 H A W (named 1) κ₁ u8 .twice s₁ (val s₁ ∷ [])) $ split ! $ move ! (2 ∷ 0 ∷ 3 ∷ []) $ done !
+      qed W (Owned ∷ []) ∵ split ! $ copies ! (named 0) κ₀ u8 s₀ (val s₀ ∷ []) $
+      move ! (2 ∷ []) $ copies ! (named 1) κ₁ u8 s₁ (val s₁ ∷ []) $ move ! (2 ∷ 0 ∷ 3 ∷ []) $ done !
 
   -- what the checks say of the grid
   abbrev found : Finding × ℕ
@@ -172,21 +172,25 @@ module _ {M : Type 1} (𝓤 : URA M) (H : Heap 𝓤) (A : Atoms 𝓤) (W : Given
     y = record { ptr = (c, 0); name = δ; now = l }
 
     -- ---- `begin_grid`
+    abbrev begin-vals : Vals begin.signature (κ₀, (κ₁, (ν ∷ [], tt)))
+    begin-vals = (val s₀ ∷ [], (val s₁ ∷ [], (vint w64 (length xs) ∷ [], (val y ∷ [], tt))))
+
     abbrev to-begin : Begin 𝓤 H A at-mem run .Ghost
-    to-begin = (((κ₀, (κ₁, (ν ∷ [], tt))), (q₀, (q₁, (fullShare, tt))), tt, (s₀, (s₁, (length xs, (y, tt)))), (val s₀ ∷ [], (val s₁ ∷ [], (vint w64 (length xs) ∷ [], (val y ∷ [], tt))))), tt)
+    to-begin = (((κ₀, (κ₁, (ν ∷ [], tt))), (q₀, (q₁, (fullShare, tt))), tt, (s₀, (s₁, (length xs, (y, tt)))), begin-vals), tt)
 
     goes-begin : length xs < 2 ^ 64 → length l ≡ 18340
-        → ent 𝓤 (⋆ 𝓤 H A ((‵ (Mine ν) ⊛ ‵ (MutSlice (named 2) (ν ∷ []) u32 .own y (val y ∷ []))) ∷ Two ∷ Owned ∷ [])) (⋆ 𝓤 H A (raw (Begin 𝓤 H A at-mem run .pre to-begin) ∷ Owned ∷ []))
+        → ent 𝓤 (⋆ 𝓤 H A ((‵ (Mine ν) ⊛ ‵ (MutSlice (named 2) (ν ∷ []) u32 .own y (val y ∷ []))) ∷ Two ∷ Owned ∷ []))
+        (⋆ 𝓤 H A (raw (Begin 𝓤 H A at-mem run .pre to-begin) ∷ Owned ∷ []))
     goes-begin fits long =
         qed W ((‵ (Mine ν) ⊛ ‵ (MutSlice (named 2) (ν ∷ []) u32 .own y (val y ∷ []))) ∷ Two ∷ Owned ∷ []) ∵
         move ! (2 ∷ []) $ use1 W (‵ Own₀ ⊛ ‵ Own₁ ⊛ Owned) copied $ split ! $ move ! (1 ∷ []) $ split ! $ move ! (3 ∷ []) $ split ! $
         -- [ν's token; what the row owns; what the history owns; what both own; what the run owns; their tokens]
-        nothing ! $ move ! (2 ∷ 0 ∷ []) $ fjoin ! $ owned ! usize (Is usize) (uint-makes 𝓤 H A W w64) (length xs) _ (refl, fits) $ fjoin ! $ move ! (2 ∷ 0 ∷ []) $ fjoin ! $ move ! (3 ∷ 0 ∷ []) $ fjoin ! $
+        nothing ! $ move ! (2 ∷ 0 ∷ []) $ fjoin ! $ number ! w64 (length xs) fits $ move ! (2 ∷ 0 ∷ []) $ fjoin ! $ move ! (3 ∷ 0 ∷ []) $ fjoin ! $
         -- [what all four own; ν's token; what both own; their tokens]
         nothing ! $ move ! (2 ∷ 0 ∷ []) $ join ! $ move ! (3 ∷ []) $ split ! $ move ! (1 ∷ 2 ∷ []) $ join ! $ move ! (1 ∷ 0 ∷ []) $ join ! $
         use2 W (raw (Begin 𝓤 H A at-mem run .pre to-begin))
         (qed W (Tokens (‵ (Mine ν) ⊛ ‵ ftrue) ∷ ‵ (owns (ShrSlice (named 0) κ₀ u8 ∷ ShrSlice (named 1) κ₁ u8 ∷ usize ∷ MutSlice (named 2) (ν ∷ []) u32 ∷ [])
-        (s₀, (s₁, (length xs, (y, tt)))) (val s₀ ∷ [], (val s₁ ∷ [], (vint w64 (length xs) ∷ [], (val y ∷ [], tt))))) ∷ []) ∵ says ! long $ join ! $ done !) $ frame ! $ done !
+        (s₀, (s₁, (length xs, (y, tt)))) begin-vals) ∷ []) ∵ says ! long $ join ! $ done !) $ frame ! $ done !
 
     -- what is known of its result f and of the row's last list r
     abbrev Started : GridStart → List ℕ → Type 0
@@ -196,12 +200,14 @@ module _ {M : Type 1} (𝓤 : URA M) (H : Heap 𝓤) (A : Atoms 𝓤) (W : Given
         (mean 𝓤 H A (some (λ (r : List ℕ). given (Started f r) (‵ (finally u32 δ r)))))
     begin-said f =
         qed W (some (λ (rs : Unit {0} × (Unit {0} × (Unit {0} × (List ℕ × Unit {0})))). ‵ (lasts begin.ended (κ₀, (κ₁, (ν ∷ [], tt))) (s₀, (s₁, (length xs, (y, tt)))) rs)
-        ⊛ (raw (fact 𝓤 (gridStartMeaning f ≡ found)) ⊛ raw (fact 𝓤 (0 < f .records → Tabled (now s₀) (now s₁) (rs .1 .1 .1 .0))))) ∷ []) ∵ pick ! (λ rs. split ! $ move ! (1 ∷ []) $ split ! $
+        ⊛ (raw (fact 𝓤 (gridStartMeaning f ≡ found)) ⊛ raw (fact 𝓤 (0 < f .records → Tabled (now s₀) (now s₁) (rs .1 .1 .1 .0))))) ∷ []) ∵
+        pick ! (λ rs. split ! $ move ! (1 ∷ []) $ split ! $
         heard ! (gridStartMeaning f ≡ found) (λ e. heard ! (0 < f .records → Tabled (now s₀) (now s₁) (rs .1 .1 .1 .0)) (λ sw.
         fsplit ! $ drop ! $ fsplit ! $ drop ! $ fsplit ! $ drop ! $ fsplit ! $ fsplit ! $ move ! (1 ∷ []) $ feqL ! (λ same.
         show ! (λ (r : List ℕ). guard 𝓤 (Started f r) (sem 𝓤 H A (finally u32 δ r))) (rs .1 .1 .1 .0) $ check ! (same, e, sw) $ keep ! (0 ∷ []) $ done !))))
 
-    begin-back : (r : List ℕ) → ent 𝓤 (⋆ 𝓤 H A (Tokens (‵ (Mine ν) ⊛ ‵ ftrue) ∷ ‵ (finally u32 δ r) ∷ ‵ (flent (ν ∷ []) (Held u32 (length l) c 0 δ)) ∷ [])) (H .⇛ (⋆ 𝓤 H A (Two ∷ ‵ (Row r c) ∷ [])))
+    begin-back : (r : List ℕ) → ent 𝓤 (⋆ 𝓤 H A (Tokens (‵ (Mine ν) ⊛ ‵ ftrue) ∷ ‵ (finally u32 δ r) ∷ ‵ (flent (ν ∷ []) (Held u32 (length l) c 0 δ)) ∷ []))
+        (H .⇛ (⋆ 𝓤 H A (Two ∷ ‵ (Row r c) ∷ [])))
     begin-back r =
         qed W (Tokens (‵ (Mine ν) ⊛ ‵ ftrue) ∷ ‵ (finally u32 δ r) ∷ ‵ (flent (ν ∷ []) (Held u32 (length l) c 0 δ)) ∷ []) ∵
         updating ! $ split ! $ move ! (1 ∷ []) $ split ! $ move ! (2 ∷ 0 ∷ []) $ join ! $ move ! (1 ∷ []) $ split ! $
@@ -210,11 +216,11 @@ module _ {M : Type 1} (𝓤 : URA M) (H : Heap 𝓤) (A : Atoms 𝓤) (W : Given
 
     -- ---- `fill_records`, of n records
     module _ (n : ℕ) where
+      abbrev records-vals : Vals records.signature (κ₀, (κ₁, (ν ∷ [], (κ₂, tt))))
+      records-vals = (val s₀ ∷ [], (val s₁ ∷ [], (val y ∷ [], (vint w64 n ∷ [], (val x ∷ [], tt)))))
+
       abbrev to-records : Records 𝓤 H A at-mem run .Ghost
-      to-records = (
-        ((κ₀, (κ₁, (ν ∷ [], (κ₂, tt)))), (q₀, (q₁, (fullShare, (q₂, tt)))), tt, (s₀, (s₁, (y, (n, (x, tt))))), (val s₀ ∷ [], (val s₁ ∷ [], (val y ∷ [], (vint w64 n ∷ [], (val x ∷ [], tt)))))),
-        tt,
-      )
+      to-records = (((κ₀, (κ₁, (ν ∷ [], (κ₂, tt)))), (q₀, (q₁, (fullShare, (q₂, tt)))), tt, (s₀, (s₁, (y, (n, (x, tt))))), records-vals), tt)
 
       goes-records : n < 2 ^ 64 → (n ≤ length xs) × (0 < n → Tabled (now s₀) (now s₁) l)
           → ent 𝓤 (⋆ 𝓤 H A ((‵ (Mine ν) ⊛ ‵ (ShrSlice (named 2) (ν ∷ []) u32 .own y (val y ∷ []))) ∷ (Listed ⊛ Two) ∷ Owned ∷ []))
@@ -223,14 +229,15 @@ module _ {M : Type 1} (𝓤 : URA M) (H : Heap 𝓤) (A : Atoms 𝓤) (W : Given
           qed W ((‵ (Mine ν) ⊛ ‵ (ShrSlice (named 2) (ν ∷ []) u32 .own y (val y ∷ []))) ∷ (Listed ⊛ Two) ∷ Owned ∷ []) ∵
           move ! (2 ∷ []) $ use1 W (‵ Own₀ ⊛ ‵ Own₁ ⊛ Owned) copied $ split ! $ move ! (1 ∷ []) $ split ! $ move ! (4 ∷ []) $ split ! $ split ! $
           -- [the list's token; what the list owns; their tokens; what the history owns; what both own; what the run owns; the row with ν's token]
-          nothing ! $ move ! (2 ∷ 0 ∷ []) $ fjoin ! $ owned ! usize (Is usize) (uint-makes 𝓤 H A W w64) n _ (refl, fits) $ fjoin ! $
+          nothing ! $ move ! (2 ∷ 0 ∷ []) $ fjoin ! $ number ! w64 n fits $
           -- [the list and n; the list's token; their tokens; what the history owns; what both own; what the run owns; the row with ν's token]
           move ! (6 ∷ []) $ split ! $ move ! (1 ∷ 2 ∷ []) $ fjoin ! $ move ! (4 ∷ 0 ∷ []) $ fjoin ! $ move ! (5 ∷ 0 ∷ []) $ fjoin ! $
           -- [what all five own; ν's token; the list's token; their tokens; what both own]
           nothing ! $ move ! (3 ∷ 0 ∷ []) $ join ! $ move ! (2 ∷ 0 ∷ []) $ join ! $ move ! (2 ∷ []) $ split ! $ move ! (1 ∷ 2 ∷ []) $ join ! $ move ! (1 ∷ 0 ∷ []) $ join ! $
           use2 W (raw (Records 𝓤 H A at-mem run .pre to-records))
-          (qed W (Tokens (‵ (Mine ν) ⊛ Last) ∷ ‵ (owns (ShrSlice (named 0) κ₀ u8 ∷ ShrSlice (named 1) κ₁ u8 ∷ ShrSlice (named 2) (ν ∷ []) u32 ∷ usize ∷ MutSlice (named 3) κ₂ P.the-row ∷ [])
-          (s₀, (s₁, (y, (n, (x, tt))))) (val s₀ ∷ [], (val s₁ ∷ [], (val y ∷ [], (vint w64 n ∷ [], (val x ∷ [], tt)))))) ∷ []) ∵ says ! asked $ join ! $ done !) $ frame ! $ done !
+          (qed W (Tokens (‵ (Mine ν) ⊛ Last)
+          ∷ ‵ (owns (ShrSlice (named 0) κ₀ u8 ∷ ShrSlice (named 1) κ₁ u8 ∷ ShrSlice (named 2) (ν ∷ []) u32 ∷ usize ∷ MutSlice (named 3) κ₂ P.the-row ∷ [])
+          (s₀, (s₁, (y, (n, (x, tt))))) records-vals) ∷ []) ∵ says ! asked $ join ! $ done !) $ frame ! $ done !
 
       -- what is known of the last list
       abbrev Filled : List Point → Type 0
@@ -239,12 +246,15 @@ module _ {M : Type 1} (𝓤 : URA M) (H : Heap 𝓤) (A : Atoms 𝓤) (W : Given
       records-said : (r : Unit {0}) → ent 𝓤 (ensured 𝓤 H A records.ended (records.clauses 𝓤 H A at-mem run) (κ₀, (κ₁, (ν ∷ [], (κ₂, tt)))) (s₀, (s₁, (y, (n, (x, tt))))) tt r)
           (mean 𝓤 H A (some (λ (zs : List Point). given (Filled zs) (‵ (finally P.the-row γ zs)))))
       records-said r =
-          qed W (some (λ (zs : Unit {0} × (Unit {0} × (Unit {0} × (Unit {0} × (List Point × Unit {0}))))). ‵ (lasts records.ended (κ₀, (κ₁, (ν ∷ [], (κ₂, tt)))) (s₀, (s₁, (y, (n, (x, tt))))) zs)
-          ⊛ raw (fact 𝓤 (zs .1 .1 .1 .1 .0 ≡ answers (basisWith (now s₀) (now s₁)) n xs))) ∷ []) ∵ pick ! (λ zs. split ! $ move ! (1 ∷ []) $ heard ! (zs .1 .1 .1 .1 .0 ≡ answers (basisWith (now s₀) (now s₁)) n xs) (λ e.
+          qed W (some (λ (zs : Unit {0} × (Unit {0} × (Unit {0} × (Unit {0} × (List Point × Unit {0}))))).
+          ‵ (lasts records.ended (κ₀, (κ₁, (ν ∷ [], (κ₂, tt)))) (s₀, (s₁, (y, (n, (x, tt))))) zs)
+          ⊛ raw (fact 𝓤 (zs .1 .1 .1 .1 .0 ≡ answers (basisWith (now s₀) (now s₁)) n xs))) ∷ []) ∵
+          pick ! (λ zs. split ! $ move ! (1 ∷ []) $ heard ! (zs .1 .1 .1 .1 .0 ≡ answers (basisWith (now s₀) (now s₁)) n xs) (λ e.
           fsplit ! $ drop ! $ fsplit ! $ drop ! $ fsplit ! $ drop ! $ fsplit ! $ drop ! $ fsplit ! $ fsplit ! $ move ! (1 ∷ []) $ feqL ! (λ same.
           show ! (λ (r : List Point). guard 𝓤 (Filled r) (sem 𝓤 H A (finally P.the-row γ r))) (zs .1 .1 .1 .1 .0) $ check ! (same, e) $ keep ! (0 ∷ []) $ done !)))
 
-      records-back : length l ≡ 18340 → ent 𝓤 (⋆ 𝓤 H A (Tokens (‵ (Mine ν) ⊛ Last) ∷ ‵ (flent (ν ∷ []) (Row l c)) ∷ [])) (H .⇛ (⋆ 𝓤 H A (Tokens Last ∷ ‵ (froom array-ty c 0) ∷ [])))
+      records-back : length l ≡ 18340 → ent 𝓤 (⋆ 𝓤 H A (Tokens (‵ (Mine ν) ⊛ Last) ∷ ‵ (flent (ν ∷ []) (Row l c)) ∷ []))
+          (H .⇛ (⋆ 𝓤 H A (Tokens Last ∷ ‵ (froom array-ty c 0) ∷ [])))
       records-back long =
           qed W (Tokens (‵ (Mine ν) ⊛ Last) ∷ ‵ (flent (ν ∷ []) (Row l c)) ∷ []) ∵ updating ! $ split ! $ move ! (1 ∷ []) $ split ! $ move ! (1 ∷ []) $ split ! $
           -- [ν's token; the list's and true; the history's; the run's; the lender's part]
@@ -309,13 +319,16 @@ module _ {M : Type 1} (𝓤 : URA M) (H : Heap 𝓤) (A : Atoms 𝓤) (W : Given
           use3 W (raw (Records 𝓤 H A at-mem run .pre (to-records ν δ (l 4) r (f .records))) ⊛ Owned) (goes-records ν δ (l 4) r (f .records) fits (few, ready)) $ split ! $
           -- [what the call asks; what the slices own; the lender's part; the locals]
           calls-told ! fm (Records 𝓤 H A at-mem run) known (to-records ν δ (l 4) r (f .records))
-          (and-then ! (arg ! 3 refl) (and-then ! (arg ! 3 refl) (and-then ! (arg ! 3 refl) (and-then ! (field ! 3 refl (sub ! 1 refl (whole !))) (and-then ! (arg ! 3 refl) (no-more !))))))
+          (and-then ! (arg ! 3 refl) (and-then ! (arg ! 3 refl) (and-then ! (arg ! 3 refl) (and-then ! (field ! 3 refl (sub ! 1 refl (whole !)))
+          (and-then ! (arg ! 3 refl) (no-more !))))))
           unit (λ _. vunit) nothing-tells (Tokens (‵ (Mine ν) ⊛ Last))
           (ensured 𝓤 H A records.ended (records.clauses 𝓤 H A at-mem run) (κ₀, (κ₁, (ν ∷ [], (κ₂, tt)))) (s₀, (s₁, (y ν δ (l 4) r, (f .records, (x, tt))))) tt)
-          (λ _. some (λ (zs : List Point). given (Filled ν δ (l 4) r (f .records) zs) (‵ (finally P.the-row γ zs)))) (λ w. id⊢ 𝓤 _) (records-said ν δ (l 4) r (f .records)) (λ _ none.
+          (λ _. some (λ (zs : List Point). given (Filled ν δ (l 4) r (f .records) zs) (‵ (finally P.the-row γ zs))))
+          (λ w. id⊢ 𝓤 _) (records-said ν δ (l 4) r (f .records)) (λ _ none.
           drop ! $ move ! (1 ∷ []) $ pick ! (λ zs. learn ! (λ said.
           -- [the last list; the tokens; what the slices own; the lender's part; the locals]
-          gets ! 4 refl (tt, tt) $ move ! (1 ∷ 3 ∷ []) $ use2 W (later (Tokens Last ⊛ ‵ (froom array-ty (l 4) 0))) (records-back ν δ (l 4) r (f .records) long) $ await ! tt $ split ! $
+          gets ! 4 refl (tt, tt) $ move ! (1 ∷ 3 ∷ []) $
+          use2 W (later (Tokens Last ⊛ ‵ (froom array-ty (l 4) 0))) (records-back ν δ (l 4) r (f .records) long) $ await ! tt $ split ! $
           move ! (1 ∷ 0 ∷ 3 ∷ []) $ places ! (spot 𝓤 H A En 3 4) $
           empties ! 3 En (state (holds (start-val f))) (empty ∷ empty ∷ empty ∷ holds _ ∷ holds _ ∷ holds _ ∷ holds _ ∷ holds _ ∷ []) refl $
           by ! (returned zs (said .0) (said .1 ∙ ap (λ (k : ℕ). answers (basisWith (now s₀) (now s₁)) k xs) count ∙ grid-is (now s₀) (now s₁) xs)))))))
@@ -331,7 +344,8 @@ module _ {M : Type 1} (𝓤 : URA M) (H : Heap 𝓤) (A : Atoms 𝓤) (W : Given
         rewrite ! (spot 𝓤 H A En 4 8) (λ (m : ℕ). ‵ (fat fullShare (slice-of mut) (l 8) 0 (sliceVal (l 4, 0) m))) (sym long) refl $
         -- the row is lent for a lifetime ν of the call
         lft-new ! tt (λ ν. move ! (1 ∷ []) $
-        use1 W (later (some (λ (δ : GName). ‵ (MutSlice (named 2) (ν ∷ []) u32 .own (y ν δ (l 4) r) (val (y ν δ (l 4) r) ∷ [])) ⊛ ‵ (flent (ν ∷ []) (Held u32 (length r) (l 4) 0 δ)))))
+        use1 W (later (some (λ (δ : GName). ‵ (MutSlice (named 2) (ν ∷ []) u32 .own (y ν δ (l 4) r) (val (y ν δ (l 4) r) ∷ []))
+        ⊛ ‵ (flent (ν ∷ []) (Held u32 (length r) (l 4) 0 δ)))))
         (lends-slice 𝓤 H A W u32 (named 2) (ν ∷ []) r (l 4) 0 (enough r long)) $ await ! tt $ pick ! (λ δ. split ! $
         -- [what the row owns; the lender's part; ν's token; the list; the slices' tokens; what they own; the locals]
         move ! (2 ∷ 0 ∷ []) $ join ! $ move ! (0 ∷ 3 ∷ 4 ∷ []) $
@@ -356,12 +370,16 @@ module _ {M : Type 1} (𝓤 : URA M) (H : Heap 𝓤) (A : Atoms 𝓤) (W : Given
       → ent 𝓤 (onEntry 𝓤 H A fill.signature (κ₀, (κ₁, (κ₂, tt))) (q₀, (q₁, (q₂, tt))) (s₀, (s₁, (x, tt))) (val s₀ ∷ [], (val s₁ ∷ [], (val x ∷ [], tt))))
       (WpFn 𝓤 H C Λ function (val s₀ ∷ val s₁ ∷ val x ∷ []) Post)
   walk C Λ fm known-begin known-records room₀ room₁ room =
-      qed W (Tokens Last ∷ ‵ (owns (ShrSlice (named 0) κ₀ u8 ∷ ShrSlice (named 1) κ₁ u8 ∷ MutSlice (named 2) κ₂ P.the-row ∷ []) (s₀, (s₁, (x, tt))) (val s₀ ∷ [], (val s₁ ∷ [], (val x ∷ [], tt)))) ∷ []) ∵
+      qed W (Tokens Last
+      ∷ ‵ (owns (ShrSlice (named 0) κ₀ u8 ∷ ShrSlice (named 1) κ₁ u8 ∷ MutSlice (named 2) κ₂ P.the-row ∷ [])
+      (s₀, (s₁, (x, tt))) (val s₀ ∷ [], (val s₁ ∷ [], (val x ∷ [], tt)))) ∷ []) ∵
       split ! $ move ! (1 ∷ []) $ split ! $ move ! (2 ∷ 0 ∷ []) $ join ! $ move ! (1 ∷ []) $ split ! $ move ! (1 ∷ []) $ drop ! $
       -- [the list's token; the slices' tokens; what the three own]
-      move ! (2 ∷ []) $ fsplit ! $ move ! (1 ∷ []) $ fsplit ! $ move ! (2 ∷ 0 ∷ []) $ join ! $ move ! (1 ∷ []) $ fsplit ! $ move ! (1 ∷ []) $ drop ! $ move ! (2 ∷ 0 ∷ []) $ join ! $ move ! (0 ∷ 2 ∷ []) $
+      move ! (2 ∷ []) $ fsplit ! $ move ! (1 ∷ []) $ fsplit ! $ move ! (2 ∷ 0 ∷ []) $ join ! $
+      move ! (1 ∷ []) $ fsplit ! $ move ! (1 ∷ []) $ drop ! $ move ! (2 ∷ 0 ∷ []) $ join ! $ move ! (0 ∷ 2 ∷ []) $
       -- [the list; the slices' tokens; what the slices own]
-      enters ! C Λ function (val s₀ ∷ val s₁ ∷ val x ∷ []) _ ((tt, slice-typed (s₀ .ptr) (room₀ .0)), ((tt, slice-typed (s₁ .ptr) (room₁ .0)), ((tt, slice-typed (b, o) (room .0)), tt))) (λ l.
+      enters ! C Λ function (val s₀ ∷ val s₁ ∷ val x ∷ []) _
+      ((tt, slice-typed (s₀ .ptr) (room₀ .0)), ((tt, slice-typed (s₁ .ptr) (room₁ .0)), ((tt, slice-typed (b, o) (room .0)), tt))) (λ l.
       sets ! 0 (rep ! 18340 (lit ! tt)) refl (zeros-typed 𝓤 H A W 18340) $
       takes ! (spot 𝓤 H A (blocks 𝓤 H A (function .locals) l) 0 4) $ use1 W (‵ (cells (mem u32) (replicate 18340 0) (l 4) 0)) (zeros-lie 𝓤 H A W 18340 (l 4)) $
       move ! (0 ∷ 29 ∷ 30 ∷ 31 ∷ []) $ by ! (begins C Λ fm l known-begin known-records room (replicate 18340 0) (length-replicate {0} {A = ℕ} 18340 0)))
@@ -370,8 +388,13 @@ module _ {M : Type 1} (𝓤 : URA M) (H : Heap 𝓤) (A : Atoms 𝓤) (W : Given
   fill-meets : Triple 𝓤 (𝓣 .C #grid·begin-grid) (Begin 𝓤 H A mem run) → Triple 𝓤 (𝓣 .C #grid·fill-records) (Records 𝓤 H A mem run)
       → Meets 𝓤 H A fill.signature (WpFn 𝓤 H (𝓣 .C) (𝓣 .Λ) function) (fill.spec 𝓤 H A mem run)
   fill-meets known-begin known-records =
-      meets-by 𝓤 H A W fill.ended stayed
-      (goes-none-slice 𝓤 H A W 3 (0 ∷ []) tt (plain (λ _. u8)) yes, (goes-none-slice 𝓤 H A W 3 (1 ∷ []) tt (plain (λ _. u8)) yes, (goes-gave-slice 𝓤 H A W 3 2 tt (plain (λ _. P.the-row)), tt)))
+      meets-by 𝓤 H A W fill.ended stayed (
+        goes-none-slice 𝓤 H A W 3 (0 ∷ []) tt (plain (λ _. u8)) yes,
+        (
+          goes-none-slice 𝓤 H A W 3 (1 ∷ []) tt (plain (λ _. u8)) yes,
+          (goes-gave-slice 𝓤 H A W 3 2 tt (plain (λ _. P.the-row)), tt),
+        ),
+      )
       (fill.clauses 𝓤 H A mem run) 𝓣 function (λ κs. (slice-vals, (slice-vals, (slice-vals, tt))))
       (λ κs. (shr-slice-tells (named 0) (κs .0) u8, (shr-slice-tells (named 1) (κs .1 .0) u8, (mut-slice-tells (named 2) (κs .1 .1 .0) P.the-row, tt))))
       (λ κs qs bounds a g are. via 𝓤 _ (fst∗ 𝓤 _ (emp 𝓤)) (walk 𝓤 H A W mem run (κs .0) (κs .1 .0) (κs .1 .1 .0) (qs .0) (qs .1 .0) (qs .1 .1 .0) (a .0) (a .1 .0)
