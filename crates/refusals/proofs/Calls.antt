@@ -70,7 +70,8 @@ module _ (run history : List ℕ) where
   unfolding stepAt lived
   step-numbered age year survivors =
       record {
-        listed = by (stepCheck run history age year survivors) (first-by (basis-numbered run history) (standing-numbered (length run) (basisWith run history .base) age year survivors))
+        listed = by (stepCheck run history age year survivors)
+            (first-by (basis-numbered run history) (standing-numbered (length run) (basisWith run history .base) age year survivors))
             (eqb age 150) (survivorsAfterYear (basisWith run history) age year (pos survivors))
             (work-among record-numbers (year-numbered (basisWith run history) age year (pos survivors)));
       }
