@@ -68,15 +68,11 @@ pub fn all_within(run: &[u8], f: Field) -> bool
     all
 }
 
-// The first number of a field that is outside its limits, sought only where there is one: of an accepted run every number
-// is looked at once.
+// The first number of a field that is outside its limits.
 pub fn check_field(run: &[u8], f: Field) -> Check
     requires { ⌜ f .offset + f .count * widthOf (f .kind) ≤ length (now run) ⌝ }
     ensures { λ r. ⌜ finding r ≡ fieldCheck (now (run .entry)) f ⌝ }
 {
-    if all_within(run, f) {
-        return Check::Passed;
-    }
     let kind = f.kind;
     let low = f.low;
     let high = f.high;

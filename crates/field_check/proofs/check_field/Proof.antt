@@ -1,4 +1,4 @@
--- Where every number is within its limits the field passes; else what is left of it gives the same answer as the whole field.
+-- What is left of a field gives the same answer as the whole field.
 use mathlib.Core.Path.{_≡_, sym, _∙_}
 use Prim.Native.Nat.{_+_, _*_, _≤_}
 use native.Mathlib.Omega.{arith}
@@ -7,7 +7,6 @@ use lib.ListN.{length}
 use mir.Val.{toZ}
 use mir.Syntax.{w64}
 use mir.Facts.{toZ-ofZ}
-use Rattle.outcome.proofs.Outcome.{says-passed}
 use Rattle.layout.specs.Layout.{widthOf}
 use Rattle.field_check.specs.Field.{entriesCheck, fieldCheck}
 use Rattle.field_check.proofs.Turns.{room, inside, outside}
@@ -22,12 +21,6 @@ Inv-loop run kind low high width number at₀ left₀ at left =
 abbrev μ-loop : tie.MeasureT-loop
 μ-loop run kind low high width number at₀ left₀ at left = left
 
-all-within-requires : tie.Need-all-within-requires Inv-loop μ-loop
-all-within-requires c κs = search needs
-
-returns : tie.Need-returns Inv-loop μ-loop
-returns c = sym (says-passed _ (c .before .all-within .ensures) (c .if1 .taken))
-
 width-of-requires : tie.Need-width-of-requires Inv-loop μ-loop
 width-of-requires c κs = search needs
 
@@ -37,12 +30,12 @@ loop-holds c = search needs
 entry-ok-requires : tie.Need-entry-ok-requires Inv-loop μ-loop
 entry-ok-requires c κs =
     let l = c .before in
-    omega (arith, room (l .loop .left) (widthOf (l .before .before .before .before .before .before .before .args .f .kind)) (c .loop-test .taken))
+    omega (arith, room (l .loop .left) (widthOf (l .before .before .before .before .before .args .f .kind)) (c .loop-test .taken))
 
 add-at : tie.Need-add-at Inv-loop μ-loop
 add-at c =
     let l = c .before .before .before in
-    omega (arith, room (l .loop .left) (widthOf (l .before .before .before .before .before .before .before .args .f .kind)) (c .before .before .loop-test .taken))
+    omega (arith, room (l .loop .left) (widthOf (l .before .before .before .before .before .args .f .kind)) (c .before .before .loop-test .taken))
 
 sub-left : tie.Need-sub-left Inv-loop μ-loop
 sub-left c = omega arith
@@ -53,27 +46,27 @@ loop-less c = omega arith
 loop-again : tie.Need-loop-again Inv-loop μ-loop
 loop-again c =
     let l = c .before .before .before in
-    let a = l .before .before .before .before .before .before .before .args in
+    let a = l .before .before .before .before .before .args in
     let test = c .before .before .loop-test .taken in (
       omega (arith, room (l .loop .left) (widthOf (a .f .kind)) test),
       rw (l .before .width-of .ensures)
-          (sym (inside _ _ _ _ _ _ (l .loop .left) test (c .before .entry-ok .ensures) (c .if2 .taken)) ∙ l .loop .inv .1),
+          (sym (inside _ _ _ _ _ _ (l .loop .left) test (c .before .entry-ok .ensures) (c .if1 .taken)) ∙ l .loop .inv .1),
     )
 
-returns-2 : tie.Need-returns-2 Inv-loop μ-loop
+returns : tie.Need-returns Inv-loop μ-loop
 unfolding fieldCheck
-returns-2 c =
+returns c =
     let l = c .before .before .before in
-    let f = l .before .before .before .before .before .before .before .args .f in
+    let f = l .before .before .before .before .before .args .f in
     let test = c .before .before .loop-test .taken in
-    let out = sym (outside _ (f .number) _ _ _ _ (l .loop .left) test (c .before .entry-ok .ensures) (c .if2 .left)) ∙ l .loop .inv .1 in
+    let out = sym (outside _ (f .number) _ _ _ _ (l .loop .left) test (c .before .entry-ok .ensures) (c .if1 .left)) ∙ l .loop .inv .1 in
     simp (toZ-ofZ {w = w64} {z = f .low} (search needs), toZ-ofZ {w = w64} {z = f .high} (search needs)) at out
 
-returns-3 : tie.Need-returns-3 Inv-loop μ-loop
+returns-2 : tie.Need-returns-2 Inv-loop μ-loop
 unfolding fieldCheck entriesCheck
-returns-3 c =
+returns-2 c =
     let l = c .before in
-    let f = l .before .before .before .before .before .before .before .args .f in
+    let f = l .before .before .before .before .before .args .f in
     let e : l .loop .left ≡ 0 = omega arith in
     let out = rw e at (l .loop .inv .1) in
     simp (toZ-ofZ {w = w64} {z = f .low} (search needs), toZ-ofZ {w = w64} {z = f .high} (search needs)) at out
@@ -84,8 +77,6 @@ check-field-spec =
     (tie.spec
     Inv-loop
     μ-loop
-    all-within-requires
-    returns
     width-of-requires
     loop-holds
     entry-ok-requires
@@ -93,5 +84,5 @@ check-field-spec =
     sub-left
     loop-less
     loop-again
-    returns-2
-    returns-3)
+    returns
+    returns-2)
