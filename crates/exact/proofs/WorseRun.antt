@@ -134,7 +134,8 @@ by-age-is : (age : ℕ) → 20 ≤ age → age ≤ 150 → basisOf worseRun .byA
 unfolding basisOf signed32
 by-age-is age low high =
     let place = age - 20 in
-    terms-are _ _ _ _ (word from-age-rates (ageInitialRatesAt + 4 * place) (omega arith) (omega arith)) (word from-age-rates (ageLongTermRatesAt + 4 * place) (omega arith) (omega arith))
+    terms-are _ _ _ _ (word from-age-rates (ageInitialRatesAt + 4 * place) (omega arith) (omega arith))
+    (word from-age-rates (ageLongTermRatesAt + 4 * place) (omega arith) (omega arith))
     (within from-age-periods (agePeriodsAt + 1 * place) (omega arith) (omega arith)) (within from-age-proportions (ageProportionsAt + 1 * place) (omega arith) (omega arith))
 
 -- a birth year's terms from its initial rate
@@ -143,7 +144,8 @@ by-birth-year-is : (year : ℕ) → 1842 ≤ year → year ≤ 2110 → (z : ℤ
 unfolding basisOf signed32
 by-birth-year-is year low high z e =
     terms-are _ _ _ _ e (word from-birth-year-long-term-rates (birthYearLongTermRatesAt mpb1 + 4 * (year - 1842)) (omega arith) (omega arith))
-    (within from-birth-year-periods (birthYearPeriodsAt mpb1 + 1 * (year - 1842)) (omega arith) (omega arith)) (within from-birth-year-proportions (birthYearProportionsAt mpb1 + 1 * (year - 1842)) (omega arith) (omega arith))
+    (within from-birth-year-periods (birthYearPeriodsAt mpb1 + 1 * (year - 1842)) (omega arith) (omega arith))
+    (within from-birth-year-proportions (birthYearProportionsAt mpb1 + 1 * (year - 1842)) (omega arith) (omega arith))
 
 earlier : (year : ℕ) → 1842 ≤ year → year < 1949 → i32At worseRun (birthYearInitialRatesAt mpb1 + 4 * (year - 1842)) ≡ negsuc 0
 unfolding signed32

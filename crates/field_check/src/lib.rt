@@ -7,7 +7,6 @@ ghost use Rattle.layout.specs.Layout.{widthOf, valueAt};
 ghost use Rattle.field_check.specs.Field.{between, fieldCheck};
 use layout::Number;
 use layout::value_at;
-use layout::width_of;
 use outcome::Check;
 use outcome::Refusal;
 
@@ -19,6 +18,18 @@ pub struct Field {
     pub high: i64,
     pub offset: usize,
     pub count: usize,
+}
+
+// How many bytes a number has.
+fn width_of(kind: Number) -> usize
+    ensures { λ r. ⌜ r ≡ widthOf kind ⌝ }
+{
+    match kind {
+        Number::Byte => 1,
+        Number::Half => 2,
+        Number::Word => 4,
+        Number::SignedWord => 4,
+    }
 }
 
 // Whether a number is from the one to the other, both included.
@@ -58,7 +69,7 @@ pub fn all_within(run: &[u8], f: Field) -> bool
 }
 
 // The first number of a field that is outside its limits.
-fn first_outside(run: &[u8], f: Field) -> Check
+pub fn check_field(run: &[u8], f: Field) -> Check
     requires { ⌜ f .offset + f .count * widthOf (f .kind) ≤ length (now run) ⌝ }
     ensures { λ r. ⌜ finding r ≡ fieldCheck (now (run .entry)) f ⌝ }
 {
@@ -82,15 +93,4 @@ fn first_outside(run: &[u8], f: Field) -> Check
         }
     }
     Check::Passed
-}
-
-// The same, sought only where there is one: of an accepted run every number is looked at once.
-pub fn check_field(run: &[u8], f: Field) -> Check
-    requires { ⌜ f .offset + f .count * widthOf (f .kind) ≤ length (now run) ⌝ }
-    ensures { λ r. ⌜ finding r ≡ fieldCheck (now (run .entry)) f ⌝ }
-{
-    if all_within(run, f) {
-        return Check::Passed;
-    }
-    first_outside(run, f)
 }

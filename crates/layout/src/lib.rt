@@ -90,18 +90,6 @@ pub const LONGEST_PERIOD: i64 = 50;
 
 pub const GREATEST_PROPORTION: i64 = 150;
 
-// How many bytes a number has.
-pub fn width_of(kind: Number) -> usize
-    ensures { λ r. ⌜ r ≡ widthOf kind ⌝ }
-{
-    match kind {
-        Number::Byte => 1,
-        Number::Half => 2,
-        Number::Word => 4,
-        Number::SignedWord => 4,
-    }
-}
-
 // The number that stands at an offset.
 pub fn value_at(run: &[u8], kind: Number, at: usize) -> i64
     requires { ⌜ at + widthOf kind ≤ length (now run) ⌝ }

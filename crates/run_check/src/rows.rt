@@ -1,6 +1,7 @@
 // The rows of the table of fields. The kind of number and the limits of a table stand in the function that checks it, so that the
 // compiler knows them in the loop. A run that is accepted is walked whole, so nothing is lost by looking at the later rows of a
-// refused one.
+// refused one. Of a table every number is looked at, several at a time, and only where one is outside its limits is the first
+// such sought.
 ghost use mathlib.Core.Path.{_≡_};
 ghost use Prim.Native.Nat.{_+_, _*_, _≤_};
 ghost use lib.ListN.{length};
@@ -9,6 +10,7 @@ ghost use Rattle.outcome.specs.Outcome.{finding};
 ghost use Rattle.field_check.specs.Field.{field, fieldCheck, fieldsCheck};
 ghost use Rattle.run_check.specs.Run.{exactly, markFields, singleFields, baseRates, rates, periods, proportions, termFields};
 use field_check::Field;
+use field_check::all_within;
 use field_check::check_field;
 use layout::Number;
 use outcome::Check;
@@ -113,17 +115,18 @@ pub(crate) fn check_base_rates(run: &[u8]) -> Check
     requires { ⌜ length (now run) ≡ runLength mpb1 ⌝ }
     ensures { λ r. ⌜ finding r ≡ fieldCheck (now (run .entry)) baseRates ⌝ }
 {
-    check_field(
-        run,
-        Field {
-            number: 5,
-            kind: Number::Word,
-            low: 0,
-            high: layout::GREATEST_BASE_RATE,
-            offset: layout::BASE_RATES_AT,
-            count: layout::AGES,
-        },
-    )
+    let f = Field {
+        number: 5,
+        kind: Number::Word,
+        low: 0,
+        high: layout::GREATEST_BASE_RATE,
+        offset: layout::BASE_RATES_AT,
+        count: layout::AGES,
+    };
+    if all_within(run, f) {
+        return Check::Passed;
+    }
+    check_field(run, f)
 }
 
 // I or L (5).
@@ -131,17 +134,18 @@ fn check_rates(run: &[u8], offset: usize, count: usize) -> Check
     requires { ⌜ offset + count * 4 ≤ length (now run) ⌝ }
     ensures { λ r. ⌜ finding r ≡ fieldCheck (now (run .entry)) (rates offset count) ⌝ }
 {
-    check_field(
-        run,
-        Field {
-            number: 5,
-            kind: Number::SignedWord,
-            low: layout::LEAST_RATE,
-            high: layout::RATE_LIMIT,
-            offset: offset,
-            count: count,
-        },
-    )
+    let f = Field {
+        number: 5,
+        kind: Number::SignedWord,
+        low: layout::LEAST_RATE,
+        high: layout::RATE_LIMIT,
+        offset: offset,
+        count: count,
+    };
+    if all_within(run, f) {
+        return Check::Passed;
+    }
+    check_field(run, f)
 }
 
 // T (5).
@@ -149,17 +153,18 @@ fn check_periods(run: &[u8], offset: usize, count: usize) -> Check
     requires { ⌜ offset + count ≤ length (now run) ⌝ }
     ensures { λ r. ⌜ finding r ≡ fieldCheck (now (run .entry)) (periods offset count) ⌝ }
 {
-    check_field(
-        run,
-        Field {
-            number: 5,
-            kind: Number::Byte,
-            low: 1,
-            high: layout::LONGEST_PERIOD,
-            offset: offset,
-            count: count,
-        },
-    )
+    let f = Field {
+        number: 5,
+        kind: Number::Byte,
+        low: 1,
+        high: layout::LONGEST_PERIOD,
+        offset: offset,
+        count: count,
+    };
+    if all_within(run, f) {
+        return Check::Passed;
+    }
+    check_field(run, f)
 }
 
 // P (5).
@@ -167,17 +172,18 @@ fn check_proportions(run: &[u8], offset: usize, count: usize) -> Check
     requires { ⌜ offset + count ≤ length (now run) ⌝ }
     ensures { λ r. ⌜ finding r ≡ fieldCheck (now (run .entry)) (proportions mpb1 offset count) ⌝ }
 {
-    check_field(
-        run,
-        Field {
-            number: 5,
-            kind: Number::Byte,
-            low: 0,
-            high: layout::GREATEST_PROPORTION,
-            offset: offset,
-            count: count,
-        },
-    )
+    let f = Field {
+        number: 5,
+        kind: Number::Byte,
+        low: 0,
+        high: layout::GREATEST_PROPORTION,
+        offset: offset,
+        count: count,
+    };
+    if all_within(run, f) {
+        return Check::Passed;
+    }
+    check_field(run, f)
 }
 
 // The four tables of the terms of improvement, by age or by birth year (5).

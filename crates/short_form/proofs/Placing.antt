@@ -65,15 +65,19 @@ module _ (run out a b c d : List ℕ) (long : length run ≡ runLength mpb1) (ro
       four out a b c d 0 ageLongTermRatesAt agePeriodsAt ageProportionsAt (take ageLongTermRatesAt run) (longTermRates rate 20 ages) (periods ages) (proportions ages)
       (omega arith) (omega arith) (omega arith) (omega arith)
 
-  pub birth-years-placed : a ≡ placed out (birthYearInitialRatesAt mpb1) (take 1076 (drop (birthYearInitialRatesAt mpb1) run)) → b ≡ placed a (birthYearLongTermRatesAt mpb1) (replicate 1076 0)
-      → c ≡ placed b (birthYearPeriodsAt mpb1) (periods birthYears) → d ≡ placed c (birthYearProportionsAt mpb1) (proportions birthYears) → d ≡ placed out (birthYearInitialRatesAt mpb1) (birthYearsOf run)
+  pub birth-years-placed : a ≡ placed out (birthYearInitialRatesAt mpb1) (take 1076 (drop (birthYearInitialRatesAt mpb1) run))
+      → b ≡ placed a (birthYearLongTermRatesAt mpb1) (replicate 1076 0)
+      → c ≡ placed b (birthYearPeriodsAt mpb1) (periods birthYears) → d ≡ placed c (birthYearProportionsAt mpb1) (proportions birthYears)
+      → d ≡ placed out (birthYearInitialRatesAt mpb1) (birthYearsOf run)
   unfolding birthYearsOf
   birth-years-placed =
       let p : length (take 1076 (drop (birthYearInitialRatesAt mpb1) run)) ≡ 1076 = rw (length-take, length-drop) (omega arith) in
       let q = repeated 1076 0 in
       let t = repeated birthYears everyPeriod in
       let s = repeated birthYears everyProportion in
-      four out a b c d (birthYearInitialRatesAt mpb1) (birthYearLongTermRatesAt mpb1) (birthYearPeriodsAt mpb1) (birthYearProportionsAt mpb1) (take 1076 (drop (birthYearInitialRatesAt mpb1) run)) (replicate 1076 0) (periods birthYears) (proportions birthYears)
+      four out a b c d
+      (birthYearInitialRatesAt mpb1) (birthYearLongTermRatesAt mpb1) (birthYearPeriodsAt mpb1) (birthYearProportionsAt mpb1)
+      (take 1076 (drop (birthYearInitialRatesAt mpb1) run)) (replicate 1076 0) (periods birthYears) (proportions birthYears)
       (omega arith) (omega arith) (omega arith) (omega arith)
 
 module _ (run : List ℕ) (rate : ℤ) (long : length run ≡ runLength mpb1) where

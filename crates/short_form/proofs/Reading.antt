@@ -79,7 +79,8 @@ module _ (run : List ℕ) (rate : ℤ) (long : length run ≡ runLength mpb1) wh
   unfolding agesOf
   age-parts = parts _ _ _ _ ageLongTermRatesAt 524 ages (length-take-le ageLongTermRatesAt run (omega arith)) (length-rates rate 20 ages) (repeated ages everyPeriod)
 
-  birth-year-parts : Parts (birthYearsOf run) (take 1076 (drop (birthYearInitialRatesAt mpb1) run)) (replicate 1076 0) (periods birthYears) (proportions birthYears) 1076 1076 birthYears
+  birth-year-parts : Parts (birthYearsOf run)
+      (take 1076 (drop (birthYearInitialRatesAt mpb1) run)) (replicate 1076 0) (periods birthYears) (proportions birthYears) 1076 1076 birthYears
   unfolding birthYearsOf
   birth-year-parts = parts _ _ _ _ 1076 1076 birthYears (rw (length-take, length-drop) (omega arith)) (repeated 1076 0) (repeated birthYears everyPeriod)
 
@@ -99,7 +100,8 @@ module _ (run : List ℕ) (rate : ℤ) (long : length run ≡ runLength mpb1) wh
 
   birth-kept : (i : ℕ) → i < 1076 → byteAt (shortFormOf run rate) (birthYearInitialRatesAt mpb1 + i) ≡ byteAt run (birthYearInitialRatesAt mpb1 + i)
   birth-kept i l =
-      in-birth-years (birthYearInitialRatesAt mpb1 + i) i refl ∙ birth-year-parts .first i l ∙ getD-take 1076 (drop (birthYearInitialRatesAt mpb1) run) i 0 l ∙ getD-drop (birthYearInitialRatesAt mpb1) run i 0
+      in-birth-years (birthYearInitialRatesAt mpb1 + i) i refl ∙ birth-year-parts .first i l
+      ∙ getD-take 1076 (drop (birthYearInitialRatesAt mpb1) run) i 0 l ∙ getD-drop (birthYearInitialRatesAt mpb1) run i 0
 
   birth-rate-byte : (i : ℕ) → i < 1076 → byteAt (shortFormOf run rate) (birthYearLongTermRatesAt mpb1 + i) ≡ 0
   birth-rate-byte i l = in-birth-years (birthYearLongTermRatesAt mpb1 + i) (1076 + i) (omega arith) ∙ birth-year-parts .second i l ∙ getD-replicate 1076 i 0 0 l
@@ -108,7 +110,8 @@ module _ (run : List ℕ) (rate : ℤ) (long : length run ≡ runLength mpb1) wh
   birth-period i l = in-birth-years (birthYearPeriodsAt mpb1 + 1 * i) (2152 + i) (omega arith) ∙ birth-year-parts .third i l ∙ getD-replicate birthYears i everyPeriod 0 l
 
   pub birth-proportion : (i : ℕ) → i < birthYears → byteAt (shortFormOf run rate) (birthYearProportionsAt mpb1 + 1 * i) ≡ everyProportion
-  birth-proportion i l = in-birth-years (birthYearProportionsAt mpb1 + 1 * i) (2421 + i) (omega arith) ∙ birth-year-parts .fourth i ∙ getD-replicate birthYears i everyProportion 0 l
+  birth-proportion i l =
+      in-birth-years (birthYearProportionsAt mpb1 + 1 * i) (2421 + i) (omega arith) ∙ birth-year-parts .fourth i ∙ getD-replicate birthYears i everyProportion 0 l
 
   -- ---- and its numbers
   pub half-kept : (at : ℕ) → at < 1077 → u16At (shortFormOf run rate) at ≡ u16At run at
@@ -125,7 +128,8 @@ module _ (run : List ℕ) (rate : ℤ) (long : length run ≡ runLength mpb1) wh
   pub birth-initial : (i : ℕ) → i < birthYears → i32At (shortFormOf run rate) (birthYearInitialRatesAt mpb1 + 4 * i) ≡ i32At run (birthYearInitialRatesAt mpb1 + 4 * i)
   birth-initial i l =
       let e : (j : ℕ) → birthYearInitialRatesAt mpb1 + 4 * i + j ≡ birthYearInitialRatesAt mpb1 + (4 * i + j) = λ j. omega arith in
-      ap signed32 (same-word (shortFormOf run rate) run (birthYearInitialRatesAt mpb1 + 4 * i) (birthYearInitialRatesAt mpb1 + 4 * i) (λ j m. rw (e j) (birth-kept (4 * i + j) (omega arith))))
+      ap signed32 (same-word (shortFormOf run rate) run (birthYearInitialRatesAt mpb1 + 4 * i) (birthYearInitialRatesAt mpb1 + 4 * i)
+      (λ j m. rw (e j) (birth-kept (4 * i + j) (omega arith))))
 
   pub birth-rate : (i : ℕ) → i < birthYears → i32At (shortFormOf run rate) (birthYearLongTermRatesAt mpb1 + 4 * i) ≡ pos 0
   birth-rate i l =
