@@ -1,1 +1,2 @@
 pub mod Accumulation
+pub mod Rated

@@ -65,6 +65,10 @@ basisOf run =
 unfoldable pub accumulationOf : Basis → ℕ
 accumulationOf b = natAbs (pos U +ℤ b .discount)
 
+-- the first year that has a rate, and what is built on rates: B
+unfoldable pub ratedFrom : Basis → ℕ
+ratedFrom b = b .base
+
 -- ---- the limits
 pub record ConvergenceLimits (c : Convergence) : Type 0 where
   pub initial : natAbs (c .initial) ≤ rateLimit

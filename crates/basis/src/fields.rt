@@ -3,7 +3,7 @@ ghost use mathlib.Core.Path.{_≡_};
 ghost use Prim.Native.Nat.{_+_, _*_, _≤_, _<_};
 ghost use lib.ListN.{length};
 ghost use Rattle.layout.specs.Layout.{mpb1, runLength};
-ghost use Rattle.basis.specs.Basis.{basisOf, accumulationOf, termsAt, Accepted};
+ghost use Rattle.basis.specs.Basis.{basisOf, accumulationOf, termsAt, Accepted, ratedFrom};
 use crate::Convergence;
 
 pub fn foundation_year(run: &[u8]) -> u32
@@ -18,6 +18,14 @@ pub fn base_year(run: &[u8]) -> u32
     ensures { λ r. ⌜ r ≡ basisOf (now (run .entry)) .base ⌝ }
 {
     little_endian::read_u16(run, layout::BASE_AT)
+}
+
+// The first year that has a rate.
+pub fn rated_from(run: &[u8]) -> u32
+    requires { ⌜ Accepted (now run) ⌝ }
+    ensures { λ r. ⌜ r ≡ ratedFrom (basisOf (now (run .entry))) ⌝ }
+{
+    base_year(run)
 }
 
 pub fn constant_addition(run: &[u8]) -> i32

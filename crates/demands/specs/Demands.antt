@@ -9,7 +9,7 @@ use lib.ListN.{length}
 use Rattle.arithmetic.specs.Rounding.{TiesGoUp}
 use Rattle.lent.specs.Lent.{written}
 use Rattle.outcome.specs.declared.Refusal.{Refusal}
-use Rattle.basis.specs.Basis.{Accepted}
+use Rattle.basis.specs.Basis.{Accepted, ratedFrom}
 use Rattle.outcome.specs.Outcome.{passed, refusedBy, value, refused, firstOf, andThen}
 use Rattle.run_check.specs.Run.{runCheck}
 use Rattle.basis_file.specs.File.{runIn, fileOf, readCheck, writeCheck}
@@ -108,7 +108,7 @@ pub record Demand2 (run history : List ℕ) : Type 0 where
       improvementEnquiry run history age year ≡ improvementNeeded age year (improvementOf (basisWith run history) age year)
   pub factor : (age year : ℕ) → firstOf (runAndHistoryCheck run history) (cellCheck (basisWith run history .base) age year) ≡ passed →
       factorEnquiry run history age year ≡ factorOf (basisWith run history) age year
-  pub rate : (age year : ℕ) → firstOf (runAndHistoryCheck run history) (cellCheck (basisWith run history .base) age year) ≡ passed →
+  pub rate : (age year : ℕ) → firstOf (runAndHistoryCheck run history) (cellCheck (ratedFrom (basisWith run history)) age year) ≡ passed →
       rateEnquiry run history age year ≡ rateOf (basisWith run history) age year
   pub survivorship : (kind : Kind) (age deferment year : ℕ) → valuationCheck run history age deferment year ≡ passed →
       survivorshipEnquiry run history kind age deferment year ≡ survivorsOf (basisWith run history) kind age deferment year
@@ -116,7 +116,7 @@ pub record Demand2 (run history : List ℕ) : Type 0 where
       expectationEnquiry run history kind age deferment year ≡ expectationOf (basisWith run history) kind age deferment year
   pub annuity : (kind : Kind) (age deferment year : ℕ) → valuationCheck run history age deferment year ≡ passed →
       annuityEnquiry run history kind age deferment year ≡ annuityOf (basisWith run history) kind age deferment year
-  pub point : (q : Question) → questionCheck (basisWith run history .base) (q .age) (q .deferment) (q .year) ≡ passed →
+  pub point : (q : Question) → questionCheck (ratedFrom (basisWith run history)) (q .age) (q .deferment) (q .year) ≡ passed →
       pointOf (basisWith run history) q ≡ pointAnswerOf (resultsOf (basisWith run history) (q .age) (q .deferment) (q .year))
   -- a liability is worked out from the model's annuity, and the running total is the sum for those who joined and have not left (02, change 6)
   pub liability : (year age pension : ℕ) → valuationCheck run history age 0 year ≡ passed →

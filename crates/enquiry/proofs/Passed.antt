@@ -3,6 +3,7 @@ use mathlib.Core.Path.{_≡_}
 use mathlib.Core.List.{List}
 use Prim.Native.Nat.{ℕ, _≤_}
 use native.Mathlib.Omega.{arith}
+use Rattle.basis.specs.Basis.{ratedFrom}
 use Rattle.outcome.specs.Outcome.{passed, firstOf}
 use Rattle.outcome.proofs.Outcome.{both-passed}
 use Rattle.history.specs.Checked.{Cell, Life}
@@ -39,5 +40,5 @@ improved-passed run history age year h =
 
 pub valuation-passed : (run history : List ℕ) (age deferment year : ℕ) → valuationCheck run history age deferment year ≡ passed → Life run history age deferment year
 valuation-passed run history age deferment year h =
-    let p = both-passed (runAndHistoryCheck run history) (questionCheck (basisWith run history .base) age deferment year) h in
+    let p = both-passed (runAndHistoryCheck run history) (questionCheck (ratedFrom (basisWith run history)) age deferment year) h in
     question.question-passed run history age deferment year (accepted-workable run history (p .0)) (p .1)

@@ -5,8 +5,9 @@ use mathlib.Core.List.{List}
 use Prim.Native.Nat.{ℕ, _+_, _*_, _-_, _≤_, _<_}
 use native.Mathlib.Omega.{arith}
 use lib.IntN.{ℤ}
+use Rattle.basis.proofs.Rated.{rated-late}
 use Rattle.arithmetic.proofs.Distance.{within-more}
-use Rattle.basis.specs.Basis.{Basis, Limited}
+use Rattle.basis.specs.Basis.{Basis, Limited, ratedFrom}
 use Rattle.history.specs.History.{basisWith, runAndHistoryCheck}
 use Rattle.history.proofs.With.{limits-with}
 use Rattle.outcome.specs.Outcome.{value, firstOf}
@@ -68,8 +69,8 @@ demand-3 run history =
           let p = cell-passed run history (b .base) age year (omega arith) (h .0) in
           within-more (factor-within b age year (limits-with (p .usable)) (p .age-low) (p .age-high) improving f (h .1)) (omega arith);
       rate = λ age year q answered improving.
-          let h = checked-value (firstOf (runAndHistoryCheck run history) (cellCheck (b .base) age year)) (rateOf b age year) q answered in
-          let p = cell-passed run history (b .base) age year (omega arith) (h .0) in
+          let h = checked-value (firstOf (runAndHistoryCheck run history) (cellCheck (ratedFrom b) age year)) (rateOf b age year) q answered in
+          let p = cell-passed run history (ratedFrom b) age year (rated-late b) (h .0) in
           within-more (rate-within b age year (limits-with (p .usable)) (p .age-low) (p .age-high) improving q (h .1)) (omega arith);
       survivorship = λ kind age n year s answered improving.
           let h = checked-value (valuationCheck run history age n year) (survivorsOf b kind age n year) s answered in

@@ -30,12 +30,12 @@ abbrev pub RestIsZero : Basis → List ℕ → Type 0
 RestIsZero b numbers = (i : ℕ) → 131 * tableYears b ≤ i → i < factorsLength → getD numbers i 0 ≡ 0
 
 -- what stands behind the factors, by the years of discount
-abbrev pub discountAt : List ℕ → ℕ → ℕ
-discountAt numbers j = getD numbers (factorsLength + j) 0
+abbrev pub storedDiscount : List ℕ → ℕ → ℕ
+storedDiscount numbers j = getD numbers (factorsLength + j) 0
 
 -- the first n discounts
 abbrev pub DiscountsStored : Basis → List ℕ → ℕ → Type 0
-DiscountsStored b numbers n = (j : ℕ) → j < n → pos (discountAt numbers j) ≡ discountAfter b j
+DiscountsStored b numbers n = (j : ℕ) → j < n → pos (storedDiscount numbers j) ≡ discountAfter b j
 
 -- all years from B to 2130, and the discounts of 0 to 130 years; no number of them is left free
 pub record FactorTable (b : Basis) (numbers : List ℕ) : Type 0 where

@@ -4,7 +4,7 @@ ghost use Prim.Native.Nat.{_≤_};
 ghost use lib.ListN.{length};
 ghost use Rattle.history.specs.History.{basisWith, Workable};
 ghost use Rattle.factor_table.specs.Inner.Storing.{KeptBefore};
-ghost use Rattle.factor_table.specs.FactorTable.{factorsLength, tableLength, discountAt, DiscountsStored};
+ghost use Rattle.factor_table.specs.FactorTable.{factorsLength, tableLength, storedDiscount, DiscountsStored};
 use crate::FACTORS_LENGTH;
 use arithmetic::UNIT;
 
@@ -32,7 +32,7 @@ fn wide(n: u32) -> u64
 // The discount after some years, as it stands in the table.
 pub fn discount(numbers: &[u32], j: u32) -> u64
     requires { ⌜ (length (now numbers) ≡ tableLength) × (j ≤ 130) ⌝ }
-    ensures { λ r. ⌜ r ≡ discountAt (now (numbers .entry)) j ⌝ }
+    ensures { λ r. ⌜ r ≡ storedDiscount (now (numbers .entry)) j ⌝ }
 {
     let at = FACTORS_LENGTH + j as usize;
     wide(numbers[at])

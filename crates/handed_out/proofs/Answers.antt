@@ -5,6 +5,7 @@ use mathlib.Core.List.{List}
 use Prim.Native.Nat.{ℕ}
 use native.Mathlib.Omega.{arith}
 use lib.IntN.{ℤ, pos}
+use Rattle.basis.specs.Basis.{ratedFrom}
 use Rattle.outcome.specs.Outcome.{passed, Outcome, value, firstOf}
 use Rattle.outcome.specs.Refusals.{numbers, RefusedBy}
 use Rattle.outcome.proofs.Outcome.{checked-value}
@@ -41,7 +42,7 @@ module _ (run history : List ℕ) where
   unfolding rateEnquiry
   rate-answer age year q h =
       let b = basisWith run history in
-      let n = rate-small b age year q (checked-value (firstOf (runAndHistoryCheck run history) (cellCheck (b .base) age year)) (rateOf b age year) q h .1) in
+      let n = rate-small b age year q (checked-value (firstOf (runAndHistoryCheck run history) (cellCheck (ratedFrom b) age year)) (rateOf b age year) q h .1) in
       (n .0, n .1)
 
   module _ (kind : Kind) (age deferment year : ℕ) where

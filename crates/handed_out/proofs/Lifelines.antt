@@ -6,6 +6,7 @@ use native.Mathlib.Omega.{arith}
 use native.Mathlib.Decide.{decLt}
 use lib.IntN.{pos}
 use borrow.Author.Tests.{le-leb, eqb-false}
+use Rattle.basis.specs.Basis.{ratedFrom}
 use Rattle.arithmetic.proofs.Distance.{within-more}
 use Rattle.outcome.specs.Outcome.{Finding, passed, refusedBy, value}
 use Rattle.outcome.proofs.Outcome.{both-passed}
@@ -56,8 +57,8 @@ module _ (run history : List ℕ) (age year : ℕ) where
   asked : (n : ℕ) → valuationCheck run history age 0 year ≡ passed → Advances run history age year n → valuationCheck run history age n year ≡ passed
   unfolding defermentCheck questionCheck
   asked n h a =
-      let p = both-passed (runAndHistoryCheck run history) (questionCheck (basisWith run history .base) age 0 year) h in
-      let q = question-parts (basisWith run history .base) age 0 year (p .1) in
+      let p = both-passed (runAndHistoryCheck run history) (questionCheck (ratedFrom (basisWith run history)) age 0 year) h in
+      let q = question-parts (ratedFrom (basisWith run history)) age 0 year (p .1) in
       rw (p .0, q .0, q .2, le-leb (age + n) 150 (old n a)) refl
     where
       old : (n : ℕ) → Advances run history age year n → age + n ≤ 150

@@ -7,7 +7,7 @@ use native.Mathlib.Nat.{not-suc-le-zero, le-of-suc-le-suc}
 use native.Mathlib.Omega.{arith}
 use lib.IntN.{ℤ, pos, natAbs}
 use lib.ListN.{length, getD}
-use Rattle.basis.specs.Basis.{Basis}
+use Rattle.basis.specs.Basis.{Basis, ratedFrom}
 use Rattle.outcome.specs.Outcome.{passed, Outcome, value, refused}
 use Rattle.outcome.proofs.Outcome.{both-passed, checked-value, came}
 use Rattle.lent.specs.Lent.{countCheck}
@@ -51,7 +51,7 @@ four-came (refused r) second third fourth results h = let z : _≡_ {A = ℕ} 0 
 
 module _ (run history : List ℕ) (accepted : runAndHistoryCheck run history ≡ passed) where
   -- a point, by the numbers of its question
-  module _ (age deferment year : ℕ) (asked : questionCheck (basisWith run history .base) age deferment year ≡ passed) where
+  module _ (age deferment year : ℕ) (asked : questionCheck (ratedFrom (basisWith run history)) age deferment year ≡ passed) where
     valued : valuationCheck run history age deferment year ≡ passed
     valued = rw (accepted, asked) refl
 
@@ -69,7 +69,7 @@ module _ (run history : List ℕ) (accepted : runAndHistoryCheck run history ≡
   unfolding resultsOf
   results-near q results h =
       let b = basisWith run history in
-      let w = checked-value (questionCheck (b .base) (q .age) (q .deferment) (q .year)) (resultsOf b (q .age) (q .deferment) (q .year)) results h in
+      let w = checked-value (questionCheck (ratedFrom b) (q .age) (q .deferment) (q .year)) (resultsOf b (q .age) (q .deferment) (q .year)) results h in
       let four = four-came
       (expectationOf b Period (q .age) (q .deferment) (q .year)) (expectationOf b Cohort (q .age) (q .deferment) (q .year))
       (annuityOf b Period (q .age) (q .deferment) (q .year)) (annuityOf b Cohort (q .age) (q .deferment) (q .year)) results (w .1) .values in

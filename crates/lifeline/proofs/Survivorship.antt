@@ -8,6 +8,7 @@ use native.Mathlib.Decide.{decLt}
 use lib.Dec.{eqb}
 use lib.IntN.{ℤ, pos, natAbs}
 use borrow.Author.Tests.{le-leb, ne-eqb}
+use Rattle.basis.specs.Basis.{ratedFrom}
 use Rattle.arithmetic.specs.Fraction.{U}
 use Rattle.history.specs.History.{basisWith, runAndHistoryCheck}
 use Rattle.outcome.specs.Outcome.{Finding, passed, refusedBy, Outcome, value, refused, checked, andThen}
@@ -62,8 +63,8 @@ module _ (run history : List ℕ) (age year : ℕ) where
   start-passes : (n : ℕ) → valuationCheck run history age n year ≡ passed → valuationCheck run history age 0 year ≡ passed
   unfolding defermentCheck questionCheck
   start-passes n h =
-      let p = both-passed (runAndHistoryCheck run history) (questionCheck (basisWith run history .base) age n year) h in
-      let q = question-parts (basisWith run history .base) age n year (p .1) in
+      let p = both-passed (runAndHistoryCheck run history) (questionCheck (ratedFrom (basisWith run history)) age n year) h in
+      let q = question-parts (ratedFrom (basisWith run history)) age n year (p .1) in
       let v = valuation-passed run history age n year h in
       rw (p .0, q .0, q .2, le-leb (age + 0) 150 (omega (arith, v .age-high))) refl
 
@@ -133,7 +134,7 @@ module _ (run history : List ℕ) (age year : ℕ) where
       let-through n h k s l u =
           let v = valuation-passed run history age n year h in
           rw (
-            both-passed (runAndHistoryCheck run history) (questionCheck (basisWith run history .base) age n year) h .0,
+            both-passed (runAndHistoryCheck run history) (questionCheck (ratedFrom (basisWith run history)) age n year) h .0,
             le-leb 20 (age + k) (omega (arith, v .age-low)),
             le-leb (age + k) 150 (omega (arith, v .age-high)),
             le-leb (basisWith run history .base) (year + k) (omega (arith, v .year-low)),

@@ -2,7 +2,7 @@
 use Prim.Native.Nat.{ℕ}
 use mathlib.Core.List.{List, [], _∷_}
 use lib.IntN.{ℤ, natAbs}
-use Rattle.basis.specs.Basis.{Basis}
+use Rattle.basis.specs.Basis.{Basis, ratedFrom}
 use Rattle.outcome.specs.Outcome.{Outcome, value, refused, checked, andThen, noRefusal}
 use Rattle.survivorship.specs.declared.Kind.the-variants.{Period, Cohort}
 use Rattle.valuation.specs.Valuation.{expectationOf, annuityOf}
@@ -34,4 +34,4 @@ pointAnswerOf (refused r) = record { results = noResults; refusal = r }
 
 -- its own checks, then the four results
 unfoldable pub pointOf : Basis → Question → PointAnswer
-pointOf b q = pointAnswerOf (checked (questionCheck (b .base) (q .age) (q .deferment) (q .year)) (resultsOf b (q .age) (q .deferment) (q .year)))
+pointOf b q = pointAnswerOf (checked (questionCheck (ratedFrom b) (q .age) (q .deferment) (q .year)) (resultsOf b (q .age) (q .deferment) (q .year)))

@@ -6,6 +6,8 @@ use Prim.Native.Nat.{ℕ, _+_, _≤_}
 use native.Mathlib.Omega.{arith}
 use lib.Dec.{leb}
 use borrow.Author.Tests.{leb-true}
+use Rattle.basis.proofs.Rated.{rated-late}
+use Rattle.basis.specs.Basis.{ratedFrom}
 use Rattle.history.specs.Checked.{Life}
 use Rattle.history.specs.History.{basisWith, Workable}
 use Rattle.outcome.specs.Outcome.{passed, firstOf}
@@ -42,24 +44,25 @@ cell-passed first age year h =
     (a .0, a .1, y .0, y .1)
 
 -- each of the three
-pub question-parts : (base age deferment year : ℕ) → questionCheck base age deferment year ≡ passed
-    → (ageCheck age ≡ passed) × (defermentCheck age deferment ≡ passed) × (yearCheck base year ≡ passed)
+pub question-parts : (first age deferment year : ℕ) → questionCheck first age deferment year ≡ passed
+    → (ageCheck age ≡ passed) × (defermentCheck age deferment ≡ passed) × (yearCheck first year ≡ passed)
 unfolding questionCheck
-question-parts base age deferment year h =
-    let p = both-passed (ageCheck age) (firstOf (defermentCheck age deferment) (yearCheck base year)) h in
-    let q = both-passed (defermentCheck age deferment) (yearCheck base year) (p .1) in
+question-parts first age deferment year h =
+    let p = both-passed (ageCheck age) (firstOf (defermentCheck age deferment) (yearCheck first year)) h in
+    let q = both-passed (defermentCheck age deferment) (yearCheck first year) (p .1) in
     (p .0, q .0, q .1)
 
 -- a question that passed on a basis and history that may be worked with asks about a life
 pub question-passed : (run history : List ℕ) (age deferment year : ℕ) → Workable run history
-    → questionCheck (basisWith run history .base) age deferment year ≡ passed → Life run history age deferment year
+    → questionCheck (ratedFrom (basisWith run history)) age deferment year ≡ passed → Life run history age deferment year
 question-passed run history age deferment year usable h =
-    let p = question-parts (basisWith run history .base) age deferment year h in
-    let y = year-passed (basisWith run history .base) year (p .2) in
+    let b = basisWith run history in
+    let p = question-parts (ratedFrom b) age deferment year h in
+    let y = year-passed (ratedFrom b) year (p .2) in
     record {
       usable = usable;
       age-low = age-passed age (p .0) .0;
       age-high = deferment-passed age deferment (p .1);
-      year-low = y .0;
+      year-low = omega (arith, rated-late b, y .0);
       year-high = y .1;
     }

@@ -23,6 +23,6 @@ yearCheck first year = unless (inRange first 2130 year) (refusal 7 year 0)
 abbrev pub cellCheck : ℕ → ℕ → ℕ → Finding
 cellCheck first age year = firstOf (ageCheck age) (yearCheck first year)
 
--- one for survivorship, an expectation or an annuity may name years from B on; year + deferment may be after 2130
+-- one for survivorship, an expectation or an annuity may name years from the first that has a rate on; year + deferment may be after 2130
 unfoldable pub questionCheck : ℕ → ℕ → ℕ → ℕ → Finding
-questionCheck base age deferment year = firstOf (ageCheck age) (firstOf (defermentCheck age deferment) (yearCheck base year))
+questionCheck first age deferment year = firstOf (ageCheck age) (firstOf (defermentCheck age deferment) (yearCheck first year))

@@ -1,7 +1,7 @@
 // What an enquiry asks: its own checks, 6, 8 and 7.
 ghost use mathlib.Core.Path.{_≡_};
 ghost use Rattle.outcome.specs.Outcome.{finding};
-ghost use Rattle.basis.specs.Basis.{basisOf, Accepted};
+ghost use Rattle.basis.specs.Basis.{basisOf, Accepted, ratedFrom};
 ghost use Rattle.question.specs.Question.{inRange, ageCheck, defermentCheck, yearCheck, cellCheck, questionCheck};
 use outcome::Check;
 use outcome::Refusal;
@@ -74,12 +74,12 @@ pub fn check_cell(first: u32, age: u32, year: u32) -> Check
     outcome::first_of(of_age, of_year)
 }
 
-// 6, then 8, then 7, for years from B on.
+// 6, then 8, then 7, for years from the first that has a rate.
 pub fn check_question(run: &[u8], age: u32, deferment: u32, year: u32) -> Check
     requires { ⌜ Accepted (now run) ⌝ }
-    ensures { λ r. ⌜ finding r ≡ questionCheck (basisOf (now (run .entry)) .base) age deferment year ⌝ }
+    ensures { λ r. ⌜ finding r ≡ questionCheck (ratedFrom (basisOf (now (run .entry)))) age deferment year ⌝ }
 {
-    let of_year = check_year(basis::fields::base_year(run), year);
+    let of_year = check_year(basis::fields::rated_from(run), year);
     outcome::first_of(
         check_age(age),
         outcome::first_of(check_deferment(age, deferment), of_year),

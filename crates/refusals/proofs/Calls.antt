@@ -9,7 +9,7 @@ use lib.IntN.{ℤ, pos, natAbs}
 use borrow.Author.Tests.{ne-eqb}
 use lib.ListN.{length}
 use Rattle.layout.specs.Layout.{formOf, runLength, fileLength}
-use Rattle.basis.specs.Basis.{basisOf}
+use Rattle.basis.specs.Basis.{basisOf, ratedFrom}
 use Rattle.outcome.specs.Outcome.{Finding, passed, refusedBy, Outcome, value, refused, firstOf}
 use Rattle.outcome.specs.Refusals.{numbers, recordNumbers, isListed, Listed, RefusesBy, RefusedBy}
 use Rattle.outcome.proofs.Refusals.{first-by, value-by, checked-by, then-by, check-among, work-among, record-numbers, never-zero}
@@ -55,7 +55,7 @@ module _ (run history : List ℕ) where
   cell-checked first age year = first-by (basis-numbered run history) (check-among record-numbers (cell-numbered first age year))
 
   valuation-checked : (age deferment year : ℕ) → RefusesBy numbers (valuationCheck run history age deferment year)
-  valuation-checked age deferment year = first-by (basis-numbered run history) (check-among record-numbers (question-numbered (basisWith run history .base) age deferment year))
+  valuation-checked age deferment year = first-by (basis-numbered run history) (check-among record-numbers (question-numbered (ratedFrom (basisWith run history)) age deferment year))
 
   -- ---- a lifeline
   start-numbered : (age year : ℕ) → RefusesBy numbers (startAt run history age year .check)
@@ -119,7 +119,7 @@ numbered-refusals run history =
       annuityWork = annuity-numbered b;
       improvement = λ age year. checked-by (cell-checked run history (firstYear b) age year) (work-among record-numbers (needed-numbered age year (improvementOf b age year)));
       factor = λ age year. checked-by (cell-checked run history (b .base) age year) (work-among record-numbers (factor-numbered b age year));
-      rate = λ age year. checked-by (cell-checked run history (b .base) age year) (work-among record-numbers (rate-numbered b age year));
+      rate = λ age year. checked-by (cell-checked run history (ratedFrom b) age year) (work-among record-numbers (rate-numbered b age year));
       survivorship = λ kind age deferment year. checked-by (valuation-checked run history age deferment year) (work-among record-numbers (survivors-numbered b kind age deferment year));
       expectation = λ kind age deferment year. checked-by (valuation-checked run history age deferment year) (work-among record-numbers (expectation-numbered b kind age deferment year));
       annuity = λ kind age deferment year. checked-by (valuation-checked run history age deferment year) (work-among record-numbers (annuity-numbered b kind age deferment year));

@@ -3,7 +3,7 @@ use mathlib.Core.List.{[], _∷_}
 use Prim.Native.Nat.{ℕ, suc, _+_, _-_, _/_}
 use lib.IntN.{ℤ, pos, natAbs, _+ℤ_}
 use Rattle.arithmetic.specs.Fraction.{U}
-use Rattle.basis.specs.Basis.{Basis}
+use Rattle.basis.specs.Basis.{Basis, ratedFrom}
 use Rattle.outcome.specs.Outcome.{Outcome}
 use Rattle.outcome.specs.Refusals.{recordNumbers, RefusedBy}
 use Rattle.outcome.proofs.Refusals.{value-by, checked-by, then-by, steps-by, sum-by}
@@ -53,7 +53,7 @@ four-numbered p q r s = then-by p (λ i. then-by q (λ j. then-by r (λ k. then-
 pub work-numbered : (b : Basis) (q : Question) → RefusedBy recordNumbers (workOn b q)
 unfolding resultsOf
 work-numbered b q =
-    checked-by (question-numbered (b .base) (q .age) (q .deferment) (q .year))
+    checked-by (question-numbered (ratedFrom b) (q .age) (q .deferment) (q .year))
     (four-numbered
     (expectation-numbered b Period (q .age) (q .deferment) (q .year))
     (expectation-numbered b Cohort (q .age) (q .deferment) (q .year))

@@ -6,7 +6,7 @@ use mathlib.Core.List.{List, _++_}
 use Prim.Native.Nat.{ℕ}
 use lib.IntN.{ℤ}
 use Rattle.outcome.specs.declared.Refusal.{Refusal}
-use Rattle.basis.specs.Basis.{Basis}
+use Rattle.basis.specs.Basis.{Basis, ratedFrom}
 use Rattle.outcome.specs.Outcome.{Finding, passed, Outcome, value, refused, checked}
 use Rattle.outcome.specs.Refusals.{numbers, recordNumbers, isListed, Listed, RefusesBy, RefusedBy}
 use Rattle.run_check.specs.Run.{runCheck}
@@ -39,7 +39,7 @@ use Rattle.enquiry_lines.specs.Output.{filesCheck}
 
 -- the work on a question: its own checks, then the four results
 abbrev pub workOn : Basis → Question → Outcome (List ℕ)
-workOn b q = checked (questionCheck (b .base) (q .age) (q .deferment) (q .year)) (resultsOf b (q .age) (q .deferment) (q .year))
+workOn b q = checked (questionCheck (ratedFrom b) (q .age) (q .deferment) (q .year)) (resultsOf b (q .age) (q .deferment) (q .year))
 
 -- ---- every call, by the definition that its contract cites
 pub record NumberedRefusals (run history : List ℕ) : Type 0 where

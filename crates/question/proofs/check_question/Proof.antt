@@ -7,8 +7,8 @@ use Rattle.outcome.proofs.Outcome.{first-same}
 use Rattle.question.proofs.check_question.Statement.{statement}
 use Rattle.question.proofs.check_question.Tie as tie
 
-base-year-requires : tie.Need-base-year-requires
-base-year-requires c κs = search needs
+rated-from-requires : tie.Need-rated-from-requires
+rated-from-requires c κs = search needs
 
 check-year-requires : tie.Need-check-year-requires
 check-year-requires c κs = search needs
@@ -34,10 +34,10 @@ returns c =
     let y = a .before in
     let b = y .before in
     let x = b .before .before .args in
-    let year = y .check-year .ensures ∙ ap (λ (first : ℕ). yearCheck first (x .year)) (b .base-year .ensures) in
+    let year = y .check-year .ensures ∙ ap (λ (first : ℕ). yearCheck first (x .year)) (b .rated-from .ensures) in
     c .first-of2 .ensures ∙ first-same (a .check-age .ensures) (inner .first-of .ensures ∙ first-same (d .check-deferment .ensures) year)
 
 pub check-question-spec : {M : Type 1} → statement M
 check-question-spec =
     tie.close
-    (tie.spec base-year-requires check-year-requires check-age-requires check-deferment-requires first-of-requires first-of-requires-2 returns)
+    (tie.spec rated-from-requires check-year-requires check-age-requires check-deferment-requires first-of-requires first-of-requires-2 returns)

@@ -1,7 +1,8 @@
 -- The checks decide first; what they let pass is all that the work asks for.
 use mathlib.Core.Path.{_∙_, sym}
-use native.Mathlib.Omega.{arith}
 use borrow.Author.Needs.{needs}
+use Rattle.basis.specs.Basis.{ratedFrom}
+use Rattle.basis.proofs.Rated.{rated-late}
 use Rattle.history.specs.History.{basisWith}
 use Rattle.outcome.proofs.Outcome.{found, checked-passed, checked-refused}
 use Rattle.enquiry.specs.Enquiry.{rateEnquiry}
@@ -9,8 +10,8 @@ use Rattle.enquiry.proofs.Passed.{cell-passed}
 use Rattle.enquiry.proofs.cells.rate.Statement.{statement}
 use Rattle.enquiry.proofs.cells.rate.Tie as tie
 
-check-from-base-requires : tie.Need-check-from-base-requires
-check-from-base-requires c κs = search needs
+check-from-rated-requires : tie.Need-check-from-rated-requires
+check-from-rated-requires c κs = search needs
 
 enum-told : tie.Need-enum-told
 enum-told c = search needs
@@ -18,8 +19,9 @@ enum-told c = search needs
 rate-at-requires : tie.Need-rate-at-requires
 rate-at-requires c κs =
     let a = c .before .before .before .before .before .args in
-    let passed = found (c .before .before .check-from-base .ensures) (c .enum-told .given .1) in
-    cell-passed (a .run .now) (a .history .now) (basisWith (a .run .now) (a .history .now) .base) (a .age) (a .year) (omega arith) passed
+    let b = basisWith (a .run .now) (a .history .now) in
+    let passed = found (c .before .before .check-from-rated .ensures) (c .enum-told .given .1) in
+    cell-passed (a .run .now) (a .history .now) (ratedFrom b) (a .age) (a .year) (rated-late b) passed
 
 enum-known-r : tie.Need-enum-known-r
 enum-known-r c = search needs
@@ -28,13 +30,13 @@ returns : tie.Need-returns
 unfolding rateEnquiry
 returns c =
     let told = c .before in
-    c .rate-at .ensures ∙ sym (checked-passed _ _ (found (told .before .before .check-from-base .ensures) (told .enum-told .given .1)))
+    c .rate-at .ensures ∙ sym (checked-passed _ _ (found (told .before .before .check-from-rated .ensures) (told .enum-told .given .1)))
 
 returns-2 : tie.Need-returns-2
 unfolding rateEnquiry
-returns-2 c = sym (checked-refused _ _ _ (found (c .before .before .before .check-from-base .ensures) (c .before .r .given .1)))
+returns-2 c = sym (checked-refused _ _ _ (found (c .before .before .before .check-from-rated .ensures) (c .before .r .given .1)))
 
 pub rate-spec : {M : Type 1} → statement M
 rate-spec =
     tie.close
-    (tie.spec check-from-base-requires enum-told rate-at-requires enum-known-r returns returns-2)
+    (tie.spec check-from-rated-requires enum-told rate-at-requires enum-known-r returns returns-2)

@@ -1,6 +1,7 @@
 -- Once they have passed the run is accepted; then the question's own checks decide.
 use mathlib.Core.Path.{_∙_, sym}
 use borrow.Author.Needs.{needs}
+use Rattle.basis.specs.Basis.{ratedFrom}
 use Rattle.outcome.proofs.Outcome.{found, first-passed, first-refused}
 use Rattle.history.proofs.Acceptance.{accepted-workable}
 use Rattle.enquiry.proofs.values.check_valuation.Statement.{statement}
@@ -21,6 +22,7 @@ enum-known-r : tie.Need-enum-known-r
 enum-known-r c = search needs
 
 returns : tie.Need-returns
+unfolding ratedFrom
 returns c =
     let told = c .before in
     c .check-question .ensures ∙ sym (first-passed _ _ (found (told .before .before .check-run-and-history .ensures) (told .enum-told .given .1)))
