@@ -39,7 +39,7 @@ at-most {age} l apart = by (decLt age 150)
 below : (run history : List ℕ) (p : Position) → stepAt run history p .says ≡ value advanced → p .age < 150
 below run history p h =
     let c = step-advanced run history p h in
-    at-most (step-passed run history p (c .0) .2) (eqb-false (p .age) 150 (c .1))
+    at-most (step-passed run history p (c .0) .0 .age-high) (eqb-false (p .age) 150 (c .1))
 
 module _ (run history : List ℕ) (age year : ℕ) where
   -- a start that is not refused has passed its checks

@@ -10,15 +10,15 @@ use Rattle.question.proofs.Numbered.{age-numbered}
 use Rattle.lifeline.specs.declared.Position.{Position}
 use Rattle.lifeline.specs.Lifeline.{lastYearAt, stepYearCheck, survivorsCheck, positionCheck}
 
-step-year-numbered : (base age year : ℕ) → RefusesBy numbers (stepYearCheck base age year)
+step-year-numbered : (first age year : ℕ) → RefusesBy numbers (stepYearCheck first age year)
 unfolding stepYearCheck numbers isListed
-step-year-numbered base age year = unless-by (inRange base (lastYearAt age) year) _ refl
+step-year-numbered first age year = unless-by (inRange first (lastYearAt age) year) _ refl
 
 survivors-numbered : (size survivors : ℕ) → RefusesBy numbers (survivorsCheck size survivors)
 unfolding survivorsCheck numbers isListed
 survivors-numbered size survivors = unless-by (leb survivors U) _ refl
 
-pub position-numbered : (size base : ℕ) (p : Position) → RefusesBy numbers (positionCheck size base p)
+pub position-numbered : (size first : ℕ) (p : Position) → RefusesBy numbers (positionCheck size first p)
 unfolding positionCheck
-position-numbered size base p =
-    first-by (check-among record-numbers (age-numbered (p .age))) (first-by (step-year-numbered base (p .age) (p .year)) (survivors-numbered size (p .survivors)))
+position-numbered size first p =
+    first-by (check-among record-numbers (age-numbered (p .age))) (first-by (step-year-numbered first (p .age) (p .year)) (survivors-numbered size (p .survivors)))

@@ -12,7 +12,10 @@ use Rattle.arithmetic.specs.Fraction.{U}
 use Rattle.outcome.specs.declared.Refusal.{Refusal}
 use Rattle.outcome.specs.Outcome.{Finding, passed, refusedBy, Outcome, value, refused, firstOf}
 use Rattle.outcome.proofs.Outcome.{unless-passed, both-passed}
-use Rattle.history.specs.History.{basisWith, runAndHistoryCheck, Workable}
+use Rattle.basis.specs.Basis.{ratedFrom}
+use Rattle.basis.proofs.Rated.{rated-late}
+use Rattle.history.specs.Checked.{Cell}
+use Rattle.history.specs.History.{basisWith, runAndHistoryCheck}
 use Rattle.history.proofs.Acceptance.{accepted-workable}
 use Rattle.question.specs.Question.{inRange, ageCheck}
 use Rattle.enquiry.specs.Enquiry.{valuationCheck}
@@ -23,25 +26,26 @@ use Rattle.lifeline.specs.Said.{advanced, ended, Step}
 use Rattle.lifeline.specs.Lifeline.{positionAt, startWith, startAt, lastYearAt, stepYearCheck, positionCheck, survivorsCheck, stepCheck}
 use Rattle.lifeline.specs.Lifeline.{stepTo, yearLater, yearUnlessEnded, unlessRefused, stepAt}
 
-step-year-passed : (base age year : ℕ) → stepYearCheck base age year ≡ passed → (base ≤ year) × (year ≤ lastYearAt age)
+step-year-passed : (first age year : ℕ) → stepYearCheck first age year ≡ passed → (first ≤ year) × (year ≤ lastYearAt age)
 unfolding stepYearCheck
-step-year-passed base age year h = in-range base (lastYearAt age) year (unless-passed (inRange base (lastYearAt age) year) _ h)
+step-year-passed first age year h = in-range first (lastYearAt age) year (unless-passed (inRange first (lastYearAt age) year) _ h)
 
 survivors-passed : (size survivors : ℕ) → survivorsCheck size survivors ≡ passed → survivors ≤ U
 unfolding survivorsCheck
 survivors-passed size survivors h = leb-true survivors U (unless-passed (leb survivors U) _ h)
 
 pub step-passed : (run history : List ℕ) (p : Position) → stepCheck run history p ≡ passed
-    → Workable run history × (20 ≤ p .age) × (p .age ≤ 150) × (basisWith run history .base ≤ p .year) × (p .year ≤ lastYearAt (p .age)) × (p .survivors ≤ U)
+    → Cell run history (p .age) (p .year) × (p .year ≤ lastYearAt (p .age)) × (p .survivors ≤ U)
 unfolding positionCheck
 step-passed run history p h =
-    let base = basisWith run history .base in
-    let c = both-passed (runAndHistoryCheck run history) (positionCheck (length run) base p) h in
-    let q = both-passed (ageCheck (p .age)) (firstOf (stepYearCheck base (p .age) (p .year)) (survivorsCheck (length run) (p .survivors))) (c .1) in
-    let s = both-passed (stepYearCheck base (p .age) (p .year)) (survivorsCheck (length run) (p .survivors)) (q .1) in
+    let first = ratedFrom (basisWith run history) in
+    let c = both-passed (runAndHistoryCheck run history) (positionCheck (length run) first p) h in
+    let q = both-passed (ageCheck (p .age)) (firstOf (stepYearCheck first (p .age) (p .year)) (survivorsCheck (length run) (p .survivors))) (c .1) in
+    let s = both-passed (stepYearCheck first (p .age) (p .year)) (survivorsCheck (length run) (p .survivors)) (q .1) in
     let a = age-passed (p .age) (q .0) in
-    let y = step-year-passed base (p .age) (p .year) (s .0) in
-    (accepted-workable run history (c .0), a .0, a .1, y .0, y .1, survivors-passed (length run) (p .survivors) (s .1))
+    let y = step-year-passed first (p .age) (p .year) (s .0) in
+    let cell : Cell run history (p .age) (p .year) = record { usable = accepted-workable run history (c .0); age-low = a .0; age-high = a .1; year-low = omega (arith, y .0, rated-late (basisWith run history)) } in
+    (cell, y .1, survivors-passed (length run) (p .survivors) (s .1))
 
 -- ---- the start
 module _ (run history : List ℕ) (age year : ℕ) where

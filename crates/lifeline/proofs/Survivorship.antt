@@ -17,7 +17,7 @@ use Rattle.survivorship.specs.declared.Kind.the-variants.{Cohort}
 use Rattle.question.specs.Question.{ageCheck, defermentCheck, questionCheck}
 use Rattle.enquiry.specs.Enquiry.{valuationCheck, survivorshipEnquiry}
 use Rattle.survivorship.specs.Survivorship.{survivorsAfterYear, survivorsOf}
-use Rattle.question.proofs.Passed.{question-parts}
+use Rattle.question.proofs.Passed.{year-passed, question-parts}
 use Rattle.enquiry.proofs.Passed.{valuation-passed}
 use Rattle.survivorship.proofs.Survivors.{survivors-first, survivors-next, survivors-refused, survivors-natural, survivors-small}
 use Rattle.lifeline.specs.declared.Position.{Position}
@@ -133,11 +133,13 @@ module _ (run history : List ℕ) (age year : ℕ) where
       let-through : (n : ℕ) → valuationCheck run history age n year ≡ passed → LetThrough n
       let-through n h k s l u =
           let v = valuation-passed run history age n year h in
+          let checks = both-passed (runAndHistoryCheck run history) (questionCheck (ratedFrom (basisWith run history)) age n year) h in
+          let rated = year-passed _ year (question-parts _ age n year (checks .1) .2) .0 in
           rw (
-            both-passed (runAndHistoryCheck run history) (questionCheck (ratedFrom (basisWith run history)) age n year) h .0,
+            checks .0,
             le-leb 20 (age + k) (omega (arith, v .age-low)),
             le-leb (age + k) 150 (omega (arith, v .age-high)),
-            le-leb (basisWith run history .base) (year + k) (omega (arith, v .year-low)),
+            le-leb (ratedFrom (basisWith run history)) (year + k) (omega (arith, rated)),
             le-leb (year + k) (lastYearAt (age + k)) (omega (arith, v .age-low, v .year-high)),
             le-leb s U u,
           )

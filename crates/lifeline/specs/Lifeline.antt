@@ -7,7 +7,7 @@ use lib.ListN.{length}
 use lib.Dec.{eqb, leb}
 use lib.IntN.{ℤ, pos, natAbs}
 use Rattle.arithmetic.specs.Fraction.{U}
-use Rattle.basis.specs.Basis.{Basis}
+use Rattle.basis.specs.Basis.{Basis, ratedFrom}
 use Rattle.history.specs.History.{basisWith, runAndHistoryCheck}
 use Rattle.outcome.specs.Outcome.{Finding, passed, refusedBy, Outcome, value, refused, refusal, unless, firstOf}
 use Rattle.question.specs.Question.{inRange, ageCheck}
@@ -37,9 +37,9 @@ startAt run history age year = startUnlessRefused age year (valuationCheck run h
 abbrev pub lastYearAt : ℕ → ℕ
 lastYearAt age = 2110 + age
 
--- 7: before B, or year − age after 2110; a year after 2130 may stand
+-- 7: before the first year of a rate, or year − age after 2110; a year after 2130 may stand
 unfoldable pub stepYearCheck : ℕ → ℕ → ℕ → Finding
-stepYearCheck base age year = unless (inRange base (lastYearAt age) year) (refusal 7 year 0)
+stepYearCheck first age year = unless (inRange first (lastYearAt age) year) (refusal 7 year 0)
 
 -- 5: survivors above U, places the length of the data run and 0
 unfoldable pub survivorsCheck : ℕ → ℕ → Finding
@@ -47,11 +47,11 @@ survivorsCheck size survivors = unless (leb survivors U) (refusal 5 size 0)
 
 -- the age (6), the year, then the survivors
 unfoldable pub positionCheck : ℕ → ℕ → Position → Finding
-positionCheck size base p = firstOf (ageCheck (p .age)) (firstOf (stepYearCheck base (p .age) (p .year)) (survivorsCheck size (p .survivors)))
+positionCheck size first p = firstOf (ageCheck (p .age)) (firstOf (stepYearCheck first (p .age) (p .year)) (survivorsCheck size (p .survivors)))
 
 -- first of all the data run, and directly after it the history
 abbrev pub stepCheck : List ℕ → List ℕ → Position → Finding
-stepCheck run history p = firstOf (runAndHistoryCheck run history) (positionCheck (length run) (basisWith run history .base) p)
+stepCheck run history p = firstOf (runAndHistoryCheck run history) (positionCheck (length run) (ratedFrom (basisWith run history)) p)
 
 -- ---- the step
 abbrev pub stepTo : Position → Outcome Said → Step

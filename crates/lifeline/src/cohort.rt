@@ -4,8 +4,9 @@ ghost use Prim.Native.Nat.{_+_, _≤_, _<_};
 ghost use lib.ListN.{length};
 ghost use lib.IntN.{pos};
 ghost use Rattle.outcome.specs.Outcome.{finding};
-ghost use Rattle.basis.specs.Basis.{basisOf, Accepted};
-ghost use Rattle.history.specs.History.{basisWith, Workable};
+ghost use Rattle.basis.specs.Basis.{basisOf, ratedFrom, Accepted};
+ghost use Rattle.history.specs.Checked.{Cell};
+ghost use Rattle.history.specs.History.{basisWith};
 ghost use Rattle.question.specs.Question.{inRange};
 ghost use Rattle.survivorship.specs.Survivorship.{survivorsAfterYear};
 ghost use Rattle.lifeline.specs.Said.{startMeaning, stepMeaning};
@@ -44,17 +45,17 @@ pub fn start_at(run: &[u8], history: &[u8], age: u32, year: u32) -> LifelineStar
 }
 
 // From B on, with a birth year up to 2110. The sum is made in 64 bits, where it cannot wrap.
-fn is_step_year(base: u32, age: u32, year: u32) -> bool
-    ensures { λ r. ⌜ r ≡ inRange base (lastYearAt age) year ⌝ }
+fn is_step_year(first: u32, age: u32, year: u32) -> bool
+    ensures { λ r. ⌜ r ≡ inRange first (lastYearAt age) year ⌝ }
 {
-    base <= year && year as u64 <= 2110 + age as u64
+    first <= year && year as u64 <= 2110 + age as u64
 }
 
 // 7: any other year.
-fn check_step_year(base: u32, age: u32, year: u32) -> Check
-    ensures { λ r. ⌜ finding r ≡ stepYearCheck base age year ⌝ }
+fn check_step_year(first: u32, age: u32, year: u32) -> Check
+    ensures { λ r. ⌜ finding r ≡ stepYearCheck first age year ⌝ }
 {
-    if is_step_year(base, age, year) {
+    if is_step_year(first, age, year) {
         Check::Passed
     } else {
         Check::Refused(Refusal {
@@ -83,9 +84,9 @@ fn check_survivors(run: &[u8], survivors: u64) -> Check
 // The age, the year, then the survivors.
 fn check_position(run: &[u8], position: Position) -> Check
     requires { ⌜ Accepted (now run) ⌝ }
-    ensures { λ r. ⌜ finding r ≡ positionCheck (length (now (run .entry))) (basisOf (now (run .entry)) .base) position ⌝ }
+    ensures { λ r. ⌜ finding r ≡ positionCheck (length (now (run .entry))) (ratedFrom (basisOf (now (run .entry)))) position ⌝ }
 {
-    let of_year = check_step_year(basis::fields::base_year(run), position.age, position.year);
+    let of_year = check_step_year(basis::fields::rated_from(run), position.age, position.year);
     outcome::first_of(
         question::check_age(position.age),
         outcome::first_of(of_year, check_survivors(run, position.survivors)),
@@ -104,8 +105,8 @@ fn check_step(run: &[u8], history: &[u8], position: Position) -> Check
 
 // One year of cohort survivorship; where its rate is refused, the position is unchanged.
 fn year_later(run: &[u8], history: &[u8], position: Position) -> LifelineStep
-    requires { ⌜ Workable (now run) (now history) × (20 ≤ position .age) × (position .age < 150) × (basisWith (now run) (now history) .base ≤ position .year)
-        × (position .year ≤ 2260) × (position .survivors ≤ 1_000_000_000) ⌝ }
+    requires { ⌜ Cell (now run) (now history) (position .age) (position .year) × (position .age < 150) × (position .year ≤ 2260)
+        × (position .survivors ≤ 1_000_000_000) ⌝ }
     ensures { λ r. ⌜ stepMeaning r ≡ yearLater position
         (survivorsAfterYear (basisWith (now (run .entry)) (now (history .entry))) (position .age) (position .year) (pos (position .survivors))) ⌝ }
 {

@@ -31,7 +31,7 @@ deferment-passed : (age deferment : ℕ) → defermentCheck age deferment ≡ pa
 unfolding defermentCheck
 deferment-passed age deferment h = leb-true (age + deferment) 150 (unless-passed (leb (age + deferment) 150) _ h)
 
-year-passed : (first year : ℕ) → yearCheck first year ≡ passed → (first ≤ year) × (year ≤ 2130)
+pub year-passed : (first year : ℕ) → yearCheck first year ≡ passed → (first ≤ year) × (year ≤ 2130)
 unfolding yearCheck
 year-passed first year h = in-range first 2130 year (unless-passed (inRange first 2130 year) _ h)
 

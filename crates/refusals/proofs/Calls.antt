@@ -68,7 +68,7 @@ module _ (run history : List ℕ) where
 
   step-numbered : (p : Position) → RefusedBy numbers (stepAt run history p .says)
   step-numbered p =
-      let own = first-by (basis-numbered run history) (position-numbered (length run) (basisWith run history .base) p) in
+      let own = first-by (basis-numbered run history) (position-numbered (length run) (ratedFrom (basisWith run history)) p) in
       let year = work-among record-numbers (year-numbered (basisWith run history) (p .age) (p .year) (pos (p .survivors))) in
       rw (is-cohort-survivorship run history (p .age) (p .year) .says (p .survivors)) (checked-by own (by (eqb (p .age) 150) (then-by year (λ s. value-by advanced))))
     where

@@ -7,8 +7,8 @@ use Rattle.lifeline.specs.Lifeline.{stepYearCheck, positionCheck}
 use Rattle.lifeline.proofs.cohort.check_position.Statement.{statement}
 use Rattle.lifeline.proofs.cohort.check_position.Tie as tie
 
-base-year-requires : tie.Need-base-year-requires
-base-year-requires c κs = search needs
+rated-from-requires : tie.Need-rated-from-requires
+rated-from-requires c κs = search needs
 
 check-step-year-requires : tie.Need-check-step-year-requires
 check-step-year-requires c κs = search needs
@@ -34,10 +34,10 @@ returns c =
     let y = a .before in
     let b = y .before in
     let x = b .before .before .args in
-    let year = y .check-step-year .ensures ∙ ap (λ (first : ℕ). stepYearCheck first (x .position .age) (x .position .year)) (b .base-year .ensures) in
+    let year = y .check-step-year .ensures ∙ ap (λ (first : ℕ). stepYearCheck first (x .position .age) (x .position .year)) (b .rated-from .ensures) in
     c .first-of2 .ensures ∙ first-same (a .check-age .ensures) (inner .first-of .ensures ∙ first-same year (s .check-survivors .ensures))
 
 pub check-position-spec : {M : Type 1} → statement M
 check-position-spec =
     tie.close
-    (tie.spec base-year-requires check-step-year-requires check-age-requires check-survivors-requires first-of-requires first-of-requires-2 returns)
+    (tie.spec rated-from-requires check-step-year-requires check-age-requires check-survivors-requires first-of-requires first-of-requires-2 returns)

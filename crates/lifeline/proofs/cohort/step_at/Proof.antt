@@ -19,7 +19,7 @@ year-later-requires c κs =
     let told = c .before .before in
     let a = told .before .before .before .before .before .args in
     let p = step-passed (a .run .now) (a .history .now) (a .position) (found (told .before .before .check-step .ensures) (told .enum-told .given .1)) in
-    (p .0, p .1, omega (arith, p .2), p .3, omega (arith, p .2, p .4), p .5)
+    (p .0, omega (arith, p .0 .age-high), omega (arith, p .0 .age-high, p .1), p .2)
 
 enum-known-x : tie.Need-enum-known-x
 enum-known-x c = search needs
