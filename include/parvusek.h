@@ -1,8 +1,15 @@
-/* The engine's surface for C. Every call is total: any pointer with its true length, any number.
+/* The engine's surface for C. Every call is total: any bytes with their true length, any number.
    No call keeps a pointer, allocates, or writes anything but the lent output it names, and that only where it is
-   not refused. A length of 0 may come with any pointer. An input and an output of one call must not overlap.
-   There is no shared state: any number of threads may call at once, also on the same data run and history.
+   not refused. There is no shared state: any number of threads may call at once, also on the same data run and history.
    Units: 1,000,000,000 to one.
+
+   What a call asks of its pointers, and does not check:
+   - The length is the true one: so many bytes, records or 8-byte numbers are there, and those of an output may be
+     written. A length of 0 may come with any pointer.
+   - The records of the grid (parvusek_point_t *) and the numbers of a roll (uint64_t *) are aligned for their type, as
+     every array of that type is. Bytes may stand anywhere.
+   - No input overlaps an output. Where one does, a call that is not refused may have written a wrong file, run, record
+     or roll.
 
    A basis comes as a file; parvusek_read_basis makes of it, once, the data run that the other calls are lent. Every
    call checks its data run afresh (1, 4, 5), so nothing depends on where the host keeps it.

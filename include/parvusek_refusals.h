@@ -8,10 +8,11 @@
 
 #include "parvusek.h"
 
-/* What a refusal says. A number that no refusal has (0, or above 16) gives "not refused" or "no such refusal". */
+/* What a refusal says. The number 0 gives "not refused", and any other that no refusal has "no such refusal". */
 static inline const char *parvusek_refusal_sentence(uint32_t number) {
     switch (number) {
     case 0: return "not refused";
+    /* made by tools/make_refusals: sentences */
     case 1: return "file not 4,608 bytes, or data run not 4,554";
     case 2: return "a block's check is wrong";
     case 3: return "a block's number is not its place";
@@ -28,6 +29,7 @@ static inline const char *parvusek_refusal_sentence(uint32_t number) {
     case 14: return "the roll is full";
     case 15: return "the member number is not on the roll";
     case 16: return "the member number is on the roll already";
+    /* end of what tools/make_refusals makes */
     default: return "no such refusal";
     }
 }
@@ -35,6 +37,7 @@ static inline const char *parvusek_refusal_sentence(uint32_t number) {
 /* What the first place of a refusal is; NULL where it has none. */
 static inline const char *parvusek_refusal_first(uint32_t number) {
     switch (number) {
+    /* made by tools/make_refusals: first places */
     case 2: case 3: return "block";
     case 4: case 5: return "offset";
     case 6: case 8: case 9: case 10: return "age";
@@ -42,6 +45,7 @@ static inline const char *parvusek_refusal_first(uint32_t number) {
     case 11: case 13: return "needed";
     case 12: return "line";
     case 14: case 15: case 16: return "member";
+    /* end of what tools/make_refusals makes */
     default: return NULL;
     }
 }
@@ -49,8 +53,10 @@ static inline const char *parvusek_refusal_first(uint32_t number) {
 /* What the second place of a refusal is; NULL where it has none. */
 static inline const char *parvusek_refusal_second(uint32_t number) {
     switch (number) {
+    /* made by tools/make_refusals: second places */
     case 8: return "deferment";
     case 9: case 10: return "year";
+    /* end of what tools/make_refusals makes */
     default: return NULL;
     }
 }

@@ -17,6 +17,7 @@
 
 #define PROGRAM "keep_roll"
 #include "example_basis.h"
+#include "example_rows.h"
 
 /* ---- the list of calls */
 
@@ -24,29 +25,6 @@ typedef struct {
     int is_join;
     uint32_t number, age, pension;
 } call_t;
-
-/* These take a word, or a number of 32 bits without a needless leading zero, from the front of a text, and hand back what
-   stands behind it; NULL where it does not stand there. Of NULL they take nothing, so that one can follow the other. */
-static const char *take(const char *text, const char *word) {
-    size_t length = strlen(word);
-    return text != NULL && strncmp(text, word, length) == 0 ? text + length : NULL;
-}
-
-static const char *take_number(const char *text, uint32_t *number) {
-    uint64_t value = 0;
-    const char *at = text;
-    if (text == NULL) {
-        return NULL;
-    }
-    for (; *at >= '0' && *at <= '9' && at - text < 10; at++) {
-        value = 10 * value + (uint64_t)(*at - '0');
-    }
-    *number = (uint32_t)value;
-    if (at == text || (*text == '0' && at - text > 1) || value > UINT32_MAX) {
-        return NULL;
-    }
-    return at;
-}
 
 /* Whether a row is a call. */
 static int read_call(const char *row, call_t *call) {
@@ -61,29 +39,6 @@ static int read_call(const char *row, call_t *call) {
     }
     rest = take_number(take(row, "leave,"), &call->number);
     return rest != NULL && (*rest == ',' || *rest == '\0');
-}
-
-/* The next row without its line end. Hands back 1, or 0 at the end of the list or where it cannot be read. A row that is
-   longer than there is room for, or has a zero byte, is handed back empty, which is no call, so that no part of it is
-   taken for a row. */
-static int next_row(FILE *list, char *row, size_t size) {
-    size_t length = 0;
-    int is_text = 1, byte = getc(list);
-    if (byte == EOF) {
-        return 0;
-    }
-    for (; byte != EOF && byte != '\n'; byte = getc(list)) {
-        if (byte == '\0' || length + 1 == size) {
-            is_text = 0;
-        } else {
-            row[length++] = (char)byte;
-        }
-    }
-    if (length > 0 && row[length - 1] == '\r') {
-        length--;
-    }
-    row[is_text ? length : 0] = '\0';
-    return !ferror(list);
 }
 
 /* ---- the roll */

@@ -2,8 +2,9 @@
 
      value_members BASIS.bin [MEMBERS.csv [HISTORY.bin]]
 
-   MEMBERS.csv has the header row member,age,deferment,year; without it the three members below are valued. HISTORY.bin
-   is needed where the base year of the basis is before its foundation year.
+   MEMBERS.csv has the header row member,age,deferment,year; without it the three members below are valued. A name has 1
+   to 23 bytes, and no number has a needless leading zero. HISTORY.bin is needed where the base year of the basis is before
+   its foundation year.
    Exit status: 0 done (refused members are part of the table), 1 the basis is refused, a file cannot be used or the
    library is another, 2 usage. */
 #include <errno.h>
@@ -15,6 +16,7 @@
 
 #define PROGRAM "value_members"
 #include "example_basis.h"
+#include "example_rows.h"
 
 typedef struct {
     char name[24];
@@ -74,31 +76,35 @@ static void value(const basis_t *basis, const member_t *members, size_t count) {
 
 /* ---- the list of members */
 
+/* Whether a row is a member with a question. */
+static int read_member(const char *row, member_t *member) {
+    size_t length = strcspn(row, ",");
+    const char *rest = row + length;
+    if (length == 0 || length >= sizeof member->name) {
+        return 0;
+    }
+    memcpy(member->name, row, length);
+    member->name[length] = '\0';
+    rest = take_number(take(rest, ","), &member->question.age);
+    rest = take_number(take(rest, ","), &member->question.deferment);
+    rest = take_number(take(rest, ","), &member->question.year);
+    return rest != NULL && *rest == '\0';
+}
+
 /* Values the rows below the header, six at a time. Hands back 0, or 1 where it has said what is wrong. */
-static int value_list(const basis_t *basis, const char *path) {
+static int value_rows(const basis_t *basis, const char *path, FILE *list) {
     member_t members[PARVUSEK_SMALL_SET];
     size_t count = 0;
     unsigned long line = 1;
     char row[256];
-    FILE *list = fopen(path, "r");
-    if (list == NULL) {
-        fprintf(stderr, PROGRAM ": %s: %s\n", path, strerror(errno));
-        return 1;
-    }
-    if (fgets(row, sizeof row, list) == NULL || strcmp(row, "member,age,deferment,year\n") != 0) {
+    if (next_row(list, row, sizeof row) == 0 || strcmp(row, "member,age,deferment,year") != 0) {
         fprintf(stderr, PROGRAM ": %s does not begin with the row member,age,deferment,year\n", path);
-        fclose(list);
         return 1;
     }
-    while (fgets(row, sizeof row, list) != NULL) {
-        member_t *member = &members[count];
-        int length = 0;
+    while (next_row(list, row, sizeof row) != 0) {
         line++;
-        if (sscanf(row, "%23[^,],%4" SCNu32 ",%4" SCNu32 ",%4" SCNu32 "%n", member->name, &member->question.age,
-                   &member->question.deferment, &member->question.year, &length) != 4
-            || (row[length] != '\n' && row[length] != '\0')) {
+        if (!read_member(row, &members[count])) {
             fprintf(stderr, PROGRAM ": %s, line %lu is not a member, an age, a deferment and a year\n", path, line);
-            fclose(list);
             return 1;
         }
         if (++count == PARVUSEK_SMALL_SET) {
@@ -106,9 +112,29 @@ static int value_list(const basis_t *basis, const char *path) {
             count = 0;
         }
     }
+    if (ferror(list)) {
+        fprintf(stderr, PROGRAM ": %s cannot be read to its end\n", path);
+        return 1;
+    }
     value(basis, members, count);
-    fclose(list);
     return 0;
+}
+
+/* Opens the list and values it. Hands back 0, or 1 where it has said what is wrong. */
+static int value_list(const basis_t *basis, const char *path) {
+    int status;
+    FILE *list = fopen(path, "r");
+    if (list == NULL) {
+        fprintf(stderr, PROGRAM ": %s: %s\n", path, strerror(errno));
+        return 1;
+    }
+    status = value_rows(basis, path, list);
+    fclose(list);
+    if (fflush(stdout) != 0 || ferror(stdout)) {
+        fprintf(stderr, PROGRAM ": not all could be printed\n");
+        return 1;
+    }
+    return status;
 }
 
 int main(int count, char **words) {

@@ -1,4 +1,4 @@
-"""Lists of calls on rolls, each worked out from its calls alone by outside/, against the library: after every call the
+"""Lists of calls on rolls, each worked out from its calls alone by reference_model/, against the library: after every call the
 answer, and all the numbers that are lent, with further ones before and behind them.
 
 Usage: check_rolls.py LIBRARY [SEED]    (a shared library made from libengine.a)
@@ -14,11 +14,11 @@ from pathlib import Path
 from boundary import Answer, Engine, Refusal, places, with_lengths
 
 sys.path.insert(0, str(Path(__file__).parents[2]))
-from outside.basis import check_run
-from outside.refusals import Refusal as Refused, outcome
-from outside.roll import GREATEST_PENSION, MOST_MEMBERS, Join, Leave, Roll
-from outside.roll_calls import BAD_YEARS, EMPTYING, FILLING, FULL, MIXED, YEARS, Caller, Open, Total, any_numbers
-from outside.roll_numbers import COUNT, LENGTH, check_length, open_numbers, read_numbers, wrapped, write_members
+from reference_model.basis import check_run
+from reference_model.refusals import Refusal as Refused, outcome
+from reference_model.roll import GREATEST_PENSION, MOST_MEMBERS, Join, Leave, Roll
+from reference_model.roll_calls import BAD_YEARS, EMPTYING, FILLING, FULL, MIXED, YEARS, Caller, Open, Total, any_numbers
+from reference_model.roll_numbers import COUNT, LENGTH, check_length, open_numbers, read_numbers, wrapped, write_members
 
 GUARD = [0xA5A5A5A5A5A5A5A5] * 64  # before and behind what is lent
 NUMBERS = POINTER(c_uint64)

@@ -1,4 +1,8 @@
-"""The shared library, found and loaded once, with the functions and structures of include/parvusek.h."""
+"""The shared library, found and loaded once, with the functions and structures of include/parvusek.h.
+
+What a call writes to is an array of ctypes or of numpy that this package has allocated for it: it is aligned for its type,
+as the header asks, and overlaps nothing that is read.
+"""
 
 import ctypes
 import functools

@@ -98,7 +98,7 @@ class Basis:
         return basis if history is None else basis.with_history(_read(history, basis.history_needed))
 
     def with_history(self, history: bytes) -> "Basis":
-        """This basis with the bytes of a history file, in the place of the one that it has."""
+        """This basis with the bytes of a history file, instead of the one that it has."""
         return Basis(self._run, history)
 
     @property

@@ -20,7 +20,8 @@ from .options import REFUSED_ROWS
 from .outputs import Place, apart, drafted, not_an_input, place_of, put_all
 from .progress import Progress
 from .roll_command import roll
-from .runs import Hashed, expected, lines_said, number_of, opened, refusals_said, say, source_of, warn, warn_of_rows
+from .runs import (Hashed, expected, lines_said, number_of, opened, refusals_said, say, source_of, warn, warn_of_last_line,
+                   warn_of_rows)
 from .shown_tables import show
 from .tables import Tables, actual_years
 
@@ -114,6 +115,8 @@ def make(options: argparse.Namespace) -> int:
         tell(f"{history.name}: SHA-256 {sha256(basis.history)}")
     elif place.is_file:
         _foreign_history(options.out)
+    for file in tables.without_line_end:
+        warn_of_last_line(os.path.join(options.folder, file))
     return 0
 
 

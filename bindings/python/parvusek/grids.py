@@ -1,5 +1,7 @@
 """Many questions by as many grids as they fill, as plain tuples: the quick way for a file of members."""
 
+import ctypes
+import itertools
 import struct
 from typing import Iterator, Sequence
 
@@ -10,6 +12,7 @@ from .refusals import Refusal
 # A record of the grid, as `CPoint` has it: question, refusal, results, places.
 _RECORD = struct.Struct("=4I4Q2Q")
 _QUESTION = struct.Struct("=3I52x")
+_Grid = CPoint * GRID_RECORDS
 
 # The refusal's number or 0, the four results, the two places.
 Outcome = tuple[int, ...]
@@ -20,10 +23,11 @@ def outcomes(basis: Basis, questions: Sequence[tuple[int, int, int]]) -> Iterato
     for start in range(0, len(questions), GRID_RECORDS):
         part = questions[start:start + GRID_RECORDS]
         # Records of age 0 fill the grid up: they are refused at once and cost nothing.
-        lent = bytearray(_RECORD.size * GRID_RECORDS)
-        lent[:_RECORD.size * len(part)] = b"".join([_QUESTION.pack(*question) for question in part])
-        refusal = basis._ask("grid", (CPoint * GRID_RECORDS).from_buffer(lent), GRID_RECORDS)
+        records = _Grid()
+        asked = b"".join([_QUESTION.pack(*question) for question in part])
+        ctypes.memmove(records, asked, len(asked))
+        refusal = basis._ask("grid", records, GRID_RECORDS)
         if refusal.number:
             raise Refusal(refusal.number, refusal.first, refusal.second)
-        for record in _RECORD.iter_unpack(memoryview(lent)[:_RECORD.size * len(part)]):
+        for record in itertools.islice(_RECORD.iter_unpack(records), len(part)):
             yield record[3:]

@@ -105,7 +105,8 @@ _MAKE = """Makes a basis file, and its history file, from a folder of CSV tables
 
 Rates are decimal numbers with at most nine decimals (0.0125 or 1.25E-2 is 1.25 per cent), convergence
 periods whole years of 1 to 50, proportions remaining at mid-point whole per cent of 0 to 150. The
-discount rate is -0.01 to 0.2, an actual improvement -0.5 to 0.5. All that is wrong is told in one go.
+discount rate is -0.01 to 0.2, an actual improvement -0.5 to 0.5. All that is wrong is told in one go. A
+table whose last line has no line end may have been cut short, so a warning says so.
 
 The actual improvements go into the history file: m.history.bin with m.bin, history.bin with basis.bin,
 or what --history names. A history that may be another basis's is not written over. A basis whose base

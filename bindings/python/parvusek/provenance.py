@@ -23,7 +23,7 @@ def now() -> str:
 
 def record_place(values: Place, named: Optional[str], without: bool) -> Optional[Place]:
     """Where the record goes: beside the values, with .json behind their name, if no other place is named. Values that
-    are no regular file have none of their own."""
+    are not a regular file have none of their own."""
     if without or named is None and not values.is_file:
         return None
     if named == STANDARD:

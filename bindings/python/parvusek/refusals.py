@@ -1,6 +1,7 @@
 """Refusals: a number and two places, with the sentences of docs/REFUSALS.md."""
 
 SENTENCES: dict[int, str] = {
+    # made by tools/make_refusals: sentences
     1: "file not 4,608 bytes, or data run not 4,554",
     2: "a block's check is wrong",
     3: "a block's number is not its place",
@@ -17,10 +18,12 @@ SENTENCES: dict[int, str] = {
     14: "the roll is full",
     15: "the member number is not on the roll",
     16: "the member number is on the roll already",
+    # end of what tools/make_refusals makes
 }
 
 # What the places of each refusal are; those that are always 0 have no name.
 PLACES: dict[int, tuple[str, ...]] = {
+    # made by tools/make_refusals: places
     1: (),
     2: ("block",),
     3: ("block",),
@@ -37,6 +40,7 @@ PLACES: dict[int, tuple[str, ...]] = {
     14: ("member",),
     15: ("member",),
     16: ("member",),
+    # end of what tools/make_refusals makes
 }
 
 GREATEST_PENSION = 10_000_000

@@ -146,7 +146,7 @@ def _keep_place(options: argparse.Namespace) -> Optional[Place]:
         return None
     place = None if options.keep == STANDARD else place_of(options.keep)
     if place is None or not place.is_file:
-        raise CommandError(f"{options.keep} is no regular file; the roll is kept in a file of its own, which --keep names")
+        raise CommandError(f"{options.keep} is not a regular file; the roll is kept in a file of its own, which --keep names")
     not_an_input(place, _inputs(options))
     if place.found is not None:
         raise CommandError(f"{place.name} is there already, and no kept roll is written over; name another with --keep, or "

@@ -100,9 +100,14 @@ def lines_said(counts: Counts) -> str:
     return said
 
 
+def warn_of_last_line(path: str) -> None:
+    """A last line without a line end: its number may have lost its last digits, and is one all the same."""
+    warn(f"the last line of {_spoken(path)} has no line end, and is taken as it stands: was the file cut short?")
+
+
 def warn_of_rows(counts: Counts, path: str) -> None:
-    if not counts.last_line_ended:  # a number may have lost its last digits, and is one all the same
-        warn(f"the last line of {_spoken(path)} has no line end, and is taken as it stands: was the file cut short?")
+    if not counts.last_line_ended:
+        warn_of_last_line(path)
     if counts.wrong_bytes:
         warn(f"refused for bytes of another encoding: {number_of(counts.wrong_bytes, 'row')}, the first in "
              f"{counts.first_wrong_byte}")

@@ -25,11 +25,13 @@ class TableError(CommandError):
 
 
 class Tables:
-    """The tables of a folder as they are read: in which encoding, whether rounded, and what was wrong."""
+    """The tables of a folder as they are read: in which encoding, whether rounded, which of them have a last line without a
+    line end, and what was wrong."""
 
     def __init__(self, folder: Path, encoding: Optional[str] = None, is_rounded: bool = False) -> None:
         self.folder, self._encoding, self._is_rounded = folder, encoding, is_rounded
         self.rounded = 0
+        self.without_line_end: list[str] = []
         self._wrong: list[str] = []
 
     # ---- tables to basis
@@ -173,6 +175,8 @@ class Tables:
         except CommandError as error:
             self._wrong += error.sentences
             return None
+        if not rows.last_line_ended:
+            self.without_line_end.append(file)
         if [cell.strip().casefold() for cell in rows.header.cells or []] != list(header):
             self._is_wrong(f"{file} begins with the row {','.join(header)}; here it begins with {rows.header.text[:80]!r}")
             return None

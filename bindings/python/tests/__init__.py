@@ -1,6 +1,6 @@
 """Tests of the Python binding, run by `python3 -m unittest` in the folder above.
 
-The engine's answers are compared with the repository's outside calculation, which shares no code with it.
+The engine's answers are compared with the repository's reference model, which shares no code with it.
 """
 
 import sys

@@ -17,8 +17,8 @@ except ImportError:
     raise unittest.SkipTest("numpy or pandas is missing: the tests of arrays and data frames")
 
 import parvusek.arrays
-from outside.bases import exactly_four
-from outside.basis import encode
+from reference_model.bases import exactly_four
+from reference_model.basis import encode
 from parvusek import Basis, Kind, Question, Refusal, Results, decimal, history_file
 from parvusek._library import CPoint
 from parvusek.arrays import RECORD, Values
@@ -158,7 +158,7 @@ class Frames(unittest.TestCase):
     basis = Basis.read(SAMPLE / "basis.bin")
 
     def test_sample(self) -> None:
-        """The members of the sample, and what the outside calculation gives for them."""
+        """The members of the sample, and what the reference model gives for them."""
         members = pd.read_csv(SAMPLE / "members.csv")
         wanted = pd.read_csv(SAMPLE / "values.csv", dtype=str, keep_default_na=False)
         valued = self.basis.value_frame(members)

@@ -1,4 +1,4 @@
-"""Every enquiry against the outside calculation, and what the binding itself refuses."""
+"""Every enquiry against the reference model, and what the binding itself refuses."""
 
 import doctest
 import os
@@ -7,10 +7,10 @@ import threading
 import unittest
 from typing import Any, Callable, Optional
 
-from outside import bases, engine, points
-from outside.basis import encode, short_form, write_file
-from outside.older_bases import lent, older_bases
-from outside.refusals import Refusal as OutsideRefusal
+from reference_model import bases, engine, points
+from reference_model.basis import encode, short_form, write_file
+from reference_model.older_bases import lent, older_bases
+from reference_model.refusals import Refusal as ReferenceRefusal
 from parvusek import Basis, Kind, Question, Refusal, Results, Standing, UNIT
 import parvusek.history
 import parvusek.refusals
@@ -27,7 +27,7 @@ def outcome(call: Callable[..., Any], *arguments: Any) -> Any:
         return call(*arguments)
     except Refusal as refusal:
         return "refused", refusal.number, refusal.first, refusal.second
-    except OutsideRefusal as refusal:
+    except ReferenceRefusal as refusal:
         return ("refused",) + tuple(refusal.numbers())
 
 
@@ -49,8 +49,8 @@ class Enquiries(unittest.TestCase):
 
     def each_basis(self) -> Any:
         """The data run, the history and the basis of each."""
-        for name, outside_basis in self.named.items():
-            run = bytes(encode(outside_basis))
+        for name, reference_basis in self.named.items():
+            run = bytes(encode(reference_basis))
             with self.subTest(basis=name):
                 yield run, b"", Basis(run)
         for name, older in self.older.items():
@@ -69,9 +69,9 @@ class Enquiries(unittest.TestCase):
         for run, history, basis in self.each_basis():
             for question in drawn_questions(random.Random(2), 25):
                 for name in ("survivorship", "expectation", "annuity"):
-                    for kind, outside_kind in KINDS:
+                    for kind, reference_kind in KINDS:
                         self.assertEqual(outcome(getattr(basis, name), kind, *question),
-                                         outcome(getattr(engine, name), run, history, outside_kind, *question),
+                                         outcome(getattr(engine, name), run, history, reference_kind, *question),
                                          (name, kind, question))
 
     def test_points(self) -> None:
@@ -89,13 +89,13 @@ class Enquiries(unittest.TestCase):
         for run, history, basis in self.each_basis():
             # From the base year on where there is a history, so that its years are lived through.
             year = basis.base_year if history else 2100
-            outside_line, refusal = points.start_lifeline(run, history, 60, year)
+            reference_line, refusal = points.start_lifeline(run, history, 60, year)
             self.assertIsNone(refusal)
             line = basis.lifeline(60, year)
             self.assertEqual(line.standing, Standing(60, year, UNIT))
-            while (wanted := outcome(points.step_lifeline, outside_line, history)) == points.STEPPED:
+            while (wanted := outcome(points.step_lifeline, reference_line, history)) == points.STEPPED:
                 self.assertEqual(next(line),
-                                 Standing(outside_line.age, outside_line.year, outside_line.survivors))
+                                 Standing(reference_line.age, reference_line.year, reference_line.survivors))
             if wanted == points.ENDED:
                 self.assertEqual(list(line), [])
                 self.assertEqual(line.standing.age, 150)

@@ -1,4 +1,4 @@
-"""The command line: members valued as the outside calculation values them, bases made and shown, clear errors."""
+"""The command line: members valued as the reference model values them, bases made and shown, clear errors."""
 
 import csv
 import hashlib
@@ -7,10 +7,10 @@ import os
 import shutil
 from unittest import mock
 
-from outside import bases, points
-from outside.basis import encode, encode_file
-from outside.older_bases import lent, older_bases
-from outside.refusals import Refusal as OutsideRefusal
+from reference_model import bases, points
+from reference_model.basis import encode, encode_file
+from reference_model.older_bases import lent, older_bases
+from reference_model.refusals import Refusal as ReferenceRefusal
 from parvusek import history_file
 from parvusek.progress import Progress
 
@@ -31,14 +31,14 @@ class Value(Command):
         self.assertEqual((self.folder / "values.csv").read_bytes(), (SAMPLE / "values.csv").read_bytes())
         self.assertEqual(self.files(), ["members.csv", "values.csv", "values.csv.json"])
 
-    def test_sample_is_what_the_outside_calculation_gives(self) -> None:
+    def test_sample_is_what_the_reference_model_gives(self) -> None:
         run = bytes(encode(bases.realistic()))
         with open(SAMPLE / "values.csv", encoding="utf-8", newline="") as file:
             for row in csv.DictReader(file):
                 asked = (int(row["age"]), int(row["deferment"]), int(row["year"]))
                 try:
                     wanted = ["%d.%09d" % divmod(result, 10**9) for result in points.point(run, b"", *asked)] + [""] * 3
-                except OutsideRefusal as refusal:
+                except ReferenceRefusal as refusal:
                     wanted = [""] * 4 + [str(number) for number in refusal.numbers()]
                 found = [row[column] for column in (
                     "period_expectation", "cohort_expectation", "period_annuity", "cohort_annuity",
@@ -207,7 +207,7 @@ class Histories(Command):
                 found = [row[column] for column in (
                     "period_expectation", "cohort_expectation", "period_annuity", "cohort_annuity")]
                 self.assertEqual(found, [f"{result:.9f}" for result in wanted], asked)
-            except OutsideRefusal as refusal:
+            except ReferenceRefusal as refusal:
                 self.assertEqual([row["refusal"], row["first"], row["second"]], list(map(str, refusal.numbers())))
 
     def test_valued_with_the_history_beside_the_basis(self) -> None:
@@ -340,6 +340,19 @@ class Histories(Command):
         self.assertEqual(status, 0)
         self.assertIn(f"{out}: rounded to nine decimals: 1 rate\n", said)
         self.assertEqual(out.read_bytes(), (SAMPLE / "basis.bin").read_bytes())
+
+    def test_a_table_without_its_last_line_end(self) -> None:
+        tables, out = self.folder / "tables", self.folder / "m.bin"
+        shutil.copytree(SAMPLE / "older" / "tables", tables)
+        self.assertEqual(self.run_command("basis", "make", tables, out)[::2], (0, ""))
+        made, told = out.read_bytes(), ""
+        for file in ("settings.csv", "base_rates.csv", "age_component.csv", "cohort_component.csv", "actual_improvements.csv"):
+            table = tables / file
+            table.write_bytes(table.read_bytes().rstrip(b"\r\n"))
+            told += (f"parvusek: the last line of {table} has no line end, and is taken as it stands: "
+                     "was the file cut short?\n")
+            self.assertEqual(self.run_command("basis", "make", tables, out, "--force")[::2], (0, told))
+            self.assertEqual(out.read_bytes(), made)
 
     def test_a_basis_on_standard_output(self) -> None:
         status, said, wrong = self.run_process("basis", "make", SAMPLE / "tables", "-")

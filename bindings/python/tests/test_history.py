@@ -7,9 +7,9 @@ from dataclasses import replace
 from pathlib import Path
 from typing import Callable
 
-from outside.basis import encode
-from outside.history import decode_history, encode_history
-from outside.older_bases import lent, older_bases
+from reference_model.basis import encode
+from reference_model.history import decode_history, encode_history
+from reference_model.older_bases import lent, older_bases
 from parvusek import Basis, Kind, Question, history_file, improvements_of
 from parvusek.history import improvement_at
 from parvusek.layout import ACTUAL_FILE, FILES
@@ -35,12 +35,12 @@ def changed(history: bytes, block: int, change: Callable[[bytearray], None]) -> 
 
 
 class File(unittest.TestCase):
-    def test_written_as_the_outside_calculation_writes_it(self) -> None:
+    def test_written_as_the_reference_model_writes_it(self) -> None:
         for name, older in older_bases().items():
             with self.subTest(basis=name):
                 self.assertEqual(history_file(older.rows), bytes(encode_history(older.rows)))
 
-    def test_read_as_the_outside_calculation_reads_it(self) -> None:
+    def test_read_as_the_reference_model_reads_it(self) -> None:
         self.assertEqual(improvements_of(HISTORY), [list(row) for row in decode_history(HISTORY)])
         self.assertEqual(improvements_of(b""), [])
 

@@ -38,7 +38,7 @@ class Check(Command):
         unseen = {8 * 512 * block + 32 * (place - 1) + bit for block in range(9) for place in range(1, 128)
                   for bit in range(32) if (place << bit) % 2**32 == 0}
         self.assertEqual(unseen, {bit for number in (0, 4, 5) for bit in found[number]})
-        for page in ("README.md", "docs/EMBEDDING.md", "docs/DECISIONS.md"):
+        for page in ("docs/EMBEDDING.md", "docs/DECISIONS.md"):
             text = re.sub(r"\s+", " ", (REPOSITORY / page).read_text(encoding="utf-8"))
             self.assertIn("36,864 single bits of the sample", text, page)
             self.assertIn("480 of them", text, page)

@@ -145,7 +145,7 @@ class Kept(RollCommand):
                           (self.folder / "calls.csv", "is the file of calls itself; name another"),
                           (other, "is there already, and no kept roll is written over"), (self.folder, "is a folder"),
                           ("-", "in a file of its own"), ("/dev/stdout", "in a file of its own"),
-                          ("/dev/null", "/dev/null is no regular file"), (self.out, "be one file"),
+                          ("/dev/null", "/dev/null is not a regular file"), (self.out, "be one file"),
                           (f"{self.out}.json", "be one file"), (self.folder / "no" / "folder", "there is no folder"),
                           (f"{self.folder}/new/", "/new/ is the name of a folder; name a file"),
                           (f"{self.folder}/new/.", "/new/. is the name of a folder; name a file"),

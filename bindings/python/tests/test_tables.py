@@ -5,9 +5,9 @@ import tempfile
 import unittest
 from pathlib import Path
 
-from outside import bases
-from outside.basis import encode
-from outside.layout import limits
+from reference_model import bases
+from reference_model.basis import encode
+from reference_model.layout import limits
 from parvusek import Basis, Refusal
 from parvusek.layout import ACTUAL_FILE, COLUMNS, FILES, SETTINGS, field_at
 from parvusek.shown_tables import show
@@ -19,8 +19,8 @@ from . import SAMPLE, refused_tables
 class RoundTrip(unittest.TestCase):
     def test_basis_to_tables_and_back(self) -> None:
         drawn = [bases.random_basis(seed, -200_000_000, 200_000_000) for seed in range(5)]
-        for outside_basis in [bases.sample(), bases.realistic(), bases.limits_basis(1), *drawn]:
-            basis = Basis(bytes(encode(outside_basis)))
+        for reference_basis in [bases.sample(), bases.realistic(), bases.limits_basis(1), *drawn]:
+            basis = Basis(bytes(encode(reference_basis)))
             with tempfile.TemporaryDirectory() as folder:
                 show(basis, Path(folder))
                 self.assertEqual(basis_of(Path(folder)).run, basis.run)
@@ -52,7 +52,7 @@ class RoundTrip(unittest.TestCase):
 
 
 class Layout(unittest.TestCase):
-    def test_fields_are_those_of_the_outside_calculation(self) -> None:
+    def test_fields_are_those_of_the_reference_model(self) -> None:
         run = bytes(encode(bases.realistic()))
         found = [(column.offset + column.width * entry, number, column.low, column.high)
                  for column in SETTINGS + COLUMNS for entry, number in enumerate(column.numbers(run))]

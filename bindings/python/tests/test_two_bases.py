@@ -7,8 +7,8 @@ from pathlib import Path
 from typing import Callable, Optional
 from unittest import mock
 
-from outside.basis import encode, encode_file
-from outside.older_bases import lent, older_bases
+from reference_model.basis import encode, encode_file
+from reference_model.older_bases import lent, older_bases
 from parvusek import Basis, history_file
 from parvusek.basis_files import read_basis, write_basis
 from parvusek.outputs import place_of

@@ -105,7 +105,7 @@ impl Basis {
         Ok(basis.with_history(&history)?)
     }
 
-    /// This basis with the bytes of a history file, in the place of the one that it has. Refused by 13 (its length),
+    /// This basis with the bytes of a history file, instead of the one that it has. Refused by 13 (its length),
     /// then by 2 to 5 of the history itself. The engine checks it here, and again in each call.
     ///
     /// ```

@@ -1,7 +1,8 @@
 //! The functions of `include/parvusek.h`, as C declares them.
 //!
 //! Each takes any stretch of bytes or numbers with its true length and any number, keeps no pointer, and writes only to the
-//! output that it is lent, which must not overlap its input. Rust's borrows see to both. A history of length 0 is none.
+//! output that it is lent, which must be aligned for its type and must not overlap an input. A slice is aligned, and Rust's
+//! borrows see to the rest. A history of length 0 is none.
 
 use crate::{Question, Record, Refusal};
 

@@ -15,7 +15,7 @@ use crate::GREATEST_PENSION;
 #[repr(C)]
 #[derive(Clone, Copy, Debug, PartialEq, Eq, Hash)]
 pub struct Refusal {
-    /// 1 to 16; what each says is in docs/REFUSALS.md.
+    /// Above 0; what each number says is in docs/REFUSALS.md.
     pub number: u32,
     /// The first place: a block, an offset, an age, a year, a member number, as the number has it.
     pub first: u64,
@@ -27,6 +27,7 @@ impl Refusal {
     /// What the refusal says.
     pub fn sentence(&self) -> &'static str {
         match self.number {
+            // made by tools/make_refusals: sentences
             1 => "file not 4,608 bytes, or data run not 4,554",
             2 => "a block's check is wrong",
             3 => "a block's number is not its place",
@@ -43,6 +44,7 @@ impl Refusal {
             14 => "the roll is full",
             15 => "the member number is not on the roll",
             16 => "the member number is on the roll already",
+            // end of what tools/make_refusals makes
             _ => "no such refusal",
         }
     }
@@ -50,15 +52,23 @@ impl Refusal {
     /// What its two places are; those that are always 0 have no name.
     fn places(&self) -> (Option<&'static str>, Option<&'static str>) {
         match self.number {
-            2 | 3 => (Some("block"), None),
-            4 | 5 => (Some("offset"), None),
+            // made by tools/make_refusals: places
+            2 => (Some("block"), None),
+            3 => (Some("block"), None),
+            4 => (Some("offset"), None),
+            5 => (Some("offset"), None),
             6 => (Some("age"), None),
             7 => (Some("year"), None),
             8 => (Some("age"), Some("deferment")),
-            9 | 10 => (Some("age"), Some("year")),
-            11 | 13 => (Some("needed"), None),
+            9 => (Some("age"), Some("year")),
+            10 => (Some("age"), Some("year")),
+            11 => (Some("needed"), None),
             12 => (Some("line"), None),
-            14..=16 => (Some("member"), None),
+            13 => (Some("needed"), None),
+            14 => (Some("member"), None),
+            15 => (Some("member"), None),
+            16 => (Some("member"), None),
+            // end of what tools/make_refusals makes
             _ => (None, None),
         }
     }

@@ -11,7 +11,7 @@ fn sample() -> Basis {
     Basis::open(format!("{SAMPLES}/basis.bin")).expect("the sample is accepted")
 }
 
-/// What the outside calculation gives for the members: the cells of each row, as far as the refusal's places.
+/// What the reference model gives for the members: the cells of each row, as far as the refusal's places.
 fn expected_rows() -> Vec<Vec<String>> {
     let values = fs::read_to_string(format!("{SAMPLES}/values.csv")).expect("the sample has values");
     let rows = values.lines().skip(1).map(|row| row.split(',').take(11).map(String::from).collect());

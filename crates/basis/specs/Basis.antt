@@ -1,12 +1,19 @@
--- The basis that a data run of 4,554 bytes stands for, and its limits (01, "The basis file").
-use Prim.Native.Nat.{ℕ, _+_, _*_, _-_, _≤_, _<_}
+-- The basis that a data run stands for, and its limits (01, "The basis file").
+use Prim.Native.Nat.{ℕ, _-_, _≤_, _<_}
 use mathlib.Core.Path.{_≡_}
-use mathlib.Core.List.{List, [], _∷_}
+use mathlib.Core.List.{List}
 use lib.ListN.{length, take}
-use lib.IntN.{ℤ, pos, negℤ, natAbs, _+ℤ_}
+use lib.IntN.{ℤ, pos, natAbs, _+ℤ_}
 use lib.Signed.{_≤ℤ_}
 use Rattle.arithmetic.specs.Fraction.{U}
-use Rattle.little_endian.specs.Bytes.{byteAt, u16At, u32At, i32At}
+use Rattle.little_endian.specs.Bytes.{byteAt, u16At, i32At}
+use Rattle.layout.specs.declared.Number.the-variants.{Byte, Word, SignedWord}
+use Rattle.layout.specs.Layout.{entryAt, Form, formOf, runLength, markOf}
+use Rattle.layout.specs.Layout.{foundationAt, baseAt, additionAt, discountAt, zerosAt, baseRatesAt}
+use Rattle.layout.specs.Layout.{ageInitialRatesAt, ageLongTermRatesAt, agePeriodsAt, ageProportionsAt}
+use Rattle.layout.specs.Layout.{birthYearInitialRatesAt, birthYearLongTermRatesAt, birthYearPeriodsAt, birthYearProportionsAt}
+use Rattle.layout.specs.Layout.{firstYear, lastFoundationYear, lastBaseYear, additionLimit, leastDiscount, greatestDiscount}
+use Rattle.layout.specs.Layout.{rateLimit, longestPeriod, greatestProportion}
 use Rattle.basis.specs.declared.Convergence.{Convergence}
 
 -- F, B, the constant addition, the rate of discount, the base rates by age, the terms of improvement by age and by birth year, and the
@@ -22,26 +29,35 @@ pub record Basis : Type 0 where
   pub actual : ℕ → ℕ → ℤ
 
 -- I, L, T and P at one place of four tables
-abbrev pub termsAt : List ℕ → ℕ → ℕ → ℕ → ℕ → ℕ → Convergence
-termsAt run initial long period remaining place =
+abbrev pub termsAt : Form → List ℕ → ℕ → ℕ → ℕ → ℕ → ℕ → Convergence
+termsAt form run initial long period remaining place =
     record {
-      initial = i32At run (initial + 4 * place);
-      long = i32At run (long + 4 * place);
-      period = byteAt run (period + place);
-      remaining = byteAt run (remaining + place);
+      initial = entryAt SignedWord run initial place;
+      long = entryAt SignedWord run long place;
+      period = natAbs (entryAt Byte run period place);
+      remaining = natAbs (entryAt (form .proportion) run remaining place);
     }
 
--- the fields by their offsets; ages from 20, birth years from 1842; a data run by itself has no actual improvements
+-- at an age from 20, and at a birth year from 1842
+abbrev pub ageTermsAt : Form → List ℕ → ℕ → Convergence
+ageTermsAt form run place = termsAt form run ageInitialRatesAt ageLongTermRatesAt agePeriodsAt ageProportionsAt place
+
+abbrev pub birthYearTermsAt : Form → List ℕ → ℕ → Convergence
+birthYearTermsAt form run place =
+    termsAt form run
+    (birthYearInitialRatesAt form) (birthYearLongTermRatesAt form) (birthYearPeriodsAt form) (birthYearProportionsAt form) place
+
+-- the fields by their offsets in the form that the run's length tells; a data run by itself has no actual improvements
 unfoldable pub basisOf : List ℕ → Basis
 basisOf run =
     record {
-      foundation = u16At run 4;
-      base = u16At run 6;
-      addition = i32At run 8;
-      discount = i32At run 12;
-      baseRate = λ age. u32At run (30 + 4 * (age - 20));
-      byAge = λ age. termsAt run 554 1078 1602 1733 (age - 20);
-      byBirthYear = λ year. termsAt run 1864 2940 4016 4285 (year - 1842);
+      foundation = u16At run foundationAt;
+      base = u16At run baseAt;
+      addition = i32At run additionAt;
+      discount = i32At run discountAt;
+      baseRate = λ age. natAbs (entryAt Word run baseRatesAt (age - 20));
+      byAge = λ age. ageTermsAt (formOf (length run)) run (age - 20);
+      byBirthYear = λ year. birthYearTermsAt (formOf (length run)) run (year - 1842);
       actual = λ age year. pos 0;
     }
 
@@ -51,27 +67,27 @@ accumulationOf b = natAbs (pos U +ℤ b .discount)
 
 -- ---- the limits
 pub record ConvergenceLimits (c : Convergence) : Type 0 where
-  pub initial : natAbs (c .initial) ≤ 200_000_000
-  pub long : natAbs (c .long) ≤ 200_000_000
+  pub initial : natAbs (c .initial) ≤ rateLimit
+  pub long : natAbs (c .long) ≤ rateLimit
   pub period-low : 1 ≤ c .period
-  pub period-high : c .period ≤ 50
-  pub remaining : c .remaining ≤ 150
+  pub period-high : c .period ≤ longestPeriod
+  pub remaining : c .remaining ≤ greatestProportion
 
 pub record Limited (b : Basis) : Type 0 where
-  pub foundation-low : 1992 ≤ b .foundation
-  pub foundation-high : b .foundation ≤ 2080
-  pub base-low : 1992 ≤ b .base
-  pub base-high : b .base ≤ 2130
-  pub addition : natAbs (b .addition) ≤ 100_000_000
-  pub discount-low : negℤ (pos 10_000_000) ≤ℤ b .discount
-  pub discount-high : b .discount ≤ℤ pos 200_000_000
+  pub foundation-low : firstYear ≤ b .foundation
+  pub foundation-high : b .foundation ≤ lastFoundationYear
+  pub base-low : firstYear ≤ b .base
+  pub base-high : b .base ≤ lastBaseYear
+  pub addition : natAbs (b .addition) ≤ additionLimit
+  pub discount-low : leastDiscount ≤ℤ b .discount
+  pub discount-high : b .discount ≤ℤ greatestDiscount
   pub baseRate : (age : ℕ) → 20 ≤ age → age ≤ 150 → b .baseRate age ≤ U
   pub byAge : (age : ℕ) → 20 ≤ age → age ≤ 150 → ConvergenceLimits (b .byAge age)
   pub byBirthYear : (year : ℕ) → 1842 ≤ year → year ≤ 2110 → ConvergenceLimits (b .byBirthYear year)
 
--- what 1, 4 and 5 do not refuse: the length, the letters MPB1, the 14 zero bytes, and the limits
+-- what 1, 4 and 5 do not refuse: the length of its form, the form's mark, the zero bytes, and the limits
 pub record Accepted (run : List ℕ) : Type 0 where
-  pub size : length run ≡ 4554
-  pub mark : take 4 run ≡ 77 ∷ 80 ∷ 66 ∷ 49 ∷ []
-  pub zeros : (at : ℕ) → 16 ≤ at → at < 30 → byteAt run at ≡ 0
+  pub size : length run ≡ runLength (formOf (length run))
+  pub mark : take 4 run ≡ markOf (formOf (length run))
+  pub zeros : (at : ℕ) → zerosAt ≤ at → at < baseRatesAt → byteAt run at ≡ 0
   pub limits : Limited (basisOf run)

@@ -2,6 +2,7 @@
 ghost use mathlib.Core.Path.{_≡_};
 ghost use Prim.Native.Nat.{_+_, _*_, _≤_, _<_};
 ghost use lib.ListN.{length};
+ghost use Rattle.layout.specs.Layout.{mpb1, runLength};
 ghost use Rattle.basis.specs.Basis.{basisOf, accumulationOf, termsAt, Accepted};
 use crate::Convergence;
 
@@ -9,21 +10,21 @@ pub fn foundation_year(run: &[u8]) -> u32
     requires { ⌜ Accepted (now run) ⌝ }
     ensures { λ r. ⌜ r ≡ basisOf (now (run .entry)) .foundation ⌝ }
 {
-    little_endian::read_u16(run, 4)
+    little_endian::read_u16(run, layout::FOUNDATION_AT)
 }
 
 pub fn base_year(run: &[u8]) -> u32
     requires { ⌜ Accepted (now run) ⌝ }
     ensures { λ r. ⌜ r ≡ basisOf (now (run .entry)) .base ⌝ }
 {
-    little_endian::read_u16(run, 6)
+    little_endian::read_u16(run, layout::BASE_AT)
 }
 
 pub fn constant_addition(run: &[u8]) -> i32
     requires { ⌜ Accepted (now run) ⌝ }
     ensures { λ r. ⌜ r ≡ basisOf (now (run .entry)) .addition ⌝ }
 {
-    little_endian::read_i32(run, 8)
+    little_endian::read_i32(run, layout::ADDITION_AT)
 }
 
 // U and the rate of discount: what one unit grows to in a year.
@@ -31,14 +32,14 @@ pub fn accumulation(run: &[u8]) -> u64
     requires { ⌜ Accepted (now run) ⌝ }
     ensures { λ r. ⌜ r ≡ accumulationOf (basisOf (now (run .entry))) ⌝ }
 {
-    (1_000_000_000 + little_endian::read_i32(run, 12) as i64) as u64
+    (1_000_000_000 + little_endian::read_i32(run, layout::DISCOUNT_AT) as i64) as u64
 }
 
 pub fn base_rate(run: &[u8], age: u32) -> u32
     requires { ⌜ Accepted (now run) × (20 ≤ age) × (age ≤ 150) ⌝ }
     ensures { λ r. ⌜ r ≡ basisOf (now (run .entry)) .baseRate age ⌝ }
 {
-    little_endian::read_u32(run, 30 + 4 * (age as usize - 20))
+    little_endian::read_u32(run, layout::BASE_RATES_AT + 4 * (age as usize - 20))
 }
 
 // The terms at one place of four tables.
@@ -54,8 +55,8 @@ fn terms_at(
     requires { ⌜ long + 4 * place + 4 ≤ length (now run) ⌝ }
     requires { ⌜ period + place < length (now run) ⌝ }
     requires { ⌜ remaining + place < length (now run) ⌝ }
-    requires { ⌜ length (now run) ≡ 4554 ⌝ }
-    ensures { λ r. ⌜ r ≡ termsAt (now (run .entry)) initial long period remaining place ⌝ }
+    requires { ⌜ length (now run) ≡ runLength mpb1 ⌝ }
+    ensures { λ r. ⌜ r ≡ termsAt mpb1 (now (run .entry)) initial long period remaining place ⌝ }
 {
     Convergence {
         initial: little_endian::read_i32(run, initial + 4 * place),
@@ -69,12 +70,26 @@ pub fn age_terms(run: &[u8], age: u32) -> Convergence
     requires { ⌜ Accepted (now run) × (20 ≤ age) × (age ≤ 150) ⌝ }
     ensures { λ r. ⌜ r ≡ basisOf (now (run .entry)) .byAge age ⌝ }
 {
-    terms_at(run, 554, 1078, 1602, 1733, age as usize - 20)
+    terms_at(
+        run,
+        layout::AGE_INITIAL_RATES_AT,
+        layout::AGE_LONG_TERM_RATES_AT,
+        layout::AGE_PERIODS_AT,
+        layout::AGE_PROPORTIONS_AT,
+        age as usize - 20,
+    )
 }
 
 pub fn birth_year_terms(run: &[u8], year: u32) -> Convergence
     requires { ⌜ Accepted (now run) × (1842 ≤ year) × (year ≤ 2110) ⌝ }
     ensures { λ r. ⌜ r ≡ basisOf (now (run .entry)) .byBirthYear year ⌝ }
 {
-    terms_at(run, 1864, 2940, 4016, 4285, year as usize - 1842)
+    terms_at(
+        run,
+        layout::BIRTH_YEAR_INITIAL_RATES_AT,
+        layout::BIRTH_YEAR_LONG_TERM_RATES_AT,
+        layout::BIRTH_YEAR_PERIODS_AT,
+        layout::BIRTH_YEAR_PROPORTIONS_AT,
+        year as usize - 1842,
+    )
 }

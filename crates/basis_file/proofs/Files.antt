@@ -7,6 +7,7 @@ use lib.ListN.{length, take, drop, length-take, length-drop, length-append}
 use borrow.Author.Tests.{eqb-true, eq-eqb, ne-eqb}
 use Rattle.outcome.specs.declared.Refusal.{Refusal}
 use Rattle.outcome.specs.Outcome.{Finding, passed, refusedBy, refusal, firstOf}
+use Rattle.layout.specs.Layout.{mpb1, runLength, fileLength}
 use Rattle.run_check.specs.Run.{runCheck}
 use Rattle.outcome.proofs.Outcome.{unless-passed, both-passed, first-stands, first-passed, first-together}
 use Rattle.run_check.proofs.Acceptance.{accepted}
@@ -15,7 +16,7 @@ use Rattle.lent.proofs.Lent.{room-passed}
 use Rattle.block.specs.Blocks.{blocksOf}
 use Rattle.block.proofs.Blocks.{block-length}
 use Rattle.block.proofs.Joined.{parts-length}
-use Rattle.basis_file.specs.File.{runIn, fileOf, nineCheck, outerCheck, fileCheck}
+use Rattle.basis_file.specs.File.{runIn, fileOf, fileBlocksCheck, outerCheck, fileCheck, readCheck}
 
 -- ---- lengths
 blocks-length : (n place : ℕ) (run : List ℕ) → length run ≡ 506 * n → length (blocksOf place n run) ≡ 512 * n
@@ -26,25 +27,25 @@ blocks-length (suc n) place run h =
     let r = blocks-length n (place + 1) (drop 506 run) (simp length-drop (omega arith)) in
     simp (length-append, block-length place (take 506 run) p, r) (omega arith)
 
-pub file-length : (run : List ℕ) → length run ≡ 4554 → length (fileOf run) ≡ 4608
+pub file-length : (run : List ℕ) → length run ≡ runLength mpb1 → length (fileOf run) ≡ fileLength mpb1
 unfolding fileOf
-file-length run h = blocks-length 9 0 run h
+file-length run h = blocks-length (mpb1 .blocks) 0 run h
 
-pub run-length : (file : List ℕ) → length file ≡ 4608 → length (runIn file) ≡ 4554
+pub run-length : (file : List ℕ) → length file ≡ fileLength mpb1 → length (runIn file) ≡ runLength mpb1
 unfolding runIn
-run-length file h = parts-length 9 file h
+run-length file h = parts-length (mpb1 .blocks) file h
 
 -- ---- the ways through a file's check
 module _ (file : List ℕ) where
-  pub wrong-size : (length file ≡ 4608 → ⊥) → outerCheck file ≡ refusedBy (refusal 1 0 0)
+  pub wrong-size : (length file ≡ fileLength mpb1 → ⊥) → outerCheck file ≡ refusedBy (refusal 1 0 0)
   unfolding outerCheck
-  wrong-size h = simp (ne-eqb (length file) 4608 h)
+  wrong-size h = simp (ne-eqb (length file) (fileLength mpb1) h)
 
-  pub right-size : length file ≡ 4608 → outerCheck file ≡ nineCheck file
+  pub right-size : length file ≡ fileLength mpb1 → outerCheck file ≡ fileBlocksCheck file
   unfolding outerCheck
-  right-size h = simp (eq-eqb (length file) 4608 h)
+  right-size h = simp (eq-eqb (length file) (fileLength mpb1) h)
 
-  pub outer-passed : outerCheck file ≡ passed → (length file ≡ 4608) × (nineCheck file ≡ passed)
+  pub outer-passed : outerCheck file ≡ passed → (length file ≡ fileLength mpb1) × (fileBlocksCheck file ≡ passed)
   unfolding outerCheck
   outer-passed h = let e = both-passed _ _ h in (eqb-true _ _ (unless-passed _ _ (e .0)), e .1)
 
@@ -53,23 +54,23 @@ module _ (file : List ℕ) where
   file-passed h = both-passed _ _ h
 
   -- an accepted file has its length
-  pub accepted-file : fileCheck file ≡ passed → length file ≡ 4608
+  pub accepted-file : fileCheck file ≡ passed → length file ≡ fileLength mpb1
   accepted-file h = outer-passed (file-passed h .0) .0
 
 -- and so has an accepted run
-pub accepted-run : (run : List ℕ) → runCheck run ≡ passed → length run ≡ 4554
+pub accepted-run : (run : List ℕ) → runCheck run ≡ passed → length run ≡ runLength mpb1
 accepted-run run h = accepted run h .size
 
 -- ---- reading: the room and the outer check, then the run's own
-module _ (file out : List ℕ) (outer : Finding) (e : outer ≡ firstOf (roomCheck 4554 out) (outerCheck file)) where
-  then-run : firstOf outer (runCheck (runIn file)) ≡ firstOf (roomCheck 4554 out) (fileCheck file)
+module _ (file out : List ℕ) (outer : Finding) (e : outer ≡ firstOf (roomCheck (runLength mpb1) out) (outerCheck file)) where
+  then-run : firstOf outer (runCheck (runIn file)) ≡ readCheck file out
   unfolding fileCheck
-  then-run = rw e (first-together (roomCheck 4554 out) (outerCheck file) (runCheck (runIn file)))
+  then-run = rw e (first-together (roomCheck (runLength mpb1) out) (outerCheck file) (runCheck (runIn file)))
 
-  pub outer-refuses : (r : Refusal) → outer ≡ refusedBy r → outer ≡ firstOf (roomCheck 4554 out) (fileCheck file)
+  pub outer-refuses : (r : Refusal) → outer ≡ refusedBy r → outer ≡ readCheck file out
   outer-refuses r h = sym (first-stands outer _ h) ∙ then-run
 
-  pub outer-lets : outer ≡ passed → (4554 ≤ length out) × (length file ≡ 4608) × (runCheck (runIn file) ≡ firstOf (roomCheck 4554 out) (fileCheck file))
+  pub outer-lets : outer ≡ passed → (runLength mpb1 ≤ length out) × (length file ≡ fileLength mpb1) × (runCheck (runIn file) ≡ readCheck file out)
   outer-lets h =
-      let p = room-passed 4554 out (outerCheck file) (sym e ∙ h) in
+      let p = room-passed (runLength mpb1) out (outerCheck file) (sym e ∙ h) in
       (p .0, outer-passed file (p .1) .0, sym (first-passed outer _ h) ∙ then-run)

@@ -6,6 +6,7 @@ use Prim.Native.Nat.{ℕ, zero, suc, _+_, _*_, _<_, _≤_}
 use native.Mathlib.Omega.{arith}
 use lib.ListN.{length, take, drop, getD, length-take, length-drop, take-append-drop}
 use lib.Seq.{take-at, drop-at, take-take, getD-take, getD-drop}
+use Rattle.layout.specs.Layout.{mpb1, runLength}
 use Rattle.run_check.specs.Run.{runCheck}
 use Rattle.outcome.proofs.Outcome.{both-passed}
 use Rattle.block.specs.Block.{blockCheck, blockOf}
@@ -29,9 +30,9 @@ parts-back (suc n) place run h =
     simp (data-stand place part p rest, drop-at (blockOf place part) rest 512 (block-length place part p), r) (take-append-drop 506 run)
 
 -- written and read back, the same basis
-pub run-back : (run : List ℕ) → length run ≡ 4554 → runIn (fileOf run) ≡ run
+pub run-back : (run : List ℕ) → length run ≡ runLength mpb1 → runIn (fileOf run) ≡ run
 unfolding runIn fileOf
-run-back run h = parts-back 9 0 run h
+run-back run h = parts-back (mpb1 .blocks) 0 run h
 
 blocks-accepted : (n place : ℕ) (run : List ℕ) → place + n ≤ 65536 → length run ≡ 506 * n → blocksCheck place n (blocksOf place n run) ≡ passed
 unfolding blocksCheck blocksOf
@@ -48,9 +49,9 @@ blocks-accepted (suc n) place run h l =
       blocks-accepted n (place + 1) (drop 506 run) (omega arith) (simp length-drop (omega arith)),
     )
 
-nine-accepted : (run : List ℕ) → length run ≡ 4554 → blocksCheck 0 9 (fileOf run) ≡ passed
+file-accepted : (run : List ℕ) → length run ≡ runLength mpb1 → blocksCheck 0 (mpb1 .blocks) (fileOf run) ≡ passed
 unfolding fileOf
-nine-accepted run l = blocks-accepted 9 0 run (omega arith) l
+file-accepted run l = blocks-accepted (mpb1 .blocks) 0 run (omega arith) l
 
 -- ---- from a file to its run and back
 part-of : (file : List ℕ) → take 506 (drop 2 (take 512 file)) ≡ take 506 (drop 2 file)
@@ -86,9 +87,9 @@ round-trips =
     record {
       sameFile = λ file b h.
           let o = outer-passed file (file-passed file h .0) in
-          let nine : blocksCheck 0 9 file ≡ passed = cc (o .1) in
-          blocks-back 9 0 file (o .0) b nine;
+          let blocks : blocksCheck 0 (mpb1 .blocks) file ≡ passed = cc (o .1) in
+          blocks-back (mpb1 .blocks) 0 file (o .0) b blocks;
       sameBasis = λ run h.
           let l = accepted-run run h in
-          (simp (right-size (fileOf run) (file-length run l), nine-accepted run l, run-back run l) h, run-back run l);
+          (simp (right-size (fileOf run) (file-length run l), file-accepted run l, run-back run l) h, run-back run l);
     }

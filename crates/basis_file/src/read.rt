@@ -1,41 +1,42 @@
 // Reading: the data run of a basis file, given out only when nothing refuses the file.
 ghost use mathlib.Core.Path.{_≡_};
 ghost use lib.ListN.{length};
-ghost use Rattle.outcome.specs.Outcome.{firstOf, finding};
-ghost use Rattle.lent.specs.Lent.{roomCheck, written};
-ghost use Rattle.basis_file.specs.File.{runIn, nineCheck, outerCheck, fileCheck};
+ghost use Rattle.outcome.specs.Outcome.{finding};
+ghost use Rattle.layout.specs.Layout.{mpb1, runLength, fileLength};
+ghost use Rattle.lent.specs.Lent.{written};
+ghost use Rattle.basis_file.specs.File.{runIn, fileBlocksCheck, outerCheck, readCheck};
 use outcome::Check;
 use outcome::Refusal;
 
-// The nine blocks, ascending.
-fn check_nine(file: &[u8]) -> Check
-    requires { ⌜ length (now file) ≡ 4608 ⌝ }
-    ensures { λ r. ⌜ finding r ≡ nineCheck (now (file .entry)) ⌝ }
+// The blocks, ascending.
+fn check_file_blocks(file: &[u8]) -> Check
+    requires { ⌜ length (now file) ≡ fileLength mpb1 ⌝ }
+    ensures { λ r. ⌜ finding r ≡ fileBlocksCheck (now (file .entry)) ⌝ }
 {
-    block::check_blocks(file, 9)
+    block::check_blocks(file, layout::BLOCKS)
 }
 
 // The length, then the blocks.
 fn check_outer(file: &[u8]) -> Check
     ensures { λ r. ⌜ finding r ≡ outerCheck (now (file .entry)) ⌝ }
 {
-    if file.len() != 4608 {
+    if file.len() != layout::FILE_LENGTH {
         return Check::Refused(Refusal {
             number: 1,
             first: 0,
             second: 0,
         });
     }
-    check_nine(file)
+    check_file_blocks(file)
 }
 
-// The nine data parts, joined.
+// The data parts of the blocks, joined.
 fn join_parts(file: &[u8], run: &mut [u8])
-    requires { ⌜ (length (now file) ≡ 4608) × (length (now run) ≡ 4554) ⌝ }
+    requires { ⌜ (length (now file) ≡ fileLength mpb1) × (length (now run) ≡ runLength mpb1) ⌝ }
     ensures { λ _. ⌜ now (run .exit) ≡ runIn (now (file .entry)) ⌝ }
 {
     let mut b: usize = 0;
-    while b < 9 {
+    while b < layout::BLOCKS {
         let from = 512 * b + 2;
         lent::put(&file[from..from + 506], run, 506 * b);
         b += 1;
@@ -45,14 +46,17 @@ fn join_parts(file: &[u8], run: &mut [u8])
 // The data run of an accepted file, into the front of `run`. It is joined in an array of its own first, since the check
 // goes over one stretch, and a refused file leaves the output alone.
 pub fn read_file(file: &[u8], run: &mut [u8]) -> Check
-    ensures { λ r. ⌜ finding r ≡ firstOf (roomCheck 4554 (now (run .entry))) (fileCheck (now (file .entry))) ⌝ }
+    ensures { λ r. ⌜ finding r ≡ readCheck (now (file .entry)) (now (run .entry)) ⌝ }
     ensures { λ r. ⌜ now (run .exit) ≡ written (finding r) (runIn (now (file .entry))) (now (run .entry)) ⌝ }
 {
-    let outer = outcome::first_of(lent::check_room(4554, run.len()), check_outer(file));
+    let outer = outcome::first_of(
+        lent::check_room(layout::RUN_LENGTH, run.len()),
+        check_outer(file),
+    );
     if let Check::Refused(_) = outer {
         return outer;
     }
-    let mut joined = [0u8; 4554];
+    let mut joined = [0u8; layout::RUN_LENGTH];
     join_parts(file, &mut joined);
     let c = run_check::check_run(&joined);
     if let Check::Passed = c {

@@ -74,7 +74,7 @@ pub fn check_blocks(file: &[u8], n: usize) -> Check
 
 // Puts the block of 506 data bytes into an output: its number, the data, and the check of what then stands there.
 pub fn put_block(part: &[u8], place: usize, out: &mut [u8], at: usize)
-    requires { ⌜ (length (now part) ≡ 506) × (place < 9) × (at + 512 ≤ length (now out)) ⌝ }
+    requires { ⌜ (length (now part) ≡ 506) × (place < 65536) × (at + 512 ≤ length (now out)) ⌝ }
     ensures { λ _. ⌜ now (out .exit) ≡ placed (now (out .entry)) at (blockOf place (now (part .entry))) ⌝ }
 {
     let number = little_endian::u16_bytes(place as u32);

@@ -1,4 +1,4 @@
-// What the programs that run the cases of the outside calculation share: reading standard input, and the lines they print.
+// What the programs that run the cases of the reference model share: reading standard input, and the lines they print.
 ghost use mathlib.Core.Path.{_≡_};
 ghost use Prim.Native.Nat.{_≤_};
 ghost use lib.ListN.{length};

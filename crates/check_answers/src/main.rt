@@ -1,14 +1,15 @@
-// Runs the cases of an outside calculation on the enquiries: all nine kinds, with every refusal.
+// Runs the cases of the reference model on the enquiries: all nine kinds, with every refusal.
 //
-// Standard input, all numbers little-endian: the number of bases (2 bytes), as many data runs of 4,554 bytes; the bytes of
+// Standard input, all numbers little-endian: the number of bases (2 bytes), as many data runs; the bytes of
 // all histories together (4 bytes), and as many bytes, the history files one after the other; then cases to the end. A case
 // is its kind (1 byte: 0 improvement, 1 factor, 2 rate, then period and cohort: 3 and 4 survivorship, 5 and 6 expectation,
 // 7 and 8 annuity), the place of its basis (1), age, deferment and year (4 each), and where its history starts in those
 // bytes (4) and its length (4). A line a case: `value` and the number, or `refused` and the refusal's number and places.
 ghost use mathlib.Core.Path.{_≡_};
-ghost use Prim.Native.Nat.{_≤_};
+ghost use Prim.Native.Nat.{_*_, _≤_};
 ghost use lib.ListN.{length};
 ghost use lib.IntN.{natAbs};
+ghost use Rattle.layout.specs.Layout.{mpb1, runLength};
 use case_io::MOST_CASES;
 use outcome::Answer;
 use outcome::Refusal;
@@ -17,10 +18,12 @@ use survivorship::Kind;
 
 // ---- the bases and the histories
 // Room for 64 data runs.
-fn room() -> [u8; 291456]
-    ensures { λ r. ⌜ 291456 ≡ length r ⌝ }
+const ROOM: usize = 64 * layout::RUN_LENGTH;
+
+fn room() -> [u8; ROOM]
+    ensures { λ r. ⌜ 64 * runLength mpb1 ≡ length r ⌝ }
 {
-    [0; 291456]
+    [0; ROOM]
 }
 
 // Room for the histories.
@@ -35,7 +38,11 @@ fn read_length() -> u32 {
     let mut bytes = [0u8; 2];
     case_io::read_bytes(&mut bytes);
     let bases = little_endian::read_u16(&bytes, 0);
-    if bases < 64 { 4554 * bases } else { 291456 }
+    if bases < 64 {
+        layout::RUN_LENGTH as u32 * bases
+    } else {
+        ROOM as u32
+    }
 }
 
 // Reads the number of bytes of the histories, at most those there is room for.
@@ -60,7 +67,11 @@ fn stretch(bytes: &[u8], start: usize, length: usize) -> &[u8]
 
 // The data run at a place.
 fn run_at(runs: &[u8], place: u8) -> &[u8] {
-    stretch(runs, 4554 * (place as usize), 4554)
+    stretch(
+        runs,
+        layout::RUN_LENGTH * (place as usize),
+        layout::RUN_LENGTH,
+    )
 }
 
 // ---- a case

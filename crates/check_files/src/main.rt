@@ -1,4 +1,4 @@
-// Runs the cases of an outside calculation on the basis: files read, data runs written and short forms made, with every
+// Runs the cases of the reference model on the basis: files read, data runs written and short forms made, with every
 // refusal.
 //
 // Standard input, all numbers little-endian: a file of 4,608 bytes, then cases to the end. A case is its kind (1 byte:
@@ -9,6 +9,7 @@
 ghost use mathlib.Core.Path.{_≡_};
 ghost use Prim.Native.Nat.{_≤_, _<_};
 ghost use lib.ListN.{length};
+ghost use Rattle.layout.specs.Layout.{mpb1, fileLength};
 use basis_file::read;
 use basis_file::write;
 use case_io::MOST_CASES;
@@ -21,10 +22,10 @@ fn room() -> [u8; 5000]
     [0; 5000]
 }
 
-fn file_room() -> [u8; 4608]
-    ensures { λ r. ⌜ 4608 ≡ length r ⌝ }
+fn file_room() -> [u8; layout::FILE_LENGTH]
+    ensures { λ r. ⌜ fileLength mpb1 ≡ length r ⌝ }
 {
-    [0; 4608]
+    [0; layout::FILE_LENGTH]
 }
 
 fn byte_or_none(s: &[u8], i: usize) -> u8 {

@@ -1,4 +1,4 @@
-// Runs the cases of an outside calculation on the two readers of a data run: its nine tables, and lifelines over it.
+// Runs the cases of the reference model on the two readers of a data run: its nine tables, and lifelines over it.
 //
 // Standard input, all numbers little-endian: cases to the end. A case is the number of bytes of its data run (4 bytes) and
 // of its history (4), the data run, the history, the number of its lifelines (2), and for each lifeline its age, its year
@@ -61,8 +61,8 @@ fn follow(run: &[u8], history: &[u8]) {
     let age = little_endian::read_u32(&asked, 0);
     let year = little_endian::read_u32(&asked, 4);
     let steps = little_endian::read_u32(&asked, 8);
-    let s = lifeline_reader::stand_after(run, history, age, year, steps);
-    case_io::print_numbers(&[s.age as u64, s.year as u64, s.survivors]);
+    let p = lifeline_reader::position_after(run, history, age, year, steps);
+    case_io::print_numbers(&[p.age as u64, p.year as u64, p.survivors]);
 }
 
 fn follow_all(run: &[u8], history: &[u8]) {

@@ -1,7 +1,7 @@
-// Runs the year sweep on the bases of an outside calculation, from B through 2260 and a step beyond.
+// Runs the year sweep on the bases of the reference model, from B through 2260 and a step beyond.
 //
 // Standard input, all numbers little-endian: cases to the end. A case is the number of bytes of its history (4 bytes), its
-// data run (4,554 bytes) and its history file. A line a state: the year, and the sum of age × number over the ages from 20
+// data run and its history file. A line a state: the year, and the sum of age × number over the ages from 20
 // to 150, the number being the factor, or for a refusal 4 × U + 10,000 × its number + its year. A refused basis has the
 // line of its refusal alone.
 ghost use mathlib.Core.Path.{_≡_};
@@ -70,7 +70,7 @@ fn next_case() -> bool {
     if !case_io::read_bytes(&mut head) {
         return false;
     }
-    let mut run = [0u8; 4554];
+    let mut run = [0u8; layout::RUN_LENGTH];
     case_io::read_bytes(&mut run);
     let mut space = case_io::history_room();
     let length = io::count(little_endian::read_u32(&head, 0) as isize, &space);

@@ -1,6 +1,6 @@
 -- The three demands are met: by the theorems of the crates below, and where a field only says what a definition does, by that definition.
 use mathlib.Core.Path.{_≡_, _∙_, ap, refl}
-use mathlib.Core.Bool.{Bool, true, false, cond}
+use mathlib.Core.Bool.{Bool, true, false}
 use mathlib.Core.List.{List}
 use Prim.Native.Nat.{ℕ, _≤_}
 use native.Mathlib.Omega.{arith}
@@ -13,21 +13,22 @@ use Rattle.outcome.specs.declared.Refusal.{Refusal}
 use Rattle.outcome.specs.Outcome.{Finding, passed, refusedBy, Outcome, value, refused, firstOf, andThen}
 use Rattle.outcome.proofs.Outcome.{both-passed, checked-passed, first-refused}
 use Rattle.run_check.proofs.Acceptance.{accepted, passes}
-use Rattle.basis_file.specs.File.{runIn, fileOf}
+use Rattle.basis_file.specs.File.{runIn, fileOf, readCheck, writeCheck}
 use Rattle.arithmetic.proofs.Rounding.{ties-go-up}
 use Rattle.basis_file.proofs.RoundTrip.{round-trips}
 use Rattle.history.proofs.Acceptance.{history-acceptance}
 use Rattle.improvement.proofs.Cases.{actual-answered}
 use Rattle.improvement.proofs.OneRounding.{one-rounding}
+use Rattle.improvement.proofs.LongTerm.{long-term-from-2130}
 use Rattle.improvement.proofs.Edges.{edges}
 use Rattle.short_form.proofs.Accepted.{short-form-stands}
 use Rattle.lifeline.proofs.Survivorship.{is-cohort-survivorship}
 use Rattle.enquiry_text.proofs.Says.{line-says}
 use Rattle.figures.proofs.Computed.{figures-hold}
 use Rattle.history.specs.History.{basisWith, runAndHistoryCheck}
-use Rattle.short_form.specs.ShortForm.{shortFormOf}
+use Rattle.short_form.specs.ShortForm.{shortFormOf, shortCheck}
 use Rattle.sweep.proofs.Steps.{each-step}
-use Rattle.sweep.proofs.Fixed.{held-is-fixed}
+use Rattle.sweep.proofs.Fixed.{encoding-is-fixed}
 use Rattle.factor_table.proofs.Fixed.{factor-table-is-fixed}
 use Rattle.survivorship.specs.Survivorship.{survivorsAfterYear}
 use Rattle.enquiry.specs.Enquiry.{improvementEnquiry, factorEnquiry, rateEnquiry, survivorshipEnquiry, expectationEnquiry, annuityEnquiry}
@@ -36,15 +37,16 @@ use Rattle.grid_record.specs.Record.{recordOf, answeredOf}
 use Rattle.grid_record.specs.declared.Point.{Point}
 use Rattle.grid.specs.Grid.{gridCheck, recordsOf, gridOf}
 use Rattle.grid.proofs.Filled.{answers-none}
-use Rattle.lifeline.specs.Lifeline.{stepCheck, moved, yearLater, lived, unlessRefused, stepAt, standAt, standMoved}
-use Rattle.lifeline.proofs.Standing.{start-refused, step-refused}
-use Rattle.lifeline.specs.Said.{Start, ended, Step}
+use Rattle.lifeline.specs.declared.Position.{Position}
+use Rattle.lifeline.specs.Lifeline.{stepCheck, yearUnlessEnded, stepAt}
+use Rattle.lifeline.proofs.Steps.{step-by, start-refused, step-refused}
+use Rattle.lifeline.specs.Said.{Start, Step}
 use Rattle.roll.specs.Roll.{joinCheck, liabilityOf, liabilityOn, liabilityJoining, afterCall}
 use Rattle.roll.specs.Kept.{rollCheck, numbersIn, openedRoll, joining, joinedRoll, leftRoll}
 use Rattle.roll.proofs.Liability.{join-value}
 use Rattle.roll.proofs.RunningTotal.{running-total}
 use Rattle.roll.proofs.Further.{further-kept}
-use Rattle.engine.specs.Enquiry.{refusalOf, readCheck, writeCheck, shortCheck}
+use Rattle.engine.specs.Enquiry.{refusalOf}
 use Rattle.refusals.proofs.Calls.{numbered-refusals, zero-is-none}
 use Rattle.exact.proofs.Demands.{demand-3}
 use Rattle.handed_out.proofs.Distances.{handed-out}
@@ -84,7 +86,7 @@ module _ (run history : List ℕ) where
         smallSet = λ questions. numbered-refusals run history .smallSet questions ∙ ap refusalOf h;
         grid = grid-refused r h;
         start = λ age year. ap (λ (b : Start). b .check) (start-refused run history age year r (first _));
-        step = λ age year survivors. ap (λ (s : Step). s .says) (step-refused run history age year survivors r (first _));
+        step = λ p. ap (λ (s : Step). s .says) (step-refused run history p r (first _));
         join = join-refused r h;
       }
 
@@ -92,16 +94,13 @@ module _ (run history : List ℕ) where
   unfolding gridOf
   grid-unchanged points r h = rw (ap recordsOf h) (answers-none (basisWith run history) points)
 
-  -- a refused step leaves a lifeline where it stands, whichever check or work refused it
-  line-unchanged : (age year survivors : ℕ) (r : Refusal) → stepAt run history age year survivors .says ≡ refused r
-      → standMoved (stepAt run history age year survivors) ≡ standAt age year survivors
-  unfolding stepAt lived
-  line-unchanged age year survivors r h =
-      by (stepCheck run history age year survivors) (eqb age 150) (survivorsAfterYear (basisWith run history) age year (pos survivors)) h
+  -- a refused step leaves a lifeline unchanged, whichever check or work refused it
+  line-unchanged : (p : Position) (r : Refusal) → stepAt run history p .says ≡ refused r → stepAt run history p .position ≡ p
+  unfolding stepAt yearUnlessEnded
+  line-unchanged p r h =
+      by (stepCheck run history p) (eqb (p .age) 150) (survivorsAfterYear (basisWith run history) (p .age) (p .year) (pos (p .survivors))) h
     where
-      by : (c : Finding) (t : Bool) (o : Outcome ℤ)
-          → unlessRefused age year survivors c (cond t (moved age year survivors (value ended)) (yearLater age year survivors o)) .says ≡ refused r
-          → standMoved (unlessRefused age year survivors c (cond t (moved age year survivors (value ended)) (yearLater age year survivors o))) ≡ standAt age year survivors
+      by : (c : Finding) (t : Bool) (o : Outcome ℤ) → step-by run history p c t o .says ≡ refused r → step-by run history p c t o .position ≡ p
       by (refusedBy q) t o g = refl
       by passed true o g = refl
       by passed false (refused q) g = refl
@@ -144,7 +143,7 @@ module _ (run history : List ℕ) where
         handedTotal = handed-total;
         furtherKept = further-kept;
         sweep = each-step run history;
-        heldIsFixed = held-is-fixed;
+        encodingIsFixed = encoding-is-fixed;
         factorTableIsFixed = factor-table-is-fixed;
         roundTrips = round-trips;
         historyAccepted = history-acceptance;
@@ -153,6 +152,7 @@ module _ (run history : List ℕ) where
         lines = line-says;
         ties = ties-go-up;
         oneRounding = one-rounding;
+        longTerm = long-term-from-2130 (basisWith run history);
         shortForm = short-form-stands run;
         lifeline = is-cohort-survivorship run history;
         figures = figures-hold;

@@ -12,17 +12,18 @@ use Rattle.outcome.specs.declared.Refusal.{Refusal}
 use Rattle.basis.specs.Basis.{Accepted}
 use Rattle.outcome.specs.Outcome.{passed, refusedBy, value, refused, firstOf, andThen}
 use Rattle.run_check.specs.Run.{runCheck}
-use Rattle.basis_file.specs.File.{runIn, fileOf}
+use Rattle.basis_file.specs.File.{runIn, fileOf, readCheck, writeCheck}
 use Rattle.basis_file.specs.RoundTrips.{RoundTrips}
 use Rattle.history.specs.History.{basisWith, runAndHistoryCheck}
 use Rattle.history.specs.Accepted.{HistoryAcceptance}
-use Rattle.short_form.specs.ShortForm.{shortFormOf, ShortFormStands}
+use Rattle.short_form.specs.ShortForm.{shortFormOf, shortCheck, ShortFormStands}
 use Rattle.improvement.specs.Improvement.{firstYear, improvementOf, improvementNeeded}
 use Rattle.improvement.specs.Answered.{Edges, ActualAnswered}
 use Rattle.improvement.specs.OneRounding.{OneRounding}
+use Rattle.improvement.specs.LongTerm.{LongTermFrom2130}
 use Rattle.projection.specs.Projection.{factorOf, rateOf}
 use Rattle.sweep.specs.EachStep.{EachStep}
-use Rattle.sweep.specs.Fixed.{HeldIsFixed}
+use Rattle.sweep.specs.Fixed.{EncodingIsFixed}
 use Rattle.survivorship.specs.declared.Kind.{Kind}
 use Rattle.survivorship.specs.declared.Kind.the-variants.{Cohort}
 use Rattle.survivorship.specs.Survivorship.{survivorsOf}
@@ -37,14 +38,15 @@ use Rattle.small_set.specs.SmallSet.{smallSetOf}
 use Rattle.grid_record.specs.declared.Point.{Point}
 use Rattle.grid_record.specs.Record.{questionOf, recordOf, answeredOf}
 use Rattle.grid.specs.Grid.{gridCheck, gridOf}
-use Rattle.lifeline.specs.Lifeline.{startAt, stepAt, standAt, standMoved}
+use Rattle.lifeline.specs.declared.Position.{Position}
+use Rattle.lifeline.specs.Lifeline.{startAt, stepAt}
 use Rattle.lifeline.specs.Survivorship.{IsCohortSurvivorship}
 use Rattle.roll.specs.Roll.{joinCheck, liabilityOf, liabilityOn, liabilityJoining, Call, afterCall, membersAfter, totalOf}
 use Rattle.roll.specs.Kept.{rollCheck, numbersIn, openedRoll, joinedRoll, leftRoll, totalSaid, rollBy, rollAfter}
 use Rattle.roll.specs.Totals.{RunningTotal, FurtherKept}
 use Rattle.enquiry_text.specs.Said.{LineSays}
 use Rattle.figures.specs.Figures.{FiguresHold}
-use Rattle.engine.specs.Enquiry.{answerOf, readCheck, writeCheck, shortCheck}
+use Rattle.engine.specs.Enquiry.{answerOf}
 use Rattle.refusals.specs.Numbered.{workOn, NumberedRefusals, ZeroIsNone}
 use Rattle.exact.specs.Distance.{Demand3}
 use Rattle.handed_out.specs.HandedOut.{HandedOut}
@@ -61,7 +63,7 @@ pub record RefusedThroughout (run history : List ℕ) (r : Refusal) : Type 0 whe
   pub smallSet : (questions : Questions) → smallSetOf run history questions .refusal ≡ r
   pub grid : (count : ℕ) → 119 ≤ count → gridCheck run history count ≡ refusedBy r
   pub start : (age year : ℕ) → startAt run history age year .check ≡ refusedBy r
-  pub step : (age year survivors : ℕ) → stepAt run history age year survivors .says ≡ refused r
+  pub step : (p : Position) → stepAt run history p .says ≡ refused r
   -- a join comes to its basis once the list's room and the roll's own refusals are passed (02, change 6)
   pub join : (roll : List ℕ) (number age pension : ℕ) → firstOf (rollCheck roll) (joinCheck (numbersIn roll) number pension) ≡ passed →
       joinedRoll roll run history number age pension ≡ refused r
@@ -72,14 +74,13 @@ pub record Demand1 (run history : List ℕ) : Type 0 where
   pub zeroIsNone : ZeroIsNone
   -- "checks all it is given"
   pub checked : (r : Refusal) → runAndHistoryCheck run history ≡ refusedBy r → RefusedThroughout run history r
-  -- "and on a refusal writes no byte of lent output": reading, writing, the short form, the grid; and a lifeline stays where it stands
+  -- "and on a refusal writes no byte of lent output": reading, writing, the short form, the grid; and a lifeline is left unchanged
   pub readUnchanged : (file out : List ℕ) (r : Refusal) → readCheck file out ≡ refusedBy r → written (readCheck file out) (runIn file) out ≡ out
   pub writeUnchanged : (out : List ℕ) (r : Refusal) → writeCheck run out ≡ refusedBy r → written (writeCheck run out) (fileOf run) out ≡ out
   pub shortFormUnchanged : (rate : ℤ) (out : List ℕ) (r : Refusal) → shortCheck run rate out ≡ refusedBy r
       → written (shortCheck run rate out) (shortFormOf run rate) out ≡ out
   pub gridUnchanged : (points : List Point) (r : Refusal) → gridCheck run history (length points) ≡ refusedBy r → gridOf run history points ≡ points
-  pub lifelineUnchanged : (age year survivors : ℕ) (r : Refusal) → stepAt run history age year survivors .says ≡ refused r →
-      standMoved (stepAt run history age year survivors) ≡ standAt age year survivors
+  pub lifelineUnchanged : (p : Position) (r : Refusal) → stepAt run history p .says ≡ refused r → stepAt run history p .position ≡ p
   -- "A refused call leaves the roll unchanged" (02, change 6), whatever stands in the list
   pub openUnchanged : (year : ℕ) (roll : List ℕ) (r : Refusal) → openedRoll year roll ≡ refused r → afterCall roll (openedRoll year roll) ≡ roll
   pub joinUnchanged : (roll : List ℕ) (number age pension : ℕ) (r : Refusal) → joinedRoll roll run history number age pension ≡ refused r →
@@ -132,16 +133,18 @@ pub record Demand2 (run history : List ℕ) : Type 0 where
   -- ties go up, and the two components are rounded once (02, change 3)
   pub ties : TiesGoUp
   pub oneRounding : OneRounding
+  -- from 2130 on an improvement is the long-term rates, age plus birth year, plus the addition (02, change 9)
+  pub longTerm : LongTermFrom2130 (basisWith run history)
   -- the short form is accepted, and differs only in what it may
   pub shortForm : (rate : ℤ) → ShortFormStands run rate
   -- a lifeline's steps are cohort survivorship, and say what their checks, their age and their year say
   pub lifeline : (age year : ℕ) → IsCohortSurvivorship run history age year
   -- the marked figures of the paper
   pub figures : FiguresHold
-  -- the sweep holds what the direct engine answers (02, change 5)
+  -- the sweep has what the direct engine answers (02, change 5)
   pub sweep : EachStep run history
-  -- and what it and the factor table hold leaves no number of a lent list free
-  pub heldIsFixed : HeldIsFixed
+  -- and neither it nor the factor table leaves a number of a lent list free
+  pub encodingIsFixed : EncodingIsFixed
   pub factorTableIsFixed : FactorTableIsFixed
   -- "A basis read and written back is the same file; written and read back, the same basis"
   pub roundTrips : RoundTrips

@@ -1,13 +1,7 @@
 -- What C is handed (01, "Who can cause a refusal"): a refusal of number 0 with places 0 where nothing is refused, and value 0 beside a refusal.
-use Prim.Native.Nat.{ℕ}
-use mathlib.Core.List.{List}
 use lib.IntN.{ℤ, pos, natAbs}
 use Rattle.outcome.specs.declared.Refusal.{Refusal}
-use Rattle.lent.specs.Lent.{roomCheck}
-use Rattle.outcome.specs.Outcome.{Finding, passed, refusedBy, Outcome, value, refused, refusal, firstOf, noRefusal}
-use Rattle.run_check.specs.Run.{runCheck}
-use Rattle.basis_file.specs.File.{fileCheck}
-use Rattle.short_form.specs.ShortForm.{shortFormCheck}
+use Rattle.outcome.specs.Outcome.{Finding, passed, refusedBy, Outcome, value, refused, noRefusal}
 use Rattle.engine.specs.declared.CAnswer.{CAnswer}
 use Rattle.engine.specs.declared.CSignedAnswer.{CSignedAnswer}
 
@@ -26,13 +20,3 @@ answerOf (refused r) = record { refusal = r; value = 0 }
 abbrev pub signedAnswerOf : Outcome ℤ → CSignedAnswer
 signedAnswerOf (value n) = record { refusal = noRefusal; value = n }
 signedAnswerOf (refused r) = record { refusal = r; value = pos 0 }
-
--- ---- reading, writing and the short form: the lent output's room (11), then the input's own checks
-abbrev pub readCheck : List ℕ → List ℕ → Finding
-readCheck file run = firstOf (roomCheck 4554 run) (fileCheck file)
-
-abbrev pub writeCheck : List ℕ → List ℕ → Finding
-writeCheck run file = firstOf (roomCheck 4608 file) (runCheck run)
-
-abbrev pub shortCheck : List ℕ → ℤ → List ℕ → Finding
-shortCheck run rate out = firstOf (roomCheck 4554 out) (shortFormCheck run rate)

@@ -1,4 +1,4 @@
--- What C is handed of a lifeline: where it stands, the refusal, and whether it has ended (1).
+-- What C is handed of a lifeline: its position, the refusal, and whether it has ended (1).
 use Prim.Native.Nat.{ℕ}
 use Rattle.outcome.specs.Outcome.{Outcome, value, refused, noRefusal}
 use Rattle.outcome.specs.declared.Refusal.{Refusal}
@@ -7,8 +7,8 @@ use Rattle.engine.specs.declared.CLifeline.{CLifeline}
 use Rattle.engine.specs.Enquiry.{refusalOf}
 
 -- a start has not ended
-abbrev pub lifelineBegun : Start → CLifeline
-lifelineBegun s = record { refusal = refusalOf (s .check); survivors = s .survivors; age = s .age; year = s .year; ended = 0 }
+abbrev pub lifelineOfStart : Start → CLifeline
+lifelineOfStart s = record { refusal = refusalOf (s .check); survivors = s .position .survivors; age = s .position .age; year = s .position .year; ended = 0 }
 
 -- a step's refusal and its end, by what it says
 abbrev pub stepRefusal : Outcome Said → Refusal
@@ -20,6 +20,6 @@ stepEnded (value advanced) = 0
 stepEnded (value ended) = 1
 stepEnded (refused r) = 0
 
-abbrev pub lifelineMoved : Step → CLifeline
-lifelineMoved s =
-    record { refusal = stepRefusal (s .says); survivors = s .survivors; age = s .age; year = s .year; ended = stepEnded (s .says) }
+abbrev pub lifelineOfStep : Step → CLifeline
+lifelineOfStep s =
+    record { refusal = stepRefusal (s .says); survivors = s .position .survivors; age = s .position .age; year = s .position .year; ended = stepEnded (s .says) }

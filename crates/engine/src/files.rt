@@ -2,9 +2,9 @@
 ghost use mathlib.Core.Path.{_≡_};
 ghost use Rattle.lent.specs.Lent.{written};
 ghost use Rattle.run_check.specs.Run.{runCheck};
-ghost use Rattle.basis_file.specs.File.{runIn, fileOf};
-ghost use Rattle.short_form.specs.ShortForm.{shortFormOf};
-ghost use Rattle.engine.specs.Enquiry.{refusalOf, readCheck, writeCheck, shortCheck};
+ghost use Rattle.basis_file.specs.File.{runIn, fileOf, readCheck, writeCheck};
+ghost use Rattle.short_form.specs.ShortForm.{shortFormOf, shortCheck};
+ghost use Rattle.engine.specs.Enquiry.{refusalOf};
 use crate::answers;
 use outcome::Refusal;
 

@@ -2,52 +2,53 @@
 // history to each.
 ghost use mathlib.Core.Path.{_≡_};
 ghost use Rattle.lifeline.specs.Said.{startMeaning, stepMeaning};
-ghost use Rattle.lifeline.specs.Lifeline.{startAt, stepAt};
-ghost use Rattle.engine.specs.Lifelines.{lifelineBegun, lifelineMoved};
+ghost use Rattle.lifeline.specs.Lifeline.{positionAt, startAt, stepAt};
+ghost use Rattle.engine.specs.Lifelines.{lifelineOfStart, lifelineOfStep};
 use crate::CLifeline;
 use crate::answers;
-use lifeline::Begun;
-use lifeline::Moved;
+use lifeline::LifelineStart;
+use lifeline::LifelineStep;
+use lifeline::Position;
 use lifeline::Status;
 use lifeline::cohort;
 
-fn begun(b: Begun) -> CLifeline
-    ensures { λ r. ⌜ r ≡ lifelineBegun (startMeaning b) ⌝ }
+fn lifeline_of_start(s: LifelineStart) -> CLifeline
+    ensures { λ r. ⌜ r ≡ lifelineOfStart (startMeaning s) ⌝ }
 {
-    let check = b.check;
+    let check = s.check;
     CLifeline {
         refusal: answers::refusal_of(check),
-        survivors: b.survivors,
-        age: b.age,
-        year: b.year,
+        survivors: s.position.survivors,
+        age: s.position.age,
+        year: s.position.year,
         ended: 0,
     }
 }
 
-fn moved(m: Moved) -> CLifeline
-    ensures { λ r. ⌜ r ≡ lifelineMoved (stepMeaning m) ⌝ }
+fn lifeline_of_step(s: LifelineStep) -> CLifeline
+    ensures { λ r. ⌜ r ≡ lifelineOfStep (stepMeaning s) ⌝ }
 {
-    let status = m.status;
+    let status = s.status;
     match status {
         Status::Advanced => CLifeline {
             refusal: answers::NO_REFUSAL,
-            survivors: m.survivors,
-            age: m.age,
-            year: m.year,
+            survivors: s.position.survivors,
+            age: s.position.age,
+            year: s.position.year,
             ended: 0,
         },
         Status::Ended => CLifeline {
             refusal: answers::NO_REFUSAL,
-            survivors: m.survivors,
-            age: m.age,
-            year: m.year,
+            survivors: s.position.survivors,
+            age: s.position.age,
+            year: s.position.year,
             ended: 1,
         },
         Status::Refused(refusal) => CLifeline {
             refusal,
-            survivors: m.survivors,
-            age: m.age,
-            year: m.year,
+            survivors: s.position.survivors,
+            age: s.position.age,
+            year: s.position.year,
             ended: 0,
         },
     }
@@ -60,9 +61,9 @@ pub extern "C" fn parvusek_lifeline_start(
     age: u32,
     year: u32,
 ) -> CLifeline
-    ensures { λ r. ⌜ r ≡ lifelineBegun (startAt (now (run .entry)) (now (history .entry)) age year) ⌝ }
+    ensures { λ r. ⌜ r ≡ lifelineOfStart (startAt (now (run .entry)) (now (history .entry)) age year) ⌝ }
 {
-    begun(cohort::start_at(run, history, age, year))
+    lifeline_of_start(cohort::start_at(run, history, age, year))
 }
 
 #[no_mangle]
@@ -73,7 +74,15 @@ pub extern "C" fn parvusek_lifeline_step(
     year: u32,
     survivors: u64,
 ) -> CLifeline
-    ensures { λ r. ⌜ r ≡ lifelineMoved (stepAt (now (run .entry)) (now (history .entry)) age year survivors) ⌝ }
+    ensures { λ r. ⌜ r ≡ lifelineOfStep (stepAt (now (run .entry)) (now (history .entry)) (positionAt age year survivors)) ⌝ }
 {
-    moved(cohort::step_at(run, history, age, year, survivors))
+    lifeline_of_step(cohort::step_at(
+        run,
+        history,
+        Position {
+            age,
+            year,
+            survivors,
+        },
+    ))
 }

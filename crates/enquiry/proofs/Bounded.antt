@@ -21,4 +21,4 @@ annuity-bounded run history kind age deferment year a answered =
     let b = basisWith run history in
     let h = checked-value (valuationCheck run history age deferment year) (annuityOf b kind age deferment year) a answered in
     let p = valuation-passed run history age deferment year (h .0) in
-    annuity-small b (limits-with (p .0)) kind age deferment year a (p .1) (omega (arith, p .1, p .2)) (h .1)
+    annuity-small b (limits-with (p .usable)) kind age deferment year a (p .age-low) (omega arith) (h .1)

@@ -4,6 +4,7 @@ ghost use mathlib.Core.List.{[]};
 ghost use Prim.Native.Nat.{_≤_};
 ghost use lib.ListN.{length};
 ghost use Rattle.outcome.specs.Outcome.{finding};
+ghost use Rattle.layout.specs.Layout.{mpb1, runLength};
 ghost use Rattle.lent.specs.Lent.{written};
 ghost use Rattle.basis_file.specs.File.{runIn};
 ghost use Rattle.reply_text.specs.Put.{Put};
@@ -16,11 +17,11 @@ use reply_text::reply;
 // The file's data run, put into `run` where neither the file nor the history is refused. It is read into an array of its
 // own first, since the history is checked against it.
 fn read_files(file: &[u8], history: &[u8], run: &mut [u8]) -> Check
-    requires { ⌜ length (now run) ≡ 4554 ⌝ }
+    requires { ⌜ length (now run) ≡ runLength mpb1 ⌝ }
     ensures { λ r. ⌜ finding r ≡ filesCheck (now (file .entry)) (now (history .entry)) ⌝ }
     ensures { λ r. ⌜ now (run .exit) ≡ written (finding r) (runIn (now (file .entry))) (now (run .entry)) ⌝ }
 {
-    let mut read = [0u8; 4554];
+    let mut read = [0u8; layout::RUN_LENGTH];
     let c = read::read_file(file, &mut read);
     if let Check::Refused(_) = c {
         return c;
@@ -34,7 +35,7 @@ fn read_files(file: &[u8], history: &[u8], run: &mut [u8]) -> Check
 
 // The same, and the opening line at the start of `out`.
 pub fn open_files(file: &[u8], history: &[u8], run: &mut [u8], out: &mut [u8]) -> Opening
-    requires { ⌜ length (now run) ≡ 4554 ⌝ }
+    requires { ⌜ length (now run) ≡ runLength mpb1 ⌝ }
     requires { ⌜ 192 ≤ length (now out) ⌝ }
     ensures { λ r. ⌜ finding (r .check) ≡ filesCheck (now (file .entry)) (now (history .entry)) ⌝ }
     ensures { λ r. ⌜ now (run .exit) ≡ written (finding (r .check)) (runIn (now (file .entry))) (now (run .entry)) ⌝ }

@@ -60,7 +60,7 @@ pub fn output(file: &[u8], history: &[u8], text: &[u8], lengths: &[usize], out: 
     requires { ⌜ (length (now text) < 18446744073709551615) × (length (now lengths) < 2305843009213693952) ⌝ }
     ensures { λ r. ⌜ Put (now (out .entry)) 0 (outputOf (now (file .entry)) (now (history .entry)) (now (text .entry))) (now (out .exit)) r ⌝ }
 {
-    let mut run = [0u8; 4554];
+    let mut run = [0u8; layout::RUN_LENGTH];
     let mut table = [0u32; 18340];
     let o = open_basis::open_files(file, history, &mut run, out);
     let at = o.at;

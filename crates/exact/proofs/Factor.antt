@@ -12,11 +12,11 @@ use Rattle.basis.specs.Basis.{Basis, ConvergenceLimits, Limited}
 use Rattle.outcome.specs.Outcome.{value}
 use Rattle.outcome.proofs.Outcome.{along, came}
 use Rattle.improvement.specs.Improvement.{improvementOf}
-use Rattle.projection.specs.Projection.{factorNext, factorStep, factorOf, rateFrom, rateOf}
+use Rattle.projection.specs.Projection.{factorNext, factorStep, yearsTo, factorOf, rateFrom, rateOf}
 use Rattle.projection.proofs.Cases.{year-value, held-late}
 use Rattle.improvement.proofs.Cases.{usable-abs}
-use Rattle.exact.specs.Model.{exactImprovement, exactFactorAfter, yearsTo, exactFactor, exactRate}
-use Rattle.exact.specs.Distance.{NotBelowZero, Improving}
+use Rattle.exact.specs.Model.{exactImprovement, exactFactorAfter, exactFactor, exactRate}
+use Rattle.exact.specs.Distance.{NotBelowZero, Improving, rateDistance}
 use Rattle.exact.proofs.Improvement.{improvement-within, improvement-natural, rest-small, unit-near}
 
 -- what is known of a factor k years after B
@@ -57,7 +57,7 @@ module _ (b : Basis) (age year : ℕ) (limits : Limited b) (low : 20 ≤ age) (h
   factor-within f h = within-more (factored f h .near) (omega arith)
 
   -- rate: 2d ≤ 2k + 1
-  pub rate-within : (q : ℤ) → rateOf b age year ≡ value q → Within q (exactRate b age year) (2 * yearsTo b year + 1)
+  pub rate-within : (q : ℤ) → rateOf b age year ≡ value q → Within q (exactRate b age year) (rateDistance b (yearsTo b year))
   unfolding rateOf exactRate exactFactor
   rate-within q h =
       let w = came (factorOf b age year) (λ f. value (rateFrom b age f)) q h in

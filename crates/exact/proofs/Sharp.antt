@@ -7,8 +7,9 @@ use native.Mathlib.Decide.{decLt}
 use native.Mathlib.Omega.{arith}
 use lib.Dec.{ltb}
 use borrow.Author.Tests.{lt-ltb, le-ltb}
+use Rattle.basis.specs.Basis.{Basis}
 use Rattle.exact.specs.Distance.{largest}
-use Rattle.exact.specs.Sharp.{QuartersAreQuarters, LargestIsReached}
+use Rattle.exact.specs.Sharp.{QuartersAreQuarters, LargestIsReached, DistancesByYears}
 
 pub quarters-are-quarters : QuartersAreQuarters
 quarters-are-quarters =
@@ -45,3 +46,13 @@ largest-is-reached k = record { none = refl; reached = reached }
     reached : (n : ℕ) → 0 < n → (j : ℕ) × (j < n) × (largest k n ≡ k j)
     reached zero h = absurd (not-suc-le-zero h)
     reached (suc n) h = reached-all k refl n
+
+-- ---- the distances
+pub distances-by-years : (b : Basis) → DistancesByYears b
+distances-by-years b =
+    record {
+      rate = λ k. refl;
+      survivorship = λ n K. omega arith;
+      expectation = λ N K. omega arith;
+      annuity = λ N K. omega arith;
+    }

@@ -1,4 +1,4 @@
--- Survivorship 2d ≤ 2n(K + 1): each year multiplies by U less a rate within 2K + 1 halves of the exact one. Assumes nothing.
+-- Survivorship 2d ≤ n(r + 1): each year multiplies by U less a rate within r halves of the exact one. Assumes nothing.
 use mathlib.Core.Path.{_≡_}
 use Prim.Native.Nat.{ℕ, suc, _+_, _*_, _-_, _≤_, _<_}
 use native.Mathlib.Omega.{arith}
@@ -10,23 +10,23 @@ use Rattle.arithmetic.proofs.Chain.{Chained, chained-first, chained-next}
 use Rattle.basis.specs.Basis.{Basis, Limited}
 use Rattle.outcome.specs.Outcome.{value}
 use Rattle.outcome.proofs.Outcome.{along, came}
-use Rattle.projection.specs.Projection.{rateOf}
+use Rattle.projection.specs.Projection.{yearsTo, rateOf}
 use Rattle.projection.proofs.Years.{rate-small}
 use Rattle.survivorship.specs.Survivorship.{yearOn, survivorsNext, survivorsAfterYear, survivorsStep, survivorsOf}
 use Rattle.survivorship.specs.declared.Kind.{Kind}
 use Rattle.survivorship.proofs.Survivors.{rest}
-use Rattle.exact.specs.Model.{exactSurvivors, yearsTo}
-use Rattle.exact.specs.Distance.{ImprovingOver}
+use Rattle.exact.specs.Model.{exactSurvivors}
+use Rattle.exact.specs.Distance.{ImprovingOver, rateDistance}
 use Rattle.exact.proofs.Factor.{rate-within, rate-unit}
 
--- what is known of the survivors after j years, for any K that is no less than the k of each rate used
+-- what is known of the survivors after j years, for any r that is no less than the distance of each rate used
 abbrev pub Survived : Basis → Kind → ℕ → ℕ → ℕ → ℕ → ℤ → Type 0
-Survived b kind age year K j s = Chained (2 * K + 1) j s (exactSurvivors b kind age j year)
+Survived b kind age year r j s = Chained r j s (exactSurvivors b kind age j year)
 
-module _ (b : Basis) (kind : Kind) (age year K n : ℕ) (limits : Limited b) (low : 20 ≤ age) (high : age + n ≤ 150)
-    (improving : ImprovingOver b kind age n year) (most : (j : ℕ) → j < n → yearsTo b (yearOn kind j year) ≤ K) where
-  survived-next : (j : ℕ) (s q : ℤ) → j < n → rateOf b (age + j) (yearOn kind j year) ≡ value q → Survived b kind age year K j s
-      → Survived b kind age year K (suc j) (survivorsNext s q)
+module _ (b : Basis) (kind : Kind) (age year r n : ℕ) (limits : Limited b) (low : 20 ≤ age) (high : age + n ≤ 150)
+    (improving : ImprovingOver b kind age n year) (most : (j : ℕ) → j < n → rateDistance b (yearsTo b (yearOn kind j year)) ≤ r) where
+  survived-next : (j : ℕ) (s q : ℤ) → j < n → rateOf b (age + j) (yearOn kind j year) ≡ value q → Survived b kind age year r j s
+      → Survived b kind age year r (suc j) (survivorsNext s q)
   unfolding exactSurvivors
   survived-next j s q less h c =
       let m = rate-small b (age + j) (yearOn kind j year) q h in
@@ -35,12 +35,12 @@ module _ (b : Basis) (kind : Kind) (age year K n : ℕ) (limits : Limited b) (lo
       let left : natAbs (pos U -ℤ q) ≤ U = rw (m .1, rest (m .0) (m .2)) (omega arith) in
       chained-next c left (unit-rest unit) (within-more (within-difference (within-whole (pos U)) near) (omega (arith, most j less)))
 
-  pub survived : (s : ℤ) → survivorsOf b kind age n year ≡ value s → Survived b kind age year K n s
+  pub survived : (s : ℤ) → survivorsOf b kind age n year ≡ value s → Survived b kind age year r n s
   unfolding survivorsOf survivorsAfterYear exactSurvivors
   survived s h =
-      along (survivorsStep b kind age year) (pos U) (Survived b kind age year K) n (chained-first (2 * K + 1))
+      along (survivorsStep b kind age year) (pos U) (Survived b kind age year r) n (chained-first r)
       (λ j a g less c q.
-      let w = came (rateOf b (age + j) (yearOn kind j year)) (λ r. value (survivorsNext a r)) g q in
+      let w = came (rateOf b (age + j) (yearOn kind j year)) (λ q. value (survivorsNext a q)) g q in
       let e : survivorsNext a (w .0) ≡ g = cc in
       rw (← e) (survived-next j a (w .0) less (w .1) c))
       s h

@@ -7,6 +7,9 @@ use native.Mathlib.Omega.{arith}
 use lib.IntN.{ℤ, pos, negsuc, natAbs}
 use lib.ListN.{length, drop, getD, replicate, length-replicate, length-append, getD-replicate, List·getD-append}
 use lib.Seq.{drop-drop, drop-at, getD-drop}
+use Rattle.layout.specs.Layout.{mpb1, runLength, rateLimit, additionAt, discountAt, baseRatesAt}
+use Rattle.layout.specs.Layout.{ageInitialRatesAt, ageLongTermRatesAt, agePeriodsAt, ageProportionsAt}
+use Rattle.layout.specs.Layout.{birthYearInitialRatesAt, birthYearLongTermRatesAt, birthYearPeriodsAt, birthYearProportionsAt}
 use Rattle.little_endian.specs.Bytes.{i32At, signed32}
 use Rattle.basis.specs.declared.Convergence.{Convergence}
 use Rattle.basis.specs.Basis.{Basis, basisOf, ConvergenceLimits, Accepted}
@@ -44,44 +47,44 @@ within {run} {s} {at} {n} {x} h i low high =
     here ∙ List·getD-append (replicate n x) s 0 k (omega (arith, l)) ∙ getD-replicate n k x 0 (omega arith)
 
 -- ---- where each stretch begins
-from-8 : Stretch worseRun 8 22 0 (times 524 1 (times 1048 0 (times 131 50 (times 131 100 worseTables))))
+from-addition : Stretch worseRun additionAt 22 0 (times 524 1 (times 1048 0 (times 131 50 (times 131 100 worseTables))))
 unfolding worseRun worseFields
-from-8 = record { is = refl }
+from-addition = record { is = refl }
 
-from-30 : Stretch worseRun 30 524 1 (times 1048 0 (times 131 50 (times 131 100 worseTables)))
-from-30 = next from-8
+from-base-rates : Stretch worseRun baseRatesAt 524 1 (times 1048 0 (times 131 50 (times 131 100 worseTables)))
+from-base-rates = next from-addition
 
-from-554 : Stretch worseRun 554 1048 0 (times 131 50 (times 131 100 worseTables))
-from-554 = next from-30
+from-age-rates : Stretch worseRun ageInitialRatesAt 1048 0 (times 131 50 (times 131 100 worseTables))
+from-age-rates = next from-base-rates
 
-from-1602 : Stretch worseRun 1602 131 50 (times 131 100 worseTables)
-from-1602 = next from-554
+from-age-periods : Stretch worseRun agePeriodsAt 131 50 (times 131 100 worseTables)
+from-age-periods = next from-age-rates
 
-from-1733 : Stretch worseRun 1733 131 100 worseTables
-from-1733 = next from-1602
+from-age-proportions : Stretch worseRun ageProportionsAt 131 100 worseTables
+from-age-proportions = next from-age-periods
 
-from-1864 : Stretch worseRun 1864 428 255
+from-birth-years : Stretch worseRun (birthYearInitialRatesAt mpb1) 428 255
     (times 1 1 (times 3 0 (times 1 1 (times 3 0 (times 640 255 (times 1076 0 (times 269 50 (times 269 100 []))))))))
 unfolding worseTables
-from-1864 = next from-1733
+from-birth-years = next from-age-proportions
 
-from-2292 : Stretch worseRun 2292 1 1 (times 3 0 (times 1 1 (times 3 0 (times 640 255 (times 1076 0 (times 269 50 (times 269 100 [])))))))
-from-2292 = next from-1864
+from-1949 : Stretch worseRun 2292 1 1 (times 3 0 (times 1 1 (times 3 0 (times 640 255 (times 1076 0 (times 269 50 (times 269 100 [])))))))
+from-1949 = next from-birth-years
 
-from-2296 : Stretch worseRun 2296 1 1 (times 3 0 (times 640 255 (times 1076 0 (times 269 50 (times 269 100 [])))))
-from-2296 = next (next from-2292)
+from-1950 : Stretch worseRun 2296 1 1 (times 3 0 (times 640 255 (times 1076 0 (times 269 50 (times 269 100 [])))))
+from-1950 = next (next from-1949)
 
-from-2300 : Stretch worseRun 2300 640 255 (times 1076 0 (times 269 50 (times 269 100 [])))
-from-2300 = next (next from-2296)
+from-1951 : Stretch worseRun 2300 640 255 (times 1076 0 (times 269 50 (times 269 100 [])))
+from-1951 = next (next from-1950)
 
-from-2940 : Stretch worseRun 2940 1076 0 (times 269 50 (times 269 100 []))
-from-2940 = next from-2300
+from-birth-year-long-term-rates : Stretch worseRun (birthYearLongTermRatesAt mpb1) 1076 0 (times 269 50 (times 269 100 []))
+from-birth-year-long-term-rates = next from-1951
 
-from-4016 : Stretch worseRun 4016 269 50 (times 269 100 [])
-from-4016 = next from-2940
+from-birth-year-periods : Stretch worseRun (birthYearPeriodsAt mpb1) 269 50 (times 269 100 [])
+from-birth-year-periods = next from-birth-year-long-term-rates
 
-from-4285 : Stretch worseRun 4285 269 100 []
-from-4285 = next from-4016
+from-birth-year-proportions : Stretch worseRun (birthYearProportionsAt mpb1) 269 100 []
+from-birth-year-proportions = next from-birth-year-periods
 
 -- ---- its fields
 -- a word within a stretch
@@ -106,21 +109,21 @@ base-is = refl
 
 addition-is : basisOf worseRun .addition ≡ pos 0
 unfolding basisOf signed32
-addition-is = word from-8 8 (omega arith) (omega arith)
+addition-is = word from-addition additionAt (omega arith) (omega arith)
 
 discount-is : basisOf worseRun .discount ≡ pos 0
 unfolding basisOf signed32
-discount-is = word from-8 12 (omega arith) (omega arith)
+discount-is = word from-addition discountAt (omega arith) (omega arith)
 
 base-rate-is : (age : ℕ) → 20 ≤ age → age ≤ 150 → basisOf worseRun .baseRate age ≡ 16_843_009
 unfolding basisOf
 base-rate-is age low high =
-    let i = 30 + 4 * (age - 20) in
+    let i = baseRatesAt + 4 * (age - 20) in
     rw (
-      within from-30 i (omega arith) (omega arith),
-      within from-30 (i + 1) (omega arith) (omega arith),
-      within from-30 (i + 2) (omega arith) (omega arith),
-      within from-30 (i + 3) (omega arith) (omega arith),
+      within from-base-rates i (omega arith) (omega arith),
+      within from-base-rates (i + 1) (omega arith) (omega arith),
+      within from-base-rates (i + 2) (omega arith) (omega arith),
+      within from-base-rates (i + 3) (omega arith) (omega arith),
     )
     refl
 
@@ -131,24 +134,24 @@ by-age-is : (age : ℕ) → 20 ≤ age → age ≤ 150 → basisOf worseRun .byA
 unfolding basisOf signed32
 by-age-is age low high =
     let place = age - 20 in
-    terms-are _ _ _ _ (word from-554 (554 + 4 * place) (omega arith) (omega arith)) (word from-554 (1078 + 4 * place) (omega arith) (omega arith))
-    (within from-1602 (1602 + place) (omega arith) (omega arith)) (within from-1733 (1733 + place) (omega arith) (omega arith))
+    terms-are _ _ _ _ (word from-age-rates (ageInitialRatesAt + 4 * place) (omega arith) (omega arith)) (word from-age-rates (ageLongTermRatesAt + 4 * place) (omega arith) (omega arith))
+    (within from-age-periods (agePeriodsAt + 1 * place) (omega arith) (omega arith)) (within from-age-proportions (ageProportionsAt + 1 * place) (omega arith) (omega arith))
 
 -- a birth year's terms from its initial rate
-by-birth-year-is : (year : ℕ) → 1842 ≤ year → year ≤ 2110 → (z : ℤ) → i32At worseRun (1864 + 4 * (year - 1842)) ≡ z
+by-birth-year-is : (year : ℕ) → 1842 ≤ year → year ≤ 2110 → (z : ℤ) → i32At worseRun (birthYearInitialRatesAt mpb1 + 4 * (year - 1842)) ≡ z
     → basisOf worseRun .byBirthYear year ≡ terms z (pos 0) 50 100
 unfolding basisOf signed32
 by-birth-year-is year low high z e =
-    terms-are _ _ _ _ e (word from-2940 (2940 + 4 * (year - 1842)) (omega arith) (omega arith))
-    (within from-4016 (4016 + (year - 1842)) (omega arith) (omega arith)) (within from-4285 (4285 + (year - 1842)) (omega arith) (omega arith))
+    terms-are _ _ _ _ e (word from-birth-year-long-term-rates (birthYearLongTermRatesAt mpb1 + 4 * (year - 1842)) (omega arith) (omega arith))
+    (within from-birth-year-periods (birthYearPeriodsAt mpb1 + 1 * (year - 1842)) (omega arith) (omega arith)) (within from-birth-year-proportions (birthYearProportionsAt mpb1 + 1 * (year - 1842)) (omega arith) (omega arith))
 
-earlier : (year : ℕ) → 1842 ≤ year → year < 1949 → i32At worseRun (1864 + 4 * (year - 1842)) ≡ negsuc 0
+earlier : (year : ℕ) → 1842 ≤ year → year < 1949 → i32At worseRun (birthYearInitialRatesAt mpb1 + 4 * (year - 1842)) ≡ negsuc 0
 unfolding signed32
-earlier year low high = word from-1864 (1864 + 4 * (year - 1842)) (omega arith) (omega arith)
+earlier year low high = word from-birth-years (birthYearInitialRatesAt mpb1 + 4 * (year - 1842)) (omega arith) (omega arith)
 
-later : (year : ℕ) → 1950 < year → year ≤ 2110 → i32At worseRun (1864 + 4 * (year - 1842)) ≡ negsuc 0
+later : (year : ℕ) → 1950 < year → year ≤ 2110 → i32At worseRun (birthYearInitialRatesAt mpb1 + 4 * (year - 1842)) ≡ negsuc 0
 unfolding signed32
-later year low high = word from-2300 (1864 + 4 * (year - 1842)) (omega arith) (omega arith)
+later year low high = word from-1951 (birthYearInitialRatesAt mpb1 + 4 * (year - 1842)) (omega arith) (omega arith)
 
 -- a byte 1 and three bytes 0
 one : {run r s : List ℕ} {at : ℕ} → Stretch run at 1 1 r → Stretch run (at + 1) 3 0 s → i32At run at ≡ pos 1
@@ -163,20 +166,20 @@ one {at = at} h g =
     refl
 
 born-1949 : basisOf worseRun .byBirthYear 1949 ≡ terms (pos 1) (pos 0) 50 100
-born-1949 = by-birth-year-is 1949 (omega arith) (omega arith) (pos 1) (one from-2292 (next from-2292))
+born-1949 = by-birth-year-is 1949 (omega arith) (omega arith) (pos 1) (one from-1949 (next from-1949))
 
 born-1950 : basisOf worseRun .byBirthYear 1950 ≡ terms (pos 1) (pos 0) 50 100
-born-1950 = by-birth-year-is 1950 (omega arith) (omega arith) (pos 1) (one from-2296 (next from-2296))
+born-1950 = by-birth-year-is 1950 (omega arith) (omega arith) (pos 1) (one from-1950 (next from-1950))
 
 -- ---- it is accepted
-size : length worseRun ≡ 4554
+size : length worseRun ≡ runLength mpb1
 unfolding worseRun worseFields worseTables
 size = simp length-times refl
 
-small : (z : ℤ) → natAbs z ≤ 200_000_000 → ConvergenceLimits (terms z (pos 0) 50 100)
+small : (z : ℤ) → natAbs z ≤ rateLimit → ConvergenceLimits (terms z (pos 0) 50 100)
 small z h = record { initial = h; long = omega arith; period-low = omega arith; period-high = omega arith; remaining = omega arith }
 
-limits-of : {c : Convergence} (z : ℤ) → c ≡ terms z (pos 0) 50 100 → natAbs z ≤ 200_000_000 → ConvergenceLimits c
+limits-of : {c : Convergence} (z : ℤ) → c ≡ terms z (pos 0) 50 100 → natAbs z ≤ rateLimit → ConvergenceLimits c
 limits-of z e h = rw e (small z h)
 
 birth-limits : (year : ℕ) → 1842 ≤ year → year ≤ 2110 → ConvergenceLimits (basisOf worseRun .byBirthYear year)
@@ -194,7 +197,7 @@ worse-accepted =
     record {
       size = size;
       mark = refl;
-      zeros = λ at low high. within from-8 at (omega arith) (omega arith);
+      zeros = λ at low high. within from-addition at (omega arith) (omega arith);
       limits =
           record {
             foundation-low = omega (arith, foundation-is);

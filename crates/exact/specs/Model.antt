@@ -5,7 +5,7 @@ use lib.IntN.{pos}
 use Rattle.arithmetic.specs.Fraction.{Fraction, _over_, whole, _+ᶠ_, _-ᶠ_, _*ᶠ_, _/ᶠ_, lesser, sumᶠ, U}
 use Rattle.basis.specs.Basis.{Basis, accumulationOf}
 use Rattle.improvement.specs.Improvement.{componentsOf, additionOf, isActual}
-use Rattle.projection.specs.Projection.{heldYear}
+use Rattle.projection.specs.Projection.{yearsTo}
 use Rattle.survivorship.specs.Survivorship.{yearOn}
 use Rattle.survivorship.specs.declared.Kind.{Kind}
 
@@ -22,11 +22,7 @@ unfoldable pub exactFactorAfter : Basis → ℕ → ℕ → Fraction
 exactFactorAfter b age zero = whole (pos U)
 exactFactorAfter b age (suc k) = exactFactorAfter b age k *ᶠ (whole (pos U) -ᶠ exactImprovement b age (b .base + 1 + k)) /ᶠ U
 
--- k is the years from B to the year, at most to 2130
-abbrev pub yearsTo : Basis → ℕ → ℕ
-yearsTo b year = heldYear year - b .base
-
--- after 2130 it is held
+-- after 2130 it is held: k is the years from B to the year, at most to 2130
 unfoldable pub exactFactor : Basis → ℕ → ℕ → Fraction
 exactFactor b age year = exactFactorAfter b age (yearsTo b year)
 

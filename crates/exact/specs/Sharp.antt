@@ -1,9 +1,10 @@
--- What keeps demand 3 as sharp as it reads: a quarter of a unit is a quarter, and K is one of the k. (WorseRun.antt has the premise.)
+-- What keeps demand 3 as sharp as it reads: a quarter of a unit is a quarter, K is one of the k, and the distances by r are change 3's. (WorseRun.antt has the premise.)
 use mathlib.Core.Path.{_≡_}
-use Prim.Native.Nat.{ℕ, _<_}
+use Prim.Native.Nat.{ℕ, _+_, _*_, _<_}
 use lib.IntN.{pos}
 use Rattle.arithmetic.specs.Fraction.{whole}
-use Rattle.exact.specs.Distance.{largest, WithinQuarters}
+use Rattle.basis.specs.Basis.{Basis}
+use Rattle.exact.specs.Distance.{largest, rateDistance, survivorsDistance, expectationDistance, annuityDistance, WithinQuarters}
 
 -- ---- 1 is four quarters from 0, and not three
 pub record QuartersAreQuarters : Type 0 where
@@ -14,3 +15,10 @@ pub record QuartersAreQuarters : Type 0 where
 pub record LargestIsReached (k : ℕ → ℕ) : Type 0 where
   pub none : largest k 0 ≡ 0
   pub reached : (n : ℕ) → 0 < n → (j : ℕ) × (j < n) × (largest k n ≡ k j)
+
+-- ---- the distances of change 3 (02), where r is 2K + 1
+pub record DistancesByYears (b : Basis) : Type 0 where
+  pub rate : (k : ℕ) → rateDistance b k ≡ 2 * k + 1
+  pub survivorship : (n K : ℕ) → survivorsDistance n (rateDistance b K) ≡ 2 * n * (K + 1)
+  pub expectation : (N K : ℕ) → expectationDistance N (rateDistance b K) ≡ 2 * N * (N + 1) * (K + 1)
+  pub annuity : (N K : ℕ) → annuityDistance N (rateDistance b K) ≡ (N + 1) * (N * (2 * K + 3) + 2)

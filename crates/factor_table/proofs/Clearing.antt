@@ -7,7 +7,7 @@ use native.Mathlib.Decide.{decLt}
 use native.Mathlib.Numerals.{add-one}
 use lib.ListN.{length, getD, set, length-set}
 use lib.Seq.{getD-set-same, getD-set-other}
-use Rattle.factor_table.specs.Inner.Noting.{KeptBefore}
+use Rattle.factor_table.specs.Inner.Storing.{KeptBefore}
 
 -- 0 from one place to another; what was before it is as it was
 pub record Cleared (from : ℕ) (start numbers : List ℕ) (at : ℕ) : Type 0 where

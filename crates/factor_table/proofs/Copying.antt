@@ -1,4 +1,4 @@
--- A state noted down number by number: what the loop knows after some of them. Assumes nothing.
+-- A state stored number by number: what the loop knows after some of them. Assumes nothing.
 use mathlib.Core.Path.{_≡_, _∙_, refl}
 use mathlib.Core.List.{List}
 use Prim.Native.Nat.{ℕ, suc, _+_, _<_}
@@ -7,7 +7,7 @@ use native.Mathlib.Decide.{decLt}
 use native.Mathlib.Numerals.{add-one}
 use lib.ListN.{length, getD, set, length-set}
 use lib.Seq.{getD-set-same, getD-set-other}
-use Rattle.factor_table.specs.Inner.Noting.{KeptBefore}
+use Rattle.factor_table.specs.Inner.Storing.{KeptBefore}
 
 -- the first n numbers of the state stand at the place; what was before it is as it was
 pub record Copied (at : ℕ) (state start numbers : List ℕ) (n : ℕ) : Type 0 where

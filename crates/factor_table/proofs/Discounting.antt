@@ -1,4 +1,4 @@
--- The discounts noted down year by year: what the loop knows after some years. Assumes nothing.
+-- The discounts stored year by year: what the loop knows after some years. Assumes nothing.
 use mathlib.Core.Path.{_≡_, _∙_, ap, sym, refl}
 use mathlib.Core.List.{List}
 use Prim.Native.Nat.{ℕ, suc, _+_, _*_, _-_, _≤_, _<_}
@@ -12,45 +12,45 @@ use Rattle.arithmetic.specs.Fraction.{U}
 use Rattle.basis.specs.Basis.{Basis, accumulationOf}
 use Rattle.valuation.specs.Valuation.{discountNext, discountAfter}
 use Rattle.valuation.proofs.Discount.{discount-turn}
-use Rattle.sweep.specs.Held.{heldIn}
-use Rattle.factor_table.specs.Inner.Noting.{KeptBefore}
-use Rattle.factor_table.specs.FactorTable.{YearsNoted, RestIsZero, DiscountsNoted, FactorTable}
+use Rattle.sweep.specs.Encoding.{decoded}
+use Rattle.factor_table.specs.Inner.Storing.{KeptBefore}
+use Rattle.factor_table.specs.FactorTable.{tableYears, factorsLength, tableLength, YearsStored, RestIsZero, DiscountsStored, FactorTable}
 
--- the first j discounts are noted, and v is the next one
+-- the first j discounts are stored, and v is the next one
 pub record Discounted (b : Basis) (start numbers : List ℕ) (j v : ℕ) : Type 0 where
   pub same : length numbers ≡ length start
-  pub noted : DiscountsNoted b numbers j
-  pub kept : KeptBefore 18209 start numbers
+  pub stored : DiscountsStored b numbers j
+  pub kept : KeptBefore factorsLength start numbers
   pub next : discountAfter b j ≡ pos v
 
 module _ (b : Basis) (start : List ℕ) where
   pub discounted-none : Discounted b start start 0 U
   unfolding discountAfter
-  discounted-none = record { same = refl; noted = λ i l. absurd (omega arith); kept = λ i l. refl; next = refl }
+  discounted-none = record { same = refl; stored = λ i l. absurd (omega arith); kept = λ i l. refl; next = refl }
 
-  pub discounted-next : (numbers : List ℕ) (j v w : ℕ) {accumulation : ℕ} → 18209 + j < length start → accumulation ≡ accumulationOf b → Discounted b start numbers j v
-      → pos w ≡ discountNext (pos v) accumulation → Discounted b start (set numbers (18209 + j) v) (j + 1) w
+  pub discounted-next : (numbers : List ℕ) (j v w : ℕ) {accumulation : ℕ} → factorsLength + j < length start → accumulation ≡ accumulationOf b → Discounted b start numbers j v
+      → pos w ≡ discountNext (pos v) accumulation → Discounted b start (set numbers (factorsLength + j) v) (j + 1) w
   discounted-next numbers j v w l e d g =
       rw add-one
       (record {
-        same = length-set numbers (18209 + j) v ∙ d .same;
-        noted = λ i k. by i k (decLt i j);
-        kept = λ i k. getD-set-other numbers (18209 + j) i v 0 (λ e. omega arith) ∙ d .kept i k;
+        same = length-set numbers (factorsLength + j) v ∙ d .same;
+        stored = λ i k. by i k (decLt i j);
+        kept = λ i k. getD-set-other numbers (factorsLength + j) i v 0 (λ e. omega arith) ∙ d .kept i k;
         next = discount-turn b j (pos v) e (d .next) ∙ sym g;
       })
     where
-      by : (i : ℕ) → i < suc j → Dec (i < j) → pos (getD (set numbers (18209 + j) v) (18209 + i) 0) ≡ discountAfter b i
-      by i k (yes q) = ap pos (getD-set-other numbers (18209 + j) (18209 + i) v 0 (λ e. omega arith)) ∙ d .noted i q
-      by i k (no q) = let e : i ≡ j = omega arith in rw e (ap pos (getD-set-same numbers (18209 + j) v 0 (omega (arith, d .same))) ∙ sym (d .next))
+      by : (i : ℕ) → i < suc j → Dec (i < j) → pos (getD (set numbers (factorsLength + j) v) (factorsLength + i) 0) ≡ discountAfter b i
+      by i k (yes q) = ap pos (getD-set-other numbers (factorsLength + j) (factorsLength + i) v 0 (λ e. omega arith)) ∙ d .stored i q
+      by i k (no q) = let e : i ≡ j = omega arith in rw e (ap pos (getD-set-same numbers (factorsLength + j) v 0 (omega (arith, d .same))) ∙ sym (d .next))
 
--- ---- the discounts are noted behind the years, which begin in 1992 at the earliest, and so keep them
-pub noted-behind : (b : Basis) (numbers cleared after : List ℕ) → 1992 ≤ b .base → length after ≡ 18340
-    → YearsNoted b numbers (2131 - b .base) → RestIsZero b cleared → KeptBefore (131 * (2131 - b .base)) numbers cleared
-    → DiscountsNoted b after 131 → KeptBefore 18209 cleared after → FactorTable b after
-noted-behind b numbers cleared after first size years zero stand discounts kept =
+-- ---- the discounts are stored behind the years, which begin in 1992 at the earliest, and so keep them
+pub stored-behind : (b : Basis) (numbers cleared after : List ℕ) → 1992 ≤ b .base → length after ≡ tableLength
+    → YearsStored b numbers (tableYears b) → RestIsZero b cleared → KeptBefore (131 * tableYears b) numbers cleared
+    → DiscountsStored b after 131 → KeptBefore factorsLength cleared after → FactorTable b after
+stored-behind b numbers cleared after first size years zero stand discounts kept =
     record {
       size = size;
-      years = λ k i l m. ap (heldIn (20 + i)) (kept (131 * k + i) (omega arith) ∙ stand (131 * k + i) (omega arith)) ∙ years k i l m;
+      years = λ k i l m. ap (decoded (20 + i)) (kept (131 * k + i) (omega arith) ∙ stand (131 * k + i) (omega arith)) ∙ years k i l m;
       rest = λ i l m. kept i m ∙ zero i l m;
       discounts = discounts;
     }

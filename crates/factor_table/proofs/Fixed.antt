@@ -8,32 +8,32 @@ use native.Mathlib.Omega.{arith}
 use lib.IntN.{pos, natAbs}
 use lib.ListN.{length, getD}
 use Rattle.basis.specs.Basis.{Basis}
-use Rattle.sweep.proofs.Fixed.{held-once, same-numbers}
-use Rattle.factor_table.specs.FactorTable.{FactorTable}
+use Rattle.sweep.proofs.Fixed.{decoded-once, same-numbers}
+use Rattle.factor_table.specs.FactorTable.{tableYears, factorsLength, tableLength, FactorTable}
 use Rattle.factor_table.specs.Fixed.{FactorTableIsFixed}
 
 module _ (b : Basis) (xs ys : List ℕ) (w : FactorTable b xs) (v : FactorTable b ys) where
   -- the number of a year at an age
-  noted : (k i : ℕ) → k < 2131 - b .base → i < 131 → getD xs (131 * k + i) 0 ≡ getD ys (131 * k + i) 0
-  noted k i h l = held-once (20 + i) _ _ (w .years k i h l ∙ sym (v .years k i h l))
+  stored : (k i : ℕ) → k < tableYears b → i < 131 → getD xs (131 * k + i) 0 ≡ getD ys (131 * k + i) 0
+  stored k i h l = decoded-once (20 + i) _ _ (w .years k i h l ∙ sym (v .years k i h l))
 
-  in-years : (i : ℕ) → i < 131 * (2131 - b .base) → getD xs i 0 ≡ getD ys i 0
+  in-years : (i : ℕ) → i < 131 * tableYears b → getD xs i 0 ≡ getD ys i 0
   in-years i h =
       let e : 131 * (i / 131) + i % 131 ≡ i = omega arith in
-      rw e at (noted (i / 131) (i % 131) (omega arith) (omega arith))
+      rw e at (stored (i / 131) (i % 131) (omega arith) (omega arith))
 
-  in-discounts : (j : ℕ) → j < 131 → getD xs (18209 + j) 0 ≡ getD ys (18209 + j) 0
+  in-discounts : (j : ℕ) → j < 131 → getD xs (factorsLength + j) 0 ≡ getD ys (factorsLength + j) 0
   in-discounts j h = ap natAbs (w .discounts j h ∙ sym (v .discounts j h))
 
-  each : (i : ℕ) → i < 18340 → getD xs i 0 ≡ getD ys i 0
-  each i h = by (decLt i 18209) (decLt i (131 * (2131 - b .base)))
+  each : (i : ℕ) → i < tableLength → getD xs i 0 ≡ getD ys i 0
+  each i h = by (decLt i factorsLength) (decLt i (131 * tableYears b))
     where
-      by : Dec (i < 18209) → Dec (i < 131 * (2131 - b .base)) → getD xs i 0 ≡ getD ys i 0
+      by : Dec (i < factorsLength) → Dec (i < 131 * tableYears b) → getD xs i 0 ≡ getD ys i 0
       by (yes l) (yes m) = in-years i m
       by (yes l) (no m) = w .rest i (omega arith) l ∙ sym (v .rest i (omega arith) l)
       by (no l) m =
-          let e : 18209 + (i - 18209) ≡ i = omega arith in
-          rw e at (in-discounts (i - 18209) (omega arith))
+          let e : factorsLength + (i - factorsLength) ≡ i = omega arith in
+          rw e at (in-discounts (i - factorsLength) (omega arith))
 
 pub factor-table-is-fixed : FactorTableIsFixed
 factor-table-is-fixed =

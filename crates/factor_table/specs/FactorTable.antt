@@ -7,27 +7,42 @@ use lib.ListN.{length, getD}
 use Rattle.basis.specs.Basis.{Basis}
 use Rattle.history.specs.History.{basisWith, Workable}
 use Rattle.sweep.specs.Sweep.{sweepAfter}
-use Rattle.sweep.specs.Held.{heldIn}
+use Rattle.sweep.specs.Encoding.{decoded}
 use Rattle.valuation.specs.Valuation.{discountAfter}
 
+-- the years from B to 2130
+abbrev pub tableYears : Basis → ℕ
+tableYears b = 2131 - b .base
+
+-- 131 numbers for each of the 139 years from 1992 to 2130, the most that there are; and 131 more, for the discounts
+abbrev pub factorsLength : ℕ
+factorsLength = 18209
+
+abbrev pub tableLength : ℕ
+tableLength = 18340
+
 -- the first n years from B on, each with the state of the sweep: 131 numbers a year
-abbrev pub YearsNoted : Basis → List ℕ → ℕ → Type 0
-YearsNoted b numbers n = (k i : ℕ) → k < n → i < 131 → heldIn (20 + i) (getD numbers (131 * k + i) 0) ≡ sweepAfter b k (20 + i)
+abbrev pub YearsStored : Basis → List ℕ → ℕ → Type 0
+YearsStored b numbers n = (k i : ℕ) → k < n → i < 131 → decoded (20 + i) (getD numbers (131 * k + i) 0) ≡ sweepAfter b k (20 + i)
 
 -- with B after 1992 there are fewer years than have room: 0 in the rest of it
 abbrev pub RestIsZero : Basis → List ℕ → Type 0
-RestIsZero b numbers = (i : ℕ) → 131 * (2131 - b .base) ≤ i → i < 18209 → getD numbers i 0 ≡ 0
+RestIsZero b numbers = (i : ℕ) → 131 * tableYears b ≤ i → i < factorsLength → getD numbers i 0 ≡ 0
 
--- behind the 139 years from 1992 to 2130, the most that there are, the first n discounts
-abbrev pub DiscountsNoted : Basis → List ℕ → ℕ → Type 0
-DiscountsNoted b numbers n = (j : ℕ) → j < n → pos (getD numbers (18209 + j) 0) ≡ discountAfter b j
+-- what stands behind the factors, by the years of discount
+abbrev pub discountAt : List ℕ → ℕ → ℕ
+discountAt numbers j = getD numbers (factorsLength + j) 0
+
+-- the first n discounts
+abbrev pub DiscountsStored : Basis → List ℕ → ℕ → Type 0
+DiscountsStored b numbers n = (j : ℕ) → j < n → pos (discountAt numbers j) ≡ discountAfter b j
 
 -- all years from B to 2130, and the discounts of 0 to 130 years; no number of them is left free
 pub record FactorTable (b : Basis) (numbers : List ℕ) : Type 0 where
-  pub size : length numbers ≡ 18340
-  pub years : YearsNoted b numbers (2131 - b .base)
+  pub size : length numbers ≡ tableLength
+  pub years : YearsStored b numbers (tableYears b)
   pub rest : RestIsZero b numbers
-  pub discounts : DiscountsNoted b numbers 131
+  pub discounts : DiscountsStored b numbers 131
 
 -- a data run and its history that can be worked with, and what was worked out of them
 abbrev pub Tabled : List ℕ → List ℕ → List ℕ → Type 0

@@ -1,1 +1,1 @@
-pub mod Noting
+pub mod Storing

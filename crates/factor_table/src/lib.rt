@@ -7,13 +7,19 @@ pub mod factors;
 ghost use mathlib.Core.Path.{_≡_};
 ghost use lib.ListN.{length};
 ghost use Rattle.history.specs.History.{basisWith, Workable};
-ghost use Rattle.factor_table.specs.FactorTable.{FactorTable};
+ghost use Rattle.factor_table.specs.FactorTable.{tableLength, FactorTable};
+
+// 131 numbers for each of the 139 years from 1992 to 2130.
+pub const FACTORS_LENGTH: usize = 18209;
+
+// The same with the discounts of 0 to 130 years behind them.
+pub const TABLE_LENGTH: usize = 18340;
 
 pub fn fill_table(run: &[u8], history: &[u8], numbers: &mut [u32])
-    requires { ⌜ Workable (now run) (now history) × (length (now numbers) ≡ 18340) ⌝ }
+    requires { ⌜ Workable (now run) (now history) × (length (now numbers) ≡ tableLength) ⌝ }
     ensures { λ _. ⌜ FactorTable (basisWith (now (run .entry)) (now (history .entry))) (now (numbers .exit)) ⌝ }
 {
-    factors::note_years(run, history, numbers);
+    factors::store_years(run, history, numbers);
     factors::clear_rest(run, history, numbers);
-    discounts::note_discounts(run, history, numbers);
+    discounts::store_discounts(run, history, numbers);
 }

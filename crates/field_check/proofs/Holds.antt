@@ -7,20 +7,21 @@ use native.Mathlib.Nat.{not-suc-le-zero, le-of-suc-le-suc}
 use native.Mathlib.Omega.{arith}
 use lib.IntN.{ℤ}
 use Rattle.outcome.specs.Outcome.{passed, refusedBy, refusal}
-use Rattle.field_check.specs.declared.Number.{Number}
+use Rattle.layout.specs.declared.Number.{Number}
 use Rattle.field_check.specs.declared.Field.{Field}
-use Rattle.field_check.specs.Field.{widthOf, valueAt, between, entriesCheck, fieldCheck}
+use Rattle.layout.specs.Layout.{widthOf, valueAt}
+use Rattle.field_check.specs.Field.{between, entriesCheck, fieldCheck}
 use Rattle.field_check.proofs.Limits.{Between, opened, closed}
 
 -- every number that stands there is between its limits
 pub record Holds (run : List ℕ) (f : Field) : Type 0 where
-  pub within : (i : ℕ) → i < f .5 → Between (f .2) (valueAt (f .1) run (f .4 + widthOf (f .1) * i)) (f .3)
+  pub within : (i : ℕ) → i < f .count → Between (f .low) (valueAt (f .kind) run (f .offset + widthOf (f .kind) * i)) (f .high)
 
 -- a field of one number
-pub single : {run : List ℕ} {f : Field} → f .5 ≡ 1 → Between (f .2) (valueAt (f .1) run (f .4)) (f .3) → Holds run f
-single {run} {f} e b = record { within = λ i l. let z : f .4 + widthOf (f .1) * i ≡ f .4 = by i (rw e at l) in rw z b }
+pub single : {run : List ℕ} {f : Field} → f .count ≡ 1 → Between (f .low) (valueAt (f .kind) run (f .offset)) (f .high) → Holds run f
+single {run} {f} e b = record { within = λ i l. let z : f .offset + widthOf (f .kind) * i ≡ f .offset = by i (rw e at l) in rw z b }
   where
-    by : (i : ℕ) → i < 1 → f .4 + widthOf (f .1) * i ≡ f .4
+    by : (i : ℕ) → i < 1 → f .offset + widthOf (f .kind) * i ≡ f .offset
     by zero l = omega arith
     by (suc i) l = absurd (omega arith)
 
@@ -54,8 +55,8 @@ module _ (run : List ℕ) (number : ℕ) (kind : Number) (low high : ℤ) where
 module _ (run : List ℕ) where
   pub field-holds : (f : Field) → fieldCheck run f ≡ passed → Holds run f
   unfolding fieldCheck
-  field-holds f h = record { within = entries-hold run (f .0) (f .1) (f .2) (f .3) (f .4) (f .5) h }
+  field-holds f h = record { within = entries-hold run (f .number) (f .kind) (f .low) (f .high) (f .offset) (f .count) h }
 
   pub field-passes : (f : Field) → Holds run f → fieldCheck run f ≡ passed
   unfolding fieldCheck
-  field-passes f h = entries-pass run (f .0) (f .1) (f .2) (f .3) (f .4) (f .5) (h .within)
+  field-passes f h = entries-pass run (f .number) (f .kind) (f .low) (f .high) (f .offset) (f .count) (h .within)

@@ -8,8 +8,9 @@ use native.Mathlib.Numerals.{sub-one}
 use lib.IntN.{ℤ}
 use Rattle.outcome.specs.declared.Refusal.{Refusal}
 use Rattle.outcome.specs.Outcome.{Finding, refusedBy, refusal, passes}
-use Rattle.field_check.specs.declared.Number.{Number}
-use Rattle.field_check.specs.Field.{widthOf, valueAt, between, entriesCheck}
+use Rattle.layout.specs.declared.Number.{Number}
+use Rattle.layout.specs.Layout.{widthOf, valueAt}
+use Rattle.field_check.specs.Field.{between, entriesCheck}
 
 pub room : (n w : ℕ) → 0 < n → n * w ≡ (n - 1) * w + w
 room zero w h = absurd (not-suc-le-zero h)

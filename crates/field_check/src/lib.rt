@@ -3,44 +3,22 @@ ghost use mathlib.Core.Path.{_≡_};
 ghost use Prim.Native.Nat.{_+_, _*_, _≤_};
 ghost use lib.ListN.{length};
 ghost use Rattle.outcome.specs.Outcome.{passes, finding};
-ghost use Rattle.field_check.specs.Field.{widthOf, valueAt, between, fieldCheck};
+ghost use Rattle.layout.specs.Layout.{widthOf, valueAt};
+ghost use Rattle.field_check.specs.Field.{between, fieldCheck};
+use layout::Number;
+use layout::value_at;
+use layout::width_of;
 use outcome::Check;
 use outcome::Refusal;
 
-// A kind of number in a data run: a byte, 2 bytes, 4 bytes, 4 bytes signed.
-pub enum Number {
-    Byte,
-    Half,
-    Word,
-    SignedWord,
-}
-
-// Numbers of one kind, one after the other: the refusal of one outside its limits, the kind, the two limits, the offset
-// of the first, and how many there are.
-pub struct Field(pub u32, pub Number, pub i64, pub i64, pub usize, pub usize);
-
-fn width_of(kind: Number) -> usize
-    ensures { λ r. ⌜ r ≡ widthOf kind ⌝ }
-{
-    match kind {
-        Number::Byte => 1,
-        Number::Half => 2,
-        Number::Word => 4,
-        Number::SignedWord => 4,
-    }
-}
-
-// The number that stands at an offset.
-fn value_at(run: &[u8], kind: Number, at: usize) -> i64
-    requires { ⌜ at + widthOf kind ≤ length (now run) ⌝ }
-    ensures { λ r. ⌜ r ≡ valueAt kind (now (run .entry)) at ⌝ }
-{
-    match kind {
-        Number::Byte => run[at] as i64,
-        Number::Half => little_endian::read_u16(run, at) as i64,
-        Number::Word => little_endian::read_u32(run, at) as i64,
-        Number::SignedWord => little_endian::read_i32(run, at) as i64,
-    }
+// Numbers of one kind, one after the other, with the limits of each and the number of the refusal of one outside them.
+pub struct Field {
+    pub number: u32,
+    pub kind: Number,
+    pub low: i64,
+    pub high: i64,
+    pub offset: usize,
+    pub count: usize,
 }
 
 // Whether a number is from the one to the other, both included.
@@ -61,15 +39,15 @@ fn entry_ok(run: &[u8], kind: Number, low: i64, high: i64, at: usize) -> bool
 // Whether every number of a field is within its limits. None is left out once one is found outside, so that the compiler
 // may look at several at a time.
 pub fn all_within(run: &[u8], f: Field) -> bool
-    requires { ⌜ f .4 + f .5 * widthOf (f .1) ≤ length (now run) ⌝ }
+    requires { ⌜ f .offset + f .count * widthOf (f .kind) ≤ length (now run) ⌝ }
     ensures { λ r. ⌜ r ≡ passes (fieldCheck (now (run .entry)) f) ⌝ }
 {
-    let kind = f.1;
-    let low = f.2;
-    let high = f.3;
+    let kind = f.kind;
+    let low = f.low;
+    let high = f.high;
     let width = width_of(kind);
-    let mut at = f.4;
-    let mut more = f.5;
+    let mut at = f.offset;
+    let mut more = f.count;
     let mut all = true;
     while 0 < more {
         all = all & entry_ok(run, kind, low, high, at);
@@ -80,17 +58,17 @@ pub fn all_within(run: &[u8], f: Field) -> bool
 }
 
 // The first number of a field that is outside its limits.
-pub fn check_field(run: &[u8], f: Field) -> Check
-    requires { ⌜ f .4 + f .5 * widthOf (f .1) ≤ length (now run) ⌝ }
+fn first_outside(run: &[u8], f: Field) -> Check
+    requires { ⌜ f .offset + f .count * widthOf (f .kind) ≤ length (now run) ⌝ }
     ensures { λ r. ⌜ finding r ≡ fieldCheck (now (run .entry)) f ⌝ }
 {
-    let kind = f.1;
-    let low = f.2;
-    let high = f.3;
+    let kind = f.kind;
+    let low = f.low;
+    let high = f.high;
     let width = width_of(kind);
-    let number = f.0;
-    let mut at = f.4;
-    let mut left = f.5;
+    let number = f.number;
+    let mut at = f.offset;
+    let mut left = f.count;
     while 0 < left {
         if entry_ok(run, kind, low, high, at) {
             at += width;
@@ -104,4 +82,15 @@ pub fn check_field(run: &[u8], f: Field) -> Check
         }
     }
     Check::Passed
+}
+
+// The same, sought only where there is one: of an accepted run every number is looked at once.
+pub fn check_field(run: &[u8], f: Field) -> Check
+    requires { ⌜ f .offset + f .count * widthOf (f .kind) ≤ length (now run) ⌝ }
+    ensures { λ r. ⌜ finding r ≡ fieldCheck (now (run .entry)) f ⌝ }
+{
+    if all_within(run, f) {
+        return Check::Passed;
+    }
+    first_outside(run, f)
 }

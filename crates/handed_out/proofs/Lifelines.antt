@@ -1,11 +1,9 @@
 -- After n steps that have all advanced a lifeline has the survivors of n years of cohort survivorship, and so their distance. Assumes nothing.
 use mathlib.Core.Path.{_≡_, _∙_, ap, sym, refl}
-use mathlib.Core.Bool.{Bool, true, false, cond}
 use mathlib.Core.List.{List}
 use Prim.Native.Nat.{ℕ, zero, suc, _+_, _≤_, _<_}
 use native.Mathlib.Omega.{arith}
 use native.Mathlib.Decide.{decLt}
-use lib.Dec.{eqb}
 use lib.IntN.{pos}
 use borrow.Author.Tests.{le-leb, eqb-false}
 use Rattle.arithmetic.proofs.Distance.{within-more}
@@ -17,13 +15,13 @@ use Rattle.question.specs.Question.{defermentCheck, questionCheck}
 use Rattle.question.proofs.Passed.{question-parts}
 use Rattle.enquiry.specs.Enquiry.{valuationCheck}
 use Rattle.enquiry.proofs.Passed.{valuation-passed}
-use Rattle.lifeline.specs.declared.Stand.{Stand}
-use Rattle.lifeline.specs.Said.{advanced, ended, Step}
-use Rattle.lifeline.specs.Lifeline.{begunAt, startAt, stepCheck, moved, lived, unlessRefused, stepAt, stepFrom, standAfter}
-use Rattle.lifeline.proofs.Standing.{step-passed}
+use Rattle.lifeline.specs.declared.Position.{Position}
+use Rattle.lifeline.specs.Said.{advanced}
+use Rattle.lifeline.specs.Lifeline.{positionAt, startUnlessRefused, startAt, stepAt, positionAfter}
+use Rattle.lifeline.proofs.Steps.{step-passed, step-advanced}
 use Rattle.lifeline.specs.Survivorship.{Advances}
 use Rattle.lifeline.proofs.Survivorship.{steps-are-survivorship}
-use Rattle.engine.specs.Lifelines.{lifelineBegun}
+use Rattle.engine.specs.Lifelines.{lifelineOfStart}
 use Rattle.exact.proofs.Demands.{demand-3}
 use Rattle.refusals.proofs.Calls.{numbered-refusals, zero-is-none}
 use Rattle.handed_out.specs.HandedOut.{SurvivorsNear}
@@ -37,27 +35,20 @@ at-most {age} l apart = by (decLt age 150)
     by (no g) = absurd (apart (omega arith))
 
 -- a step that advanced was of an age below 150
-below : (run history : List ℕ) (age year s : ℕ) → stepAt run history age year s .says ≡ value advanced → age < 150
-unfolding stepAt lived
-below run history age year s h =
-    let c = by (stepCheck run history age year s) (eqb age 150) _ h in
-    let p = step-passed run history age year s (c .0) in
-    at-most (p .2) (eqb-false age 150 (c .1))
-  where
-    by : (c : Finding) (e : Bool) (m : Step) → unlessRefused age year s c (cond e (moved age year s (value ended)) m) .says ≡ value advanced → (c ≡ passed) × (e ≡ false)
-    by passed false m g = (refl, refl)
-    by passed true m g = let z : _≡_ {A = ℕ} 0 1 = cc in absurd (omega arith)
-    by (refusedBy r) e m g = let z : _≡_ {A = ℕ} 0 1 = cc in absurd (omega arith)
+below : (run history : List ℕ) (p : Position) → stepAt run history p .says ≡ value advanced → p .age < 150
+below run history p h =
+    let c = step-advanced run history p h in
+    at-most (step-passed run history p (c .0) .2) (eqb-false (p .age) 150 (c .1))
 
 module _ (run history : List ℕ) (age year : ℕ) where
   -- a start that is not refused has passed its checks
-  started : lifelineBegun (startAt run history age year) .refusal .number ≡ 0 → valuationCheck run history age 0 year ≡ passed
+  started : lifelineOfStart (startAt run history age year) .refusal .number ≡ 0 → valuationCheck run history age 0 year ≡ passed
   unfolding startAt
-  started begun =
-      let c = zero-is-none .check (startAt run history age year .check) (numbered-refusals run history .start age year) begun in
+  started unrefused =
+      let c = zero-is-none .check (startAt run history age year .check) (numbered-refusals run history .start age year) unrefused in
       by (valuationCheck run history age 0 year) c
     where
-      by : (c : Finding) → begunAt age year c .check ≡ passed → c ≡ passed
+      by : (c : Finding) → startUnlessRefused age year c .check ≡ passed → c ≡ passed
       by passed g = refl
       by (refusedBy r) g = g
 
@@ -70,16 +61,16 @@ module _ (run history : List ℕ) (age year : ℕ) where
       rw (p .0, q .0, q .2, le-leb (age + n) 150 (old n a)) refl
     where
       old : (n : ℕ) → Advances run history age year n → age + n ≤ 150
-      old zero a = let v = valuation-passed run history age 0 year h in v .2
+      old zero a = let v = valuation-passed run history age 0 year h in v .age-high
       old (suc k) a =
           let s = steps-are-survivorship run history age year k h (λ j l. a j (omega arith)) in
-          let last = below run history (age + k) (year + k) (s .0) (ap (λ (x : Stand). stepFrom run history x .says) (sym (s .1)) ∙ a k (omega arith)) in
+          let last = below run history (positionAt (age + k) (year + k) (s .0)) (ap (λ (x : Position). stepAt run history x .says) (sym (s .1)) ∙ a k (omega arith)) in
           omega (arith, last)
 
-  pub lifeline-near : (n : ℕ) → lifelineBegun (startAt run history age year) .refusal .number ≡ 0 → Advances run history age year n →
-      SurvivorsNear (basisWith run history) Cohort age n year (pos (standAfter run history age year n .survivors))
-  lifeline-near n begun a =
-      let h = started begun in
+  pub lifeline-near : (n : ℕ) → lifelineOfStart (startAt run history age year) .refusal .number ≡ 0 → Advances run history age year n →
+      SurvivorsNear (basisWith run history) Cohort age n year (pos (positionAfter run history age year n .survivors))
+  lifeline-near n unrefused a =
+      let h = started unrefused in
       let s = steps-are-survivorship run history age year n h a in
       let answer = survivorship-asked run history Cohort age n year (asked n h a) (pos (s .0)) (s .2) in
-      rw (ap (λ (x : Stand). x .survivors) (s .1)) (λ improving. within-more (demand-3 run history .survivorship Cohort age n year (pos (s .0)) answer improving) (omega arith))
+      rw (ap (λ (x : Position). x .survivors) (s .1)) (λ improving. within-more (demand-3 run history .survivorship Cohort age n year (pos (s .0)) answer improving) (omega arith))

@@ -10,6 +10,7 @@ use Rattle.arithmetic.specs.Fraction.{Within}
 use Rattle.basis.specs.Basis.{Basis}
 use Rattle.outcome.specs.Outcome.{value}
 use Rattle.history.specs.History.{basisWith}
+use Rattle.projection.specs.Projection.{yearsTo}
 use Rattle.survivorship.specs.declared.Kind.{Kind}
 use Rattle.survivorship.specs.declared.Kind.the-variants.{Period, Cohort}
 use Rattle.enquiry.specs.Enquiry.{improvementEnquiry, factorEnquiry, rateEnquiry, survivorshipEnquiry, expectationEnquiry, annuityEnquiry}
@@ -21,35 +22,35 @@ use Rattle.grid_record.specs.declared.Point.{Point}
 use Rattle.grid_record.specs.Record.{questionOf}
 use Rattle.grid.specs.Grid.{gridCheck, gridOf}
 use Rattle.lifeline.specs.Said.{advanced}
-use Rattle.lifeline.specs.Lifeline.{startAt, stepFrom, standAfter}
+use Rattle.lifeline.specs.Lifeline.{startAt, stepAt, positionAfter}
 use Rattle.engine.specs.Enquiry.{refusalOf, answerOf, signedAnswerOf}
-use Rattle.engine.specs.Lifelines.{lifelineBegun}
-use Rattle.exact.specs.Model.{exactImprovement, yearsTo, exactFactor, exactRate, exactSurvivors, exactExpectation, exactAnnuity}
-use Rattle.exact.specs.Distance.{Improving, ImprovingOver, largestYears, WithinQuarters}
+use Rattle.engine.specs.Lifelines.{lifelineOfStart}
+use Rattle.exact.specs.Model.{exactImprovement, exactFactor, exactRate, exactSurvivors, exactExpectation, exactAnnuity}
+use Rattle.exact.specs.Distance.{Improving, ImprovingOver, largestYears, rateDistance, survivorsDistance, expectationDistance, annuityDistance, WithinQuarters}
 
 -- ---- a number v, and demand 3's distance for it, under its premise
 abbrev pub FactorNear : Basis → ℕ → ℕ → ℤ → Type 0
 FactorNear b age year v = Improving b age year → Within v (exactFactor b age year) (2 * yearsTo b year)
 
 abbrev pub RateNear : Basis → ℕ → ℕ → ℤ → Type 0
-RateNear b age year v = Improving b age year → Within v (exactRate b age year) (2 * yearsTo b year + 1)
+RateNear b age year v = Improving b age year → Within v (exactRate b age year) (rateDistance b (yearsTo b year))
 
 abbrev pub SurvivorsNear : Basis → Kind → ℕ → ℕ → ℕ → ℤ → Type 0
 SurvivorsNear b kind age n year v =
-    ImprovingOver b kind age n year → Within v (exactSurvivors b kind age n year) (2 * n * (largestYears b kind n year + 1))
+    ImprovingOver b kind age n year → Within v (exactSurvivors b kind age n year) (survivorsDistance n (rateDistance b (largestYears b kind n year)))
 
 abbrev pub ExpectationNear : Basis → Kind → ℕ → ℕ → ℕ → ℤ → Type 0
 ExpectationNear b kind age deferment year v =
     let N = 150 - age - deferment in
     let K = largestYears b kind N (year + deferment) in
-    ImprovingOver b kind (age + deferment) N (year + deferment) → WithinQuarters v (exactExpectation b kind age deferment year) (2 * N * (N + 1) * (K + 1))
+    ImprovingOver b kind (age + deferment) N (year + deferment) → WithinQuarters v (exactExpectation b kind age deferment year) (expectationDistance N (rateDistance b K))
 
 -- w times the distance of an annuity
 abbrev pub AnnuityWithin : ℕ → Basis → Kind → ℕ → ℕ → ℕ → ℤ → Type 0
 AnnuityWithin w b kind age deferment year v =
     let N = 150 - age in
     let K = largestYears b kind N year in
-    ImprovingOver b kind age N year → WithinQuarters v (exactAnnuity b kind age deferment year) (w * ((N + 1) * (N * (2 * K + 3) + 2)))
+    ImprovingOver b kind age N year → WithinQuarters v (exactAnnuity b kind age deferment year) (w * annuityDistance N (rateDistance b K))
 
 -- once where the rate of discount is not below zero, four times where it is
 pub record AnnuityNear (b : Basis) (kind : Kind) (age deferment year : ℕ) (v : ℤ) : Type 0 where
@@ -94,6 +95,6 @@ pub record HandedOut (run history : List ℕ) : Type 0 where
       let a = getD (smallSetOf run history questions .points) i noAnswer in
       a .refusal .number ≡ 0 → ResultsNear (basisWith run history) (getD (questions .points) i noQuestion) (a .results)
   -- a lifeline whose start is not refused, after n steps that have all advanced
-  pub lifeline : (age year n : ℕ) → lifelineBegun (startAt run history age year) .refusal .number ≡ 0 →
-      ((k : ℕ) → k < n → stepFrom run history (standAfter run history age year k) .says ≡ value advanced) →
-      SurvivorsNear (basisWith run history) Cohort age n year (pos (standAfter run history age year n .survivors))
+  pub lifeline : (age year n : ℕ) → lifelineOfStart (startAt run history age year) .refusal .number ≡ 0 →
+      ((k : ℕ) → k < n → stepAt run history (positionAfter run history age year k) .says ≡ value advanced) →
+      SurvivorsNear (basisWith run history) Cohort age n year (pos (positionAfter run history age year n .survivors))

@@ -21,7 +21,7 @@ use Rattle.field_check.proofs.Holds.{Holds, field-holds, field-passes}
 use Rattle.run_check.specs.Run.{runCheck}
 use Rattle.run_check.proofs.Acceptance as runs
 use Rattle.block.specs.Blocks.{blocksCheck}
-use Rattle.history.specs.History.{actualYears, lengthNeeded, historyData, placeOf, actualOf, movedTo, yearlyFields, historyFields}
+use Rattle.history.specs.History.{actualYears, lengthNeeded, historyData, placeOf, actualOf, shiftedBy, yearlyFields, historyFields}
 use Rattle.history.specs.History.{youngerAges, firstRemaining, olderAges, secondRemaining, historyCheck, runAndHistoryCheck, Workable}
 use Rattle.history.specs.Accepted.{AcceptedHistory, HistoryAcceptance}
 use Rattle.history.proofs.RightBlocks.{blocks-right, blocks-pass}
@@ -56,10 +56,10 @@ module _ (b : Basis) (history : List ℕ) where
       abbrev K : ℕ
       K = year - (b .base + 1)
 
-      rates : (fieldCheck Data (movedTo (0 + 1012 * K) youngerAges) ≡ passed) × (fieldCheck Data (movedTo (0 + 1012 * K + 506) olderAges) ≡ passed)
+      rates : (fieldCheck Data (shiftedBy (0 + 1012 * K) youngerAges) ≡ passed) × (fieldCheck Data (shiftedBy (0 + 1012 * K + 506) olderAges) ≡ passed)
       rates = each-year Data youngerAges olderAges (actualYears b) K 0 (omega arith) (tables .1)
 
-      rests : (fieldCheck Data (movedTo (0 + 1012 * K) firstRemaining) ≡ passed) × (fieldCheck Data (movedTo (0 + 1012 * K + 506) secondRemaining) ≡ passed)
+      rests : (fieldCheck Data (shiftedBy (0 + 1012 * K) firstRemaining) ≡ passed) × (fieldCheck Data (shiftedBy (0 + 1012 * K + 506) secondRemaining) ≡ passed)
       rests = each-year Data firstRemaining secondRemaining (actualYears b) K 0 (omega arith) (tables .0)
 
       within : (age : ℕ) → 20 ≤ age → age ≤ 150 → natAbs (actualOf b history age year) ≤ 500_000_000
@@ -107,7 +107,7 @@ module _ (b : Basis) (history : List ℕ) where
       year-is : Year - (b .base + 1) ≡ k
       year-is = omega arith
 
-      younger-hold : Holds Data (movedTo (0 + 1012 * k) youngerAges)
+      younger-hold : Holds Data (shiftedBy (0 + 1012 * k) youngerAges)
       unfolding actualOf
       younger-hold =
           record {
@@ -117,7 +117,7 @@ module _ (b : Basis) (history : List ℕ) where
                 sized 499_999_999 _ r;
           }
 
-      older-hold : Holds Data (movedTo (0 + 1012 * k + 506) olderAges)
+      older-hold : Holds Data (shiftedBy (0 + 1012 * k + 506) olderAges)
       unfolding actualOf
       older-hold =
           record {
@@ -127,7 +127,7 @@ module _ (b : Basis) (history : List ℕ) where
                 sized 499_999_999 _ r;
           }
 
-      first-hold : Holds Data (movedTo (0 + 1012 * k) firstRemaining)
+      first-hold : Holds Data (shiftedBy (0 + 1012 * k) firstRemaining)
       first-hold =
           record {
             within = λ i m.
@@ -136,7 +136,7 @@ module _ (b : Basis) (history : List ℕ) where
                 natural (omega arith) (omega (arith, z));
           }
 
-      second-hold : Holds Data (movedTo (0 + 1012 * k + 506) secondRemaining)
+      second-hold : Holds Data (shiftedBy (0 + 1012 * k + 506) secondRemaining)
       second-hold =
           record {
             within = λ i m.

@@ -12,15 +12,15 @@ use Rattle.field_check.specs.Field.{fieldsCheck}
 use Rattle.field_check.proofs.Numbered.{field-by}
 use Rattle.run_check.proofs.Numbered.{run-numbered}
 use Rattle.block.proofs.Numbered.{blocks-numbered}
-use Rattle.history.specs.History.{actualYears, lengthNeeded, historyData, movedTo, yearlyFields, historyFields, historyCheck, runAndHistoryCheck}
+use Rattle.history.specs.History.{actualYears, lengthNeeded, historyData, shiftedBy, yearlyFields, historyFields, historyCheck, runAndHistoryCheck}
 use Rattle.history.specs.History.{youngerAges, olderAges, firstRemaining, secondRemaining}
 use Rattle.history.proofs.Ways.{fields-parts}
 
-yearly-numbered : (s : List ℕ) (first second : Field) (at n : ℕ) → Listed numbers (first .0) → Listed numbers (second .0) → RefusesBy numbers (fieldsCheck s (yearlyFields first second at n))
+yearly-numbered : (s : List ℕ) (first second : Field) (at n : ℕ) → Listed numbers (first .number) → Listed numbers (second .number) → RefusesBy numbers (fieldsCheck s (yearlyFields first second at n))
 unfolding fieldsCheck yearlyFields
 yearly-numbered s first second at zero p q = passed-by
 yearly-numbered s first second at (suc n) p q =
-    first-by (field-by s (movedTo at first) p) (first-by (field-by s (movedTo (at + 506) second) q) (yearly-numbered s first second (at + 1012) n p q))
+    first-by (field-by s (shiftedBy at first) p) (first-by (field-by s (shiftedBy (at + 506) second) q) (yearly-numbered s first second (at + 1012) n p q))
 
 fields-numbered : (s : List ℕ) (years : ℕ) → RefusesBy numbers (fieldsCheck s (historyFields years))
 unfolding numbers isListed

@@ -11,13 +11,14 @@ use lib.IntN.{ℤ, pos}
 use Rattle.little_endian.specs.Bytes.{byteAt, u32At, signed32}
 use Rattle.outcome.specs.declared.Refusal.{Refusal}
 use Rattle.outcome.specs.Outcome.{refusedBy, refusal}
-use Rattle.field_check.specs.declared.Number.{Number}
-use Rattle.field_check.specs.declared.Number.the-variants.{Byte, Half, Word, SignedWord}
+use Rattle.layout.specs.declared.Number.{Number}
+use Rattle.layout.specs.declared.Number.the-variants.{Byte, Half, Word, SignedWord}
 use Rattle.field_check.specs.declared.Field.{Field}
-use Rattle.field_check.specs.Field.{widthOf, valueAt, between, entriesCheck, fieldCheck}
+use Rattle.layout.specs.Layout.{widthOf, valueAt}
+use Rattle.field_check.specs.Field.{between, entriesCheck, fieldCheck}
 use Rattle.block.specs.Blocks.{partsOf}
 use Rattle.block.proofs.Joined.{part-there}
-use Rattle.history.specs.History.{movedTo}
+use Rattle.history.specs.History.{shiftedBy}
 use Rattle.history.specs.Inner.Part.{countedFrom, partCheck}
 
 -- ---- numbers
@@ -62,13 +63,13 @@ module _ (s : List ℕ) (from n : ℕ) where
         by true g = g
         by false g = refl
 
-  field-there : (f : Field) → f .4 + f .5 * widthOf (f .1) ≤ n → fieldCheck s (movedTo from f) ≡ countedFrom from (fieldCheck Part f)
+  field-there : (f : Field) → f .offset + f .count * widthOf (f .kind) ≤ n → fieldCheck s (shiftedBy from f) ≡ countedFrom from (fieldCheck Part f)
   unfolding fieldCheck
-  field-there f h = entries-there (f .0) (f .1) (f .2) (f .3) (f .4) (f .5) h
+  field-there f h = entries-there (f .number) (f .kind) (f .low) (f .high) (f .offset) (f .count) h
 
 -- a field in the data of a block
-pub part-field : (n b : ℕ) (blocks : List ℕ) (f : Field) → b < n → length blocks ≡ 512 * n → f .4 + f .5 * widthOf (f .1) ≤ 506
-    → partCheck blocks b f ≡ fieldCheck (partsOf n blocks) (movedTo (506 * b) f)
+pub part-field : (n b : ℕ) (blocks : List ℕ) (f : Field) → b < n → length blocks ≡ 512 * n → f .offset + f .count * widthOf (f .kind) ≤ 506
+    → partCheck blocks b f ≡ fieldCheck (partsOf n blocks) (shiftedBy (506 * b) f)
 part-field n b blocks f h l w =
     ap (λ (part : List ℕ). countedFrom (506 * b) (fieldCheck part f)) (sym (part-there n b blocks h l))
     ∙ sym (field-there (partsOf n blocks) (506 * b) 506 f w)
@@ -86,6 +87,6 @@ place-in s number kind low high at (suc m) r h = by (λ g. place-in s number kin
     by rest true g = omega (arith, rest g, suc-mul m (widthOf kind))
     by rest false g = let e : r .first ≡ at = cc in omega (arith, e)
 
-pub refused-in : (s : List ℕ) (f : Field) (r : Refusal) → fieldCheck s f ≡ refusedBy r → r .first ≤ f .4 + f .5 * widthOf (f .1)
+pub refused-in : (s : List ℕ) (f : Field) (r : Refusal) → fieldCheck s f ≡ refusedBy r → r .first ≤ f .offset + f .count * widthOf (f .kind)
 unfolding fieldCheck
-refused-in s f r h = place-in s (f .0) (f .1) (f .2) (f .3) (f .4) (f .5) r h
+refused-in s f r h = place-in s (f .number) (f .kind) (f .low) (f .high) (f .offset) (f .count) r h

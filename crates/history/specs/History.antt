@@ -10,7 +10,7 @@ use Rattle.little_endian.specs.Bytes.{i32At}
 use Rattle.outcome.specs.Outcome.{Finding, refusal, unless, firstOf}
 use Rattle.basis.specs.Basis.{Basis, basisOf, Accepted}
 use Rattle.field_check.specs.declared.Field.{Field}
-use Rattle.field_check.specs.declared.Number.the-variants.{Byte, SignedWord}
+use Rattle.layout.specs.declared.Number.the-variants.{Byte, SignedWord}
 use Rattle.field_check.specs.Field.{field, fieldsCheck}
 use Rattle.run_check.specs.Run.{runCheck}
 use Rattle.block.specs.Blocks.{partsOf, blocksCheck}
@@ -51,13 +51,14 @@ basisWith run history =
     }
 
 -- ---- its fields, by offsets in the joined data
-abbrev pub movedTo : ℕ → Field → Field
-movedTo at f = field (f .0) (f .1) (f .2) (f .3) (at + f .4) (f .5)
+-- a field so many bytes further on
+abbrev pub shiftedBy : ℕ → Field → Field
+shiftedBy bytes f = field (f .number) (f .kind) (f .low) (f .high) (bytes + f .offset) (f .count)
 
 -- one in the first block of each year and one in the second, for n years from an offset on
 unfoldable pub yearlyFields : Field → Field → ℕ → ℕ → List Field
 yearlyFields first second at zero = []
-yearlyFields first second at (suc n) = movedTo at first ∷ movedTo (at + 506) second ∷ yearlyFields first second (at + 1012) n
+yearlyFields first second at (suc n) = shiftedBy at first ∷ shiftedBy (at + 506) second ∷ yearlyFields first second (at + 1012) n
 
 -- improvements within ±500,000,000 (5), and remaining data, which is zero (4)
 abbrev pub improvements : ℕ → Field

@@ -4,14 +4,57 @@ ghost use Prim.Native.Nat.{_+_, _*_, _≤_, _<_};
 ghost use lib.ListN.{length};
 ghost use Rattle.basis.specs.Basis.{basisOf, Accepted};
 ghost use Rattle.outcome.specs.Outcome.{passes, finding};
-ghost use Rattle.field_check.specs.Field.{widthOf, fieldsCheck};
+ghost use Rattle.layout.specs.Layout.{widthOf};
+ghost use Rattle.field_check.specs.Field.{fieldsCheck};
 ghost use Rattle.block.specs.Blocks.{partsOf};
 ghost use Rattle.history.specs.History.{actualYears, historyFields, historyCheck, runAndHistoryCheck};
 ghost use Rattle.history.specs.Inner.Part.{partCheck};
 use field_check::Field;
-use field_check::Number;
+use layout::Number;
 use outcome::Check;
 use outcome::Refusal;
+
+const LEAST_IMPROVEMENT: i64 = -500_000_000;
+
+const GREATEST_IMPROVEMENT: i64 = 500_000_000;
+
+// The two fields of a year's first block, its improvements and the data behind them, which are zero.
+const YOUNGER_AGES: Field = Field {
+    number: 5,
+    kind: Number::SignedWord,
+    low: LEAST_IMPROVEMENT,
+    high: GREATEST_IMPROVEMENT,
+    offset: 0,
+    count: 66,
+};
+
+const FIRST_REMAINING: Field = Field {
+    number: 4,
+    kind: Number::Byte,
+    low: 0,
+    high: 0,
+    offset: 264,
+    count: 242,
+};
+
+// The two fields of its second block.
+const OLDER_AGES: Field = Field {
+    number: 5,
+    kind: Number::SignedWord,
+    low: LEAST_IMPROVEMENT,
+    high: GREATEST_IMPROVEMENT,
+    offset: 0,
+    count: 65,
+};
+
+const SECOND_REMAINING: Field = Field {
+    number: 4,
+    kind: Number::Byte,
+    low: 0,
+    high: 0,
+    offset: 260,
+    count: 246,
+};
 
 // The years from B + 1 to F.
 fn years_needed(run: &[u8]) -> usize
@@ -29,7 +72,7 @@ fn years_needed(run: &[u8]) -> usize
 
 // A field in the data of a block, with the place of its refusal counted in the joined data.
 fn check_part(history: &[u8], b: usize, f: Field) -> Check
-    requires { ⌜ (b < 176) × (512 * b + 512 ≤ length (now history)) × (f .4 + f .5 * widthOf (f .1) ≤ 506) ⌝ }
+    requires { ⌜ (b < 176) × (512 * b + 512 ≤ length (now history)) × (f .offset + f .count * widthOf (f .kind) ≤ 506) ⌝ }
     ensures { λ r. ⌜ finding r ≡ partCheck (now (history .entry)) b f ⌝ }
 {
     let from = 512 * b + 2;
@@ -45,7 +88,7 @@ fn check_part(history: &[u8], b: usize, f: Field) -> Check
 
 // Whether every number of a field in the data of a block is within its limits.
 fn part_within(history: &[u8], b: usize, f: Field) -> bool
-    requires { ⌜ (b < 176) × (512 * b + 512 ≤ length (now history)) × (f .4 + f .5 * widthOf (f .1) ≤ 506) ⌝ }
+    requires { ⌜ (b < 176) × (512 * b + 512 ≤ length (now history)) × (f .offset + f .count * widthOf (f .kind) ≤ 506) ⌝ }
     ensures { λ r. ⌜ r ≡ passes (partCheck (now (history .entry)) b f) ⌝ }
 {
     let from = 512 * b + 2;
@@ -65,22 +108,20 @@ fn check_fields(history: &[u8], years: usize) -> Check
     while 0 < k {
         k -= 1;
         let b = 2 * k;
-        let zeros = Field(4, Number::Byte, 0, 0, 264, 242);
-        let more_zeros = Field(4, Number::Byte, 0, 0, 260, 246);
-        let younger = Field(5, Number::SignedWord, -500_000_000, 500_000_000, 0, 66);
-        let older = Field(5, Number::SignedWord, -500_000_000, 500_000_000, 0, 65);
-        let zero = part_within(history, b, zeros) & part_within(history, b + 1, more_zeros);
-        let within = part_within(history, b, younger) & part_within(history, b + 1, older);
+        let zero = part_within(history, b, FIRST_REMAINING)
+            & part_within(history, b + 1, SECOND_REMAINING);
+        let within = part_within(history, b, YOUNGER_AGES)
+            & part_within(history, b + 1, OLDER_AGES);
         if zero & within {
             continue;
         }
         let four = outcome::first_of(
-            check_part(history, b, zeros),
-            check_part(history, b + 1, more_zeros),
+            check_part(history, b, FIRST_REMAINING),
+            check_part(history, b + 1, SECOND_REMAINING),
         );
         let five = outcome::first_of(
-            check_part(history, b, younger),
-            check_part(history, b + 1, older),
+            check_part(history, b, YOUNGER_AGES),
+            check_part(history, b + 1, OLDER_AGES),
         );
         fours = outcome::first_of(four, fours);
         fives = outcome::first_of(five, fives);

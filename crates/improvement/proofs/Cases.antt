@@ -32,7 +32,7 @@ addition-at b year h = rw (le-ltb (b .foundation) year h)
 pub limits-of : {found terms : Convergence} → found ≡ terms → ConvergenceLimits terms → ConvergenceLimits found
 limits-of e h = rw e h
 
-pub birth-limited : (b : Basis) (age year : ℕ) → Limited b → 20 ≤ age → age ≤ 150 → 1992 ≤ year → year ≤ 2130 → ConvergenceLimits (birthTerms b age year)
+pub birth-limited : (b : Basis) (age year : ℕ) → Limited b → 20 ≤ age → age ≤ 150 → 1992 ≤ year → year ≤ 2110 + age → ConvergenceLimits (birthTerms b age year)
 birth-limited b age year l low high from upto = l .byBirthYear _ (omega arith) (omega arith)
 
 pub projected-is : (b : Basis) (age year : ℕ) {attained birth : Convergence} {foundation : ℕ} {addition : ℤ} →

@@ -1,14 +1,14 @@
 // The improvement at an age in a year: the history's in a year that has an actual one, otherwise the sum of two components, rounded
 // once, and the constant addition.
 ghost use mathlib.Core.Path.{_≡_};
-ghost use Prim.Native.Nat.{_≤_};
 ghost use lib.IntN.{_+ℤ_};
 ghost use Rattle.arithmetic.specs.Fraction.{_+ᶠ_, round};
 ghost use Rattle.basis.specs.Basis.{basisOf, Accepted, ConvergenceLimits};
-ghost use Rattle.history.specs.History.{basisWith, Workable};
-ghost use Rattle.outcome.specs.Outcome.{signedMeaning};
+ghost use Rattle.history.specs.History.{basisWith};
+ghost use Rattle.outcome.specs.Outcome.{refusal, signedMeaning};
 ghost use Rattle.component.specs.Component.{componentOf};
 ghost use Rattle.improvement.specs.Improvement.{additionOf, birthTerms, projectedOf, isActual, firstYear, improvementOf, improvementNeeded, usable};
+ghost use Rattle.improvement.specs.Checked.{ImprovedCell, ProjectedCell};
 use basis::Convergence;
 use outcome::Refusal;
 use outcome::SignedAnswer;
@@ -39,15 +39,15 @@ fn improvement_from(attained: Convergence, birth: Convergence, years: u32, addit
 
 // The terms of the birth year, which is the calendar year less the age.
 fn birth_terms(run: &[u8], age: u32, year: u32) -> Convergence
-    requires { ⌜ Accepted (now run) × (20 ≤ age) × (age ≤ 150) × (basisOf (now run) .foundation ≤ year) × (year ≤ 2130) ⌝ }
+    requires { ⌜ ProjectedCell (now run) age year ⌝ }
     ensures { λ r. ⌜ r ≡ birthTerms (basisOf (now (run .entry))) age year ⌝ }
 {
     basis::fields::birth_year_terms(run, year - age)
 }
 
-// The projection's improvement at an age, whose terms the caller has read, in a year from F to 2130.
+// The projection's improvement at an age, whose terms the caller has read, in a year from F on.
 fn projected_at(run: &[u8], terms: Convergence, age: u32, year: u32) -> i64
-    requires { ⌜ Accepted (now run) × (20 ≤ age) × (age ≤ 150) × (terms ≡ basisOf (now run) .byAge age) × (basisOf (now run) .foundation ≤ year) × (year ≤ 2130) ⌝ }
+    requires { ⌜ ProjectedCell (now run) age year × (terms ≡ basisOf (now run) .byAge age) ⌝ }
     ensures { λ r. ⌜ r ≡ projectedOf (basisOf (now (run .entry))) age year ⌝ }
 {
     let years = year - basis::fields::foundation_year(run);
@@ -63,10 +63,9 @@ fn is_actual(run: &[u8], year: u32) -> bool
     basis::fields::base_year(run) < year && year <= basis::fields::foundation_year(run)
 }
 
-// The improvement at an age, whose terms the caller has read, in a year up to 2130 that has one.
+// The improvement at an age, whose terms the caller has read, in a year that has one.
 pub fn improvement_at(run: &[u8], history: &[u8], terms: Convergence, age: u32, year: u32) -> i64
-    requires { ⌜ Workable (now run) (now history) × (20 ≤ age) × (age ≤ 150)
-        × (terms ≡ basisOf (now run) .byAge age) × (firstYear (basisWith (now run) (now history)) ≤ year) × (year ≤ 2130) ⌝ }
+    requires { ⌜ ImprovedCell (now run) (now history) age year × (terms ≡ basisOf (now run) .byAge age) ⌝ }
     ensures { λ r. ⌜ r ≡ improvementOf (basisWith (now (run .entry)) (now (history .entry))) age year ⌝ }
 {
     if is_actual(run, year) {
@@ -97,19 +96,26 @@ pub fn is_usable(improvement: i64) -> bool
     -500_000_000 <= improvement && improvement <= 500_000_000
 }
 
-// The improvement at an age in a year up to 2130 that has one, with refusal 9.
+// 9: an improvement needed for the answer is beyond ±500,000,000.
+pub fn beyond_limits(age: u32, year: u32) -> Refusal
+    ensures { λ r. ⌜ r ≡ refusal 9 age year ⌝ }
+{
+    Refusal {
+        number: 9,
+        first: age as u64,
+        second: year as u64,
+    }
+}
+
+// The improvement at an age in a year that has one, with refusal 9.
 pub fn improvement_needed(run: &[u8], history: &[u8], age: u32, year: u32) -> SignedAnswer
-    requires { ⌜ Workable (now run) (now history) × (20 ≤ age) × (age ≤ 150) × (firstYear (basisWith (now run) (now history)) ≤ year) × (year ≤ 2130) ⌝ }
+    requires { ⌜ ImprovedCell (now run) (now history) age year ⌝ }
     ensures { λ r. ⌜ signedMeaning r ≡ improvementNeeded age year (improvementOf (basisWith (now (run .entry)) (now (history .entry))) age year) ⌝ }
 {
     let improvement = improvement_at(run, history, basis::fields::age_terms(run, age), age, year);
     if is_usable(improvement) {
         SignedAnswer::Value(improvement)
     } else {
-        SignedAnswer::Refused(Refusal {
-            number: 9,
-            first: age as u64,
-            second: year as u64,
-        })
+        SignedAnswer::Refused(beyond_limits(age, year))
     }
 }

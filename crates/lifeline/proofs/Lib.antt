@@ -1,3 +1,3 @@
-pub mod Standing
+pub mod Steps
 pub mod Survivorship
 pub mod Numbered

@@ -7,17 +7,18 @@ use Rattle.outcome.specs.Refusals.{numbers, isListed, RefusesBy}
 use Rattle.outcome.proofs.Refusals.{unless-by, first-by, check-among, record-numbers}
 use Rattle.question.specs.Question.{inRange}
 use Rattle.question.proofs.Numbered.{age-numbered}
-use Rattle.lifeline.specs.Lifeline.{lastStandingYear, standingYearCheck, survivorsCheck, standingCheck}
+use Rattle.lifeline.specs.declared.Position.{Position}
+use Rattle.lifeline.specs.Lifeline.{lastYearAt, stepYearCheck, survivorsCheck, positionCheck}
 
-standing-year-numbered : (base age year : ℕ) → RefusesBy numbers (standingYearCheck base age year)
-unfolding standingYearCheck numbers isListed
-standing-year-numbered base age year = unless-by (inRange base (lastStandingYear age) year) _ refl
+step-year-numbered : (base age year : ℕ) → RefusesBy numbers (stepYearCheck base age year)
+unfolding stepYearCheck numbers isListed
+step-year-numbered base age year = unless-by (inRange base (lastYearAt age) year) _ refl
 
-survivors-numbered : (survivors : ℕ) → RefusesBy numbers (survivorsCheck survivors)
+survivors-numbered : (size survivors : ℕ) → RefusesBy numbers (survivorsCheck size survivors)
 unfolding survivorsCheck numbers isListed
-survivors-numbered survivors = unless-by (leb survivors U) _ refl
+survivors-numbered size survivors = unless-by (leb survivors U) _ refl
 
-pub standing-numbered : (base age year survivors : ℕ) → RefusesBy numbers (standingCheck base age year survivors)
-unfolding standingCheck
-standing-numbered base age year survivors =
-    first-by (check-among record-numbers (age-numbered age)) (first-by (standing-year-numbered base age year) (survivors-numbered survivors))
+pub position-numbered : (size base : ℕ) (p : Position) → RefusesBy numbers (positionCheck size base p)
+unfolding positionCheck
+position-numbered size base p =
+    first-by (check-among record-numbers (age-numbered (p .age))) (first-by (step-year-numbered base (p .age) (p .year)) (survivors-numbered size (p .survivors)))

@@ -19,41 +19,43 @@ use Rattle.survivorship.specs.Survivorship.{survivorsAfterYear, survivorsOf}
 use Rattle.question.proofs.Passed.{question-parts}
 use Rattle.enquiry.proofs.Passed.{valuation-passed}
 use Rattle.survivorship.proofs.Survivors.{survivors-first, survivors-next, survivors-refused, survivors-natural, survivors-small}
-use Rattle.lifeline.specs.declared.Stand.{Stand}
-use Rattle.lifeline.specs.Said.{advanced, ended, Step}
-use Rattle.lifeline.specs.Lifeline.{lastStandingYear, standingYearCheck, survivorsCheck, standingCheck, stepCheck, moved, yearLater, lived, unlessRefused, stepAt}
-use Rattle.lifeline.specs.Lifeline.{standAt, stepFrom, standBegun, standMoved, standAfter}
+use Rattle.lifeline.specs.declared.Position.{Position}
+use Rattle.lifeline.specs.Said.{advanced, ended, Start, Step}
+use Rattle.lifeline.specs.Lifeline.{positionAt, lastYearAt, stepYearCheck, survivorsCheck, positionCheck, stepCheck}
+use Rattle.lifeline.specs.Lifeline.{yearLater, yearUnlessEnded, stepAt, positionAfter}
 use Rattle.lifeline.specs.Survivorship.{Advances, IsCohortSurvivorship}
-use Rattle.lifeline.proofs.Standing.{start-passed, step-lived}
+use Rattle.lifeline.proofs.Steps.{start-passed, step-by, step-year, step-advanced}
 
-stand-same : {a b y z s t : ℕ} → a ≡ b → y ≡ z → s ≡ t → standAt a y s ≡ standAt b z t
-stand-same e f g = rw (e, f, g) refl
+position-same : {a b y z s t : ℕ} → a ≡ b → y ≡ z → s ≡ t → positionAt a y s ≡ positionAt b z t
+position-same e f g = rw (e, f, g) refl
 
 module _ (run history : List ℕ) (age year : ℕ) where
-  -- the next step, from where the steps so far have come to
-  after-suc : (n : ℕ) (s : Stand) → standAfter run history age year n ≡ s → standAfter run history age year (suc n) ≡ standMoved (stepFrom run history s)
-  unfolding standAfter
-  after-suc n s h = ap (λ (x : Stand). standMoved (stepFrom run history x)) h
+  -- the survivors after n years, and the lifeline's position with them
+  abbrev survivors-after : ℕ → Outcome ℤ
+  survivors-after n = survivorsOf (basisWith run history) Cohort age n year
 
-  at-start : valuationCheck run history age 0 year ≡ passed → standAfter run history age year 0 ≡ standAt age year U
-  unfolding standAfter
-  at-start h = ap standBegun (start-passed run history age year h)
+  abbrev years-on : ℕ → ℕ → Position
+  years-on n s = positionAt (age + n) (year + n) s
 
-  -- ---- as long as each step advances, the lifeline stands n years on with the survivors after n years
-  -- a step that advanced moves a year on, with the year's survivors
-  abbrev MovesOn : Type 0
-  MovesOn = (age year s : ℕ) → stepAt run history age year s .says ≡ value advanced
-      → (t : ℤ) × (survivorsAfterYear (basisWith run history) age year (pos s) ≡ value t) × (stepAt run history age year s ≡ moved (age + 1) (year + 1) (natAbs t) (value advanced))
+  -- the next step, from the position that the steps so far have come to
+  after-suc : (n : ℕ) (p : Position) (s : Step) → positionAfter run history age year n ≡ p → stepAt run history p ≡ s → positionAfter run history age year (suc n) ≡ s .position
+  unfolding positionAfter
+  after-suc n p s h e = ap (λ (x : Position). stepAt run history x .position) h ∙ ap (λ (x : Step). x .position) e
 
-  stands-after : MovesOn → (n : ℕ) → valuationCheck run history age 0 year ≡ passed → Advances run history age year n
-      → (s : ℕ) × (standAfter run history age year n ≡ standAt (age + n) (year + n) s) × (survivorsOf (basisWith run history) Cohort age n year ≡ value (pos s))
-  stands-after moves-on zero h a = (U, at-start h ∙ stand-same (omega arith) (omega arith) refl, survivors-first (basisWith run history) Cohort age year)
-  stands-after moves-on (suc n) h a =
-      let p = stands-after moves-on n h (λ k l. a k (omega arith)) in
-      let went = moves-on (age + n) (year + n) (p .0) (ap (λ (x : Stand). stepFrom run history x .says) (sym (p .1)) ∙ a n (omega arith)) in
+  at-start : valuationCheck run history age 0 year ≡ passed → positionAfter run history age year 0 ≡ positionAt age year U
+  unfolding positionAfter
+  at-start h = ap (λ (s : Start). s .position) (start-passed run history age year h)
+
+  -- ---- as long as each step advances, the lifeline is n years on with the survivors after n years
+  steps-survive : (n : ℕ) → valuationCheck run history age 0 year ≡ passed → Advances run history age year n
+      → (s : ℕ) × (positionAfter run history age year n ≡ years-on n s) × (survivors-after n ≡ value (pos s))
+  steps-survive zero h a = (U, at-start h ∙ position-same (omega arith) (omega arith) refl, survivors-first (basisWith run history) Cohort age year)
+  steps-survive (suc n) h a =
+      let p = steps-survive n h (λ k l. a k (omega arith)) in
+      let went = step-advanced run history (years-on n (p .0)) (ap (λ (x : Position). stepAt run history x .says) (sym (p .1)) ∙ a n (omega arith)) .2 in
       let next = survivors-next (basisWith run history) Cohort age n year (pos (p .0)) (value (went .0)) refl (p .2) (sym (went .1)) in
       let m = survivors-natural (basisWith run history) Cohort age (suc n) year (went .0) next in
-      (m .0, after-suc n _ (p .1) ∙ ap standMoved (went .2) ∙ stand-same (omega arith) (omega arith) (ap natAbs (m .1)), next ∙ ap value (m .1))
+      (m .0, after-suc n _ _ (p .1) (went .2) ∙ position-same (omega arith) (omega arith) (ap natAbs (m .1)), next ∙ ap value (m .1))
 
   -- ---- and as long as survivorship is answered each step advances
   -- what an enquiry for n years checks lets a lifeline start
@@ -63,39 +65,40 @@ module _ (run history : List ℕ) (age year : ℕ) where
       let p = both-passed (runAndHistoryCheck run history) (questionCheck (basisWith run history .base) age n year) h in
       let q = question-parts (basisWith run history .base) age n year (p .1) in
       let v = valuation-passed run history age n year h in
-      rw (p .0, q .0, q .2, le-leb (age + 0) 150 (omega (arith, v .2))) refl
+      rw (p .0, q .0, q .2, le-leb (age + 0) 150 (omega (arith, v .age-high))) refl
 
   -- its steps before the n years are over are let through
   abbrev LetThrough : ℕ → Type 0
-  LetThrough n = (k s : ℕ) → k < n → s ≤ U → stepCheck run history (age + k) (year + k) s ≡ passed
+  LetThrough n = (k s : ℕ) → k < n → s ≤ U → stepCheck run history (years-on k s) ≡ passed
 
   -- a step before the n years are over is the next year of survivorship, answered or refused
-  step-is-next-year : (n k s : ℕ) → valuationCheck run history age n year ≡ passed → LetThrough n → k < n → survivorsOf (basisWith run history) Cohort age k year ≡ value (pos s)
-      → stepAt run history (age + k) (year + k) s ≡ yearLater (age + k) (year + k) s (survivorsOf (basisWith run history) Cohort age (suc k) year)
+  step-is-next-year : (n k s : ℕ) → valuationCheck run history age n year ≡ passed → LetThrough n → k < n → survivors-after k ≡ value (pos s)
+      → stepAt run history (years-on k s) ≡ yearLater (years-on k s) (survivors-after (suc k))
   step-is-next-year n k s h let-through l e =
       let v = valuation-passed run history age n year h in
-      step-lived run history (age + k) (year + k) s (let-through k s l (survivors-small (basisWith run history) Cohort age k year s e)) (ne-eqb (age + k) 150 (λ g. omega (arith, v .2)))
-      ∙ ap (yearLater (age + k) (year + k) s) (sym (survivors-next (basisWith run history) Cohort age k year (pos s) (survivorsAfterYear (basisWith run history) (age + k) (year + k) (pos s)) refl e refl))
+      let passes = let-through k s l (survivors-small (basisWith run history) Cohort age k year s e) in
+      step-year run history (years-on k s) passes (ne-eqb (age + k) 150 (λ g. omega (arith, v .age-high)))
+      ∙ ap (yearLater (years-on k s)) (sym (survivors-next (basisWith run history) Cohort age k year (pos s) _ refl e refl))
 
-  and-one : (k : ℕ) → Advances run history age year k → stepFrom run history (standAfter run history age year k) .says ≡ value advanced → Advances run history age year (suc k)
+  and-one : (k : ℕ) → Advances run history age year k → stepAt run history (positionAfter run history age year k) .says ≡ value advanced → Advances run history age year (suc k)
   and-one k before last j l = by (decLt j k)
     where
-      by : Dec (j < k) → stepFrom run history (standAfter run history age year j) .says ≡ value advanced
+      by : Dec (j < k) → stepAt run history (positionAfter run history age year j) .says ≡ value advanced
       by (yes g) = before j g
-      by (no g) = let e : j ≡ k = omega arith in ap (λ (i : ℕ). stepFrom run history (standAfter run history age year i) .says) e ∙ last
+      by (no g) = let e : j ≡ k = omega arith in ap (λ (i : ℕ). stepAt run history (positionAfter run history age year i) .says) e ∙ last
 
   -- k of n years
-  advances-to : (n k s : ℕ) → valuationCheck run history age n year ≡ passed → LetThrough n → k ≤ n → survivorsOf (basisWith run history) Cohort age k year ≡ value (pos s)
-      → Advances run history age year k × (standAfter run history age year k ≡ standAt (age + k) (year + k) s)
+  abbrev AdvancesTo : ℕ → ℕ → Type 0
+  AdvancesTo k s = Advances run history age year k × (positionAfter run history age year k ≡ years-on k s)
+
+  advances-to : (n k s : ℕ) → valuationCheck run history age n year ≡ passed → LetThrough n → k ≤ n → survivors-after k ≡ value (pos s) → AdvancesTo k s
   advances-to n zero s h let-through l e =
       let first = survivors-first (basisWith run history) Cohort age year in
       let same : U ≡ s = cc in
-      ((λ k g. absurd (omega arith)), at-start (start-passes n h) ∙ stand-same (omega arith) (omega arith) same)
-  advances-to n (suc k) s h let-through l e = by (survivorsOf (basisWith run history) Cohort age k year) refl (λ t. advances-to n k t h let-through (omega arith))
+      ((λ k g. absurd (omega arith)), at-start (start-passes n h) ∙ position-same (omega arith) (omega arith) same)
+  advances-to n (suc k) s h let-through l e = by (survivors-after k) refl (λ t. advances-to n k t h let-through (omega arith))
     where
-      by : (o : Outcome ℤ) → survivorsOf (basisWith run history) Cohort age k year ≡ o
-          → ((t : ℕ) → survivorsOf (basisWith run history) Cohort age k year ≡ value (pos t) → Advances run history age year k × (standAfter run history age year k ≡ standAt (age + k) (year + k) t))
-          → Advances run history age year (suc k) × (standAfter run history age year (suc k) ≡ standAt (age + suc k) (year + suc k) s)
+      by : (o : Outcome ℤ) → survivors-after k ≡ o → ((t : ℕ) → survivors-after k ≡ value (pos t) → AdvancesTo k t) → AdvancesTo (suc k) s
       by (refused r) f before =
           let g = survivors-refused (basisWith run history) Cohort age k (suc k) year r (omega arith) f in
           let z : _≡_ {A = ℕ} 0 1 = cc in absurd (omega arith)
@@ -103,57 +106,46 @@ module _ (run history : List ℕ) (age year : ℕ) where
           let m = survivors-natural (basisWith run history) Cohort age k year t f in
           let came = f ∙ ap value (m .1) in
           let p = before (m .0) came in
-          let went = step-is-next-year n k (m .0) h let-through (omega arith) came ∙ ap (yearLater (age + k) (year + k) (m .0)) e in
-          let last = ap (λ (x : Stand). stepFrom run history x .says) (p .1) ∙ ap (λ (x : Step). x .says) went in
-          (and-one k (p .0) last, after-suc k _ (p .1) ∙ ap standMoved went ∙ stand-same (omega arith) (omega arith) refl)
+          let went = step-is-next-year n k (m .0) h let-through (omega arith) came ∙ ap (yearLater (years-on k (m .0))) e in
+          let last = ap (λ (x : Position). stepAt run history x .says) (p .1) ∙ ap (λ (x : Step). x .says) went in
+          (and-one k (p .0) last, after-suc k _ _ (p .1) went ∙ position-same (omega arith) (omega arith) refl)
 
   -- ---- both ways round, and what each step says
   pub is-cohort-survivorship : IsCohortSurvivorship run history age year
-  unfolding survivorshipEnquiry stepAt lived ageCheck standingYearCheck survivorsCheck standingCheck
+  unfolding survivorshipEnquiry stepAt yearUnlessEnded ageCheck stepYearCheck survivorsCheck positionCheck
   is-cohort-survivorship =
       record {
-        stepsAreSurvivorship = stands-after moves-on;
+        stepsAreSurvivorship = steps-survive;
         survivorshipIsSteps = λ n s h.
             let p = checked-value (valuationCheck run history age n year) (survivorsOf (basisWith run history) Cohort age n year) (pos s) h in
             advances-to n n s (p .0) (let-through n (p .0)) (omega arith) (p .1);
-        says = λ s. says-by s (stepCheck run history age year s) (eqb age 150) (survivorsAfterYear (basisWith run history) age year (pos s));
+        says = λ s. says-by s (stepCheck run history (positionAt age year s)) (eqb age 150) (survivorsAfterYear (basisWith run history) age year (pos s));
       }
     where
-      says-by : (s : ℕ) (c : Finding) (e : Bool) (o : Outcome ℤ) → unlessRefused age year s c (cond e (moved age year s (value ended)) (yearLater age year s o)) .says
+      says-by : (s : ℕ) (c : Finding) (e : Bool) (o : Outcome ℤ) → step-by run history (positionAt age year s) c e o .says
           ≡ checked c (cond e (value ended) (andThen o (λ t. value advanced)))
       says-by s passed false (value t) = refl
       says-by s passed false (refused r) = refl
       says-by s passed true o = refl
       says-by s (refusedBy r) e o = refl
 
-      moves-on : MovesOn
-      moves-on age year s h = by (stepCheck run history age year s) (eqb age 150) (survivorsAfterYear (basisWith run history) age year (pos s)) h
-        where
-          by : (c : Finding) (e : Bool) (o : Outcome ℤ) → unlessRefused age year s c (cond e (moved age year s (value ended)) (yearLater age year s o)) .says ≡ value advanced
-              → (t : ℤ) × (o ≡ value t)
-              × (unlessRefused age year s c (cond e (moved age year s (value ended)) (yearLater age year s o)) ≡ moved (age + 1) (year + 1) (natAbs t) (value advanced))
-          by passed false (value t) g = (t, refl, refl)
-          by passed false (refused r) g = let z : _≡_ {A = ℕ} 0 1 = cc in absurd (omega arith)
-          by passed true o g = let z : _≡_ {A = ℕ} 0 1 = cc in absurd (omega arith)
-          by (refusedBy r) e o g = let z : _≡_ {A = ℕ} 0 1 = cc in absurd (omega arith)
-
       let-through : (n : ℕ) → valuationCheck run history age n year ≡ passed → LetThrough n
       let-through n h k s l u =
           let v = valuation-passed run history age n year h in
           rw (
             both-passed (runAndHistoryCheck run history) (questionCheck (basisWith run history .base) age n year) h .0,
-            le-leb 20 (age + k) (omega (arith, v .1)),
-            le-leb (age + k) 150 (omega (arith, v .2)),
-            le-leb (basisWith run history .base) (year + k) (omega (arith, v .3)),
-            le-leb (year + k) (lastStandingYear (age + k)) (omega (arith, v .1, v .4)),
+            le-leb 20 (age + k) (omega (arith, v .age-low)),
+            le-leb (age + k) 150 (omega (arith, v .age-high)),
+            le-leb (basisWith run history .base) (year + k) (omega (arith, v .year-low)),
+            le-leb (year + k) (lastYearAt (age + k)) (omega (arith, v .age-low, v .year-high)),
             le-leb s U u,
           )
           refl
 
   pub steps-are-survivorship : (n : ℕ) → valuationCheck run history age 0 year ≡ passed → Advances run history age year n
-      → (s : ℕ) × (standAfter run history age year n ≡ standAt (age + n) (year + n) s) × (survivorsOf (basisWith run history) Cohort age n year ≡ value (pos s))
+      → (s : ℕ) × (positionAfter run history age year n ≡ years-on n s) × (survivors-after n ≡ value (pos s))
   steps-are-survivorship = is-cohort-survivorship .stepsAreSurvivorship
 
   pub survivorship-is-steps : (n s : ℕ) → survivorshipEnquiry run history Cohort age n year ≡ value (pos s)
-      → Advances run history age year n × (standAfter run history age year n ≡ standAt (age + n) (year + n) s)
+      → Advances run history age year n × (positionAfter run history age year n ≡ years-on n s)
   survivorship-is-steps = is-cohort-survivorship .survivorshipIsSteps

@@ -11,25 +11,21 @@ pub enum Status {
     Refused(Refusal),
 }
 
-// Where a lifeline stands.
-pub struct Stand {
+// What a lifeline holds beside its data run.
+pub struct Position {
     pub age: u32,
     pub year: u32,
     pub survivors: u64,
 }
 
-// Where it stands after its start, and whether that was refused.
-pub struct Begun {
-    pub age: u32,
-    pub year: u32,
-    pub survivors: u64,
+// Its position at its start, and whether that was refused.
+pub struct LifelineStart {
+    pub position: Position,
     pub check: Check,
 }
 
-// Where it stands after a step, and what the step did.
-pub struct Moved {
-    pub age: u32,
-    pub year: u32,
-    pub survivors: u64,
+// Its position after a step, and what the step did.
+pub struct LifelineStep {
+    pub position: Position,
     pub status: Status,
 }

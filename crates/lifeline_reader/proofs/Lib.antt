@@ -1,1 +1,2 @@
 mod After
+mod Made

@@ -3,27 +3,26 @@
 use Prim.Native.Nat.{ℕ}
 use mathlib.Core.List.{List}
 use denote.Ref.{RefT, now}
+use Rattle.lifeline.specs.declared.Position.{Position}
 use Rattle.lifeline_reader.specs.declared.Lifeline.{Lifeline}
-use Rattle.lifeline.specs.Said.{Start, Step}
-use Rattle.lifeline.specs.Lifeline.{startAt, stepAt}
+use Rattle.lifeline.specs.Said.{Step}
+use Rattle.lifeline.specs.Lifeline.{positionAt, startAt, stepAt}
 
-abbrev pub lineAt : RefT (List ℕ) → ℕ → ℕ → ℕ → Lifeline
-lineAt run age year survivors = record { run = run; age = age; year = year; survivors = survivors }
+-- a line over the run lent, and its position
+abbrev pub lineAt : RefT (List ℕ) → Position → Lifeline
+lineAt run p = record { run = run; age = p .age; year = p .year; survivors = p .survivors }
 
--- a line at its start, over the run lent
-abbrev pub lineBegun : RefT (List ℕ) → Start → Lifeline
-lineBegun run s = lineAt run (s .age) (s .year) (s .survivors)
+abbrev pub positionOf : Lifeline → Position
+positionOf l = positionAt (l .age) (l .year) (l .survivors)
 
+-- a line at its start
 abbrev pub lineStarted : RefT (List ℕ) → List ℕ → ℕ → ℕ → Lifeline
-lineStarted run history age year = lineBegun run (startAt (now run) history age year)
+lineStarted run history age year = lineAt run (startAt (now run) history age year .position)
 
--- a step of a line, from where it stands
+-- a step of a line, from its position
 abbrev pub stepOf : Lifeline → List ℕ → Step
-stepOf l history = stepAt (now (l .run)) history (l .age) (l .year) (l .survivors)
+stepOf l history = stepAt (now (l .run)) history (positionOf l)
 
 -- a line after a step, over the same run
-abbrev pub lineMoved : Lifeline → Step → Lifeline
-lineMoved l s = lineAt (l .run) (s .age) (s .year) (s .survivors)
-
 abbrev pub lineStepped : Lifeline → List ℕ → Lifeline
-lineStepped l history = lineMoved l (stepOf l history)
+lineStepped l history = lineAt (l .run) (stepOf l history .position)

@@ -3,9 +3,9 @@
 ghost use mathlib.Core.Path.{_≡_};
 ghost use Rattle.outcome.specs.Outcome.{finding};
 ghost use Rattle.lifeline.specs.Said.{statusMeaning};
-ghost use Rattle.lifeline.specs.Lifeline.{startAt, standAfter};
+ghost use Rattle.lifeline.specs.Lifeline.{startAt, positionAfter};
 ghost use Rattle.lifeline_reader.specs.Reader.{lineStarted, stepOf, lineStepped};
-use lifeline::Stand;
+use lifeline::Position;
 use lifeline::Status;
 use lifeline::cohort;
 use outcome::Check;
@@ -18,13 +18,13 @@ pub struct Lifeline<'a> {
     pub survivors: u64,
 }
 
-// Where it stands after its start, and whether that was refused.
+// A lifeline at its start, and whether that was refused.
 pub struct Started<'a> {
     pub line: Lifeline<'a>,
     pub check: Check,
 }
 
-// Where it stands after a step, and what the step did.
+// A lifeline after a step, and what the step did.
 pub struct Stepped<'a> {
     pub line: Lifeline<'a>,
     pub status: Status,
@@ -34,36 +34,44 @@ pub fn start<'a>(run: &'a [u8], history: &[u8], age: u32, year: u32) -> Started<
     ensures { λ r. ⌜ (r .line ≡ lineStarted (run .entry) (now (history .entry)) age year)
         × (finding (r .check) ≡ startAt (now (run .entry)) (now (history .entry)) age year .check) ⌝ }
 {
-    let b = cohort::start_at(run, history, age, year);
+    let s = cohort::start_at(run, history, age, year);
     Started {
         line: Lifeline {
             run,
-            age: b.age,
-            year: b.year,
-            survivors: b.survivors,
+            age: s.position.age,
+            year: s.position.year,
+            survivors: s.position.survivors,
         },
-        check: b.check,
+        check: s.check,
     }
 }
 
 pub fn step<'a>(l: Lifeline<'a>, history: &[u8]) -> Stepped<'a>
     ensures { λ r. ⌜ (r .line ≡ lineStepped (l .entry) (now (history .entry))) × (statusMeaning (r .status) ≡ stepOf (l .entry) (now (history .entry)) .says) ⌝ }
 {
-    let m = cohort::step_at(l.run, history, l.age, l.year, l.survivors);
+    let s = cohort::step_at(
+        l.run,
+        history,
+        Position {
+            age: l.age,
+            year: l.year,
+            survivors: l.survivors,
+        },
+    );
     Stepped {
         line: Lifeline {
             run: l.run,
-            age: m.age,
-            year: m.year,
-            survivors: m.survivors,
+            age: s.position.age,
+            year: s.position.year,
+            survivors: s.position.survivors,
         },
-        status: m.status,
+        status: s.status,
     }
 }
 
-// For callers that hold no lifeline: where one stands from its start, n steps on.
-pub fn stand_after(run: &[u8], history: &[u8], age: u32, year: u32, n: u32) -> Stand
-    ensures { λ r. ⌜ r ≡ standAfter (now (run .entry)) (now (history .entry)) age year n ⌝ }
+// For callers that hold no lifeline: the position of one n steps after its start.
+pub fn position_after(run: &[u8], history: &[u8], age: u32, year: u32, n: u32) -> Position
+    ensures { λ r. ⌜ r ≡ positionAfter (now (run .entry)) (now (history .entry)) age year n ⌝ }
 {
     let s = start(run, history, age, year);
     let mut l = s.line;
@@ -73,7 +81,7 @@ pub fn stand_after(run: &[u8], history: &[u8], age: u32, year: u32, n: u32) -> S
         l = t.line;
         i = i + 1;
     }
-    Stand {
+    Position {
         age: l.age,
         year: l.year,
         survivors: l.survivors,

@@ -1,6 +1,7 @@
 // A model point: a question about one life, and its four results on an accepted data run and its history.
 ghost use mathlib.Core.Path.{_≡_};
 ghost use Prim.Native.Nat.{_+_, _≤_};
+ghost use Rattle.history.specs.Checked.{Life};
 ghost use Rattle.history.specs.History.{basisWith, Workable};
 ghost use Rattle.outcome.specs.Outcome.{meaning, refused};
 ghost use Rattle.model_points.specs.Point.{fourResultsOf, resultsOf, pointAnswerOf, pointOf};
@@ -55,7 +56,7 @@ pub fn four_results(first: Answer, second: Answer, third: Answer, fourth: Answer
 
 // The results of a question that has been checked.
 fn direct_results(run: &[u8], history: &[u8], age: u32, deferment: u32, year: u32) -> PointAnswer
-    requires { ⌜ Workable (now run) (now history) × (20 ≤ age) × (age + deferment ≤ 150) × (basisWith (now run) (now history) .base ≤ year) × (year ≤ 2130) ⌝ }
+    requires { ⌜ Life (now run) (now history) age deferment year ⌝ }
     ensures { λ r. ⌜ r ≡ pointAnswerOf (resultsOf (basisWith (now (run .entry)) (now (history .entry))) age deferment year) ⌝ }
 {
     four_results(

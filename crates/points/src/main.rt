@@ -3,6 +3,7 @@
 ghost use mathlib.Core.Path.{_≡_};
 ghost use Prim.Native.Nat.{_+_, _*_, _≤_};
 ghost use lib.ListN.{length};
+ghost use Rattle.layout.specs.Layout.{mpb1, runLength, fileLength};
 ghost use Rattle.history.specs.History.{Workable};
 ghost use Rattle.factor_table.specs.FactorTable.{Tabled};
 ghost use Rattle.io.specs.Counts.{Counts};
@@ -24,10 +25,12 @@ struct Turn {
 }
 
 // One byte longer than a basis file: of a longer file so much is read that its length is refused.
-fn file_room() -> [u8; 4609]
-    ensures { λ r. ⌜ 4609 ≡ length r ⌝ }
+const FILE_ROOM: usize = layout::FILE_LENGTH + 1;
+
+fn file_room() -> [u8; FILE_ROOM]
+    ensures { λ r. ⌜ fileLength mpb1 + 1 ≡ length r ⌝ }
 {
-    [0; 4609]
+    [0; FILE_ROOM]
 }
 
 // One byte longer than the longest history, of 88 years, for the same reason.
@@ -37,10 +40,10 @@ fn history_room() -> [u8; 90113]
     [0; 90113]
 }
 
-fn run_room() -> [u8; 4554]
-    ensures { λ r. ⌜ 4554 ≡ length r ⌝ }
+fn run_room() -> [u8; layout::RUN_LENGTH]
+    ensures { λ r. ⌜ runLength mpb1 ≡ length r ⌝ }
 {
-    [0; 4554]
+    [0; layout::RUN_LENGTH]
 }
 
 // A block of the input. It is small, since the room for its replies is made ready before the first one.

@@ -12,10 +12,10 @@ use Rattle.arithmetic.specs.Round.{roundDiv}
 use Rattle.arithmetic.specs.Fraction.{U, lesserℤ}
 use Rattle.arithmetic.proofs.Difference.{rest-natural}
 use Rattle.basis.specs.Basis.{Basis}
-use Rattle.outcome.specs.Outcome.{Outcome, value, refused, steps}
-use Rattle.outcome.specs.declared.Refusal.{Refusal}
+use Rattle.outcome.specs.Outcome.{Outcome, value, andThen, steps}
 use Rattle.outcome.proofs.Outcome.{next, along, came}
 use Rattle.improvement.specs.Improvement.{improvementOf}
+use Rattle.projection.specs.Bounded.{AtMost}
 use Rattle.projection.specs.Projection.{factorNext, factorFrom, factorStep, heldYear, factorOf, rateFrom, rateOf}
 use Rattle.projection.proofs.Cases.{year-value}
 use Rattle.improvement.proofs.Cases.{usable-abs}
@@ -50,12 +50,15 @@ module _ (b : Basis) (age : ℕ) where
   pub year-small : (year : ℕ) (i f : ℤ) (g : ℕ) → factorFrom age year i f ≡ value (pos g) → g ≤ 4_000_000_000
   year-small year i f g h = leb-true g 4_000_000_000 (year-value age year i f (pos g) h .2)
 
-  pub factor-small : (year f : ℕ) → factorOf b age year ≡ value (pos f) → f ≤ 4_000_000_000
+  factor-small : (year f : ℕ) → factorOf b age year ≡ value (pos f) → f ≤ 4_000_000_000
   unfolding factorOf
   factor-small year f h =
       leb-true f 4_000_000_000
       (along (factorStep b age) (pos U) (λ k a. leZ a (pos 4_000_000_000) ≡ true) (heldYear year - b .base) refl
       (λ k a g l p q. year-value age (b .base + 1 + k) (improvementOf b age (b .base + 1 + k)) a g q .2) (pos f) h)
+
+  pub factor-bounded : {o : Outcome ℤ} (year : ℕ) → o ≡ factorOf b age year → AtMost 4_000_000_000 o
+  factor-bounded year e f h = factor-small year f (sym e ∙ h)
 
   -- and a natural number
   pub factor-natural : (year : ℕ) (f : ℤ) → factorOf b age year ≡ value f → (n : ℕ) × (f ≡ pos n)
@@ -79,13 +82,10 @@ module _ (b : Basis) (age : ℕ) where
   pub rate-above : (n f q : ℕ) → n ≡ b .baseRate age → q ≡ (2 * (n * f) + U) / (2 * U) → U ≤ q → pos U ≡ rateFrom b age (pos f)
   rate-above n f q e h l = most q l ∙ rate-of n f q e h
 
-  pub rate-value : (year : ℕ) (f : ℤ) → factorOf b age year ≡ value f → rateOf b age year ≡ value (rateFrom b age f)
+  -- from what the factor is, wherever that was worked out
+  pub rate-by-factor : {o : Outcome ℤ} (year : ℕ) → o ≡ factorOf b age year → andThen o (λ f. value (rateFrom b age f)) ≡ rateOf b age year
   unfolding rateOf
-  rate-value year f h = rw h refl
-
-  pub rate-refused : (year : ℕ) (r : Refusal) → factorOf b age year ≡ refused r → rateOf b age year ≡ refused r
-  unfolding rateOf
-  rate-refused year r h = rw h refl
+  rate-by-factor year e = ap (λ o. andThen o (λ f. value (rateFrom b age f))) e
 
   -- a rate is a natural number from 0 to U
   rate-natural : (f : ℕ) → (q : ℕ) × (rateFrom b age (pos f) ≡ pos q) × (q ≤ U)
@@ -106,3 +106,6 @@ module _ (b : Basis) (age : ℕ) where
       let n = rate-natural (f .0) in
       let e : q ≡ rateFrom b age (w .0) = cc in
       (n .0, e ∙ ap (λ (z : ℤ). rateFrom b age z) (f .1) ∙ n .1, n .2)
+
+  pub rate-bounded : {o : Outcome ℤ} (year : ℕ) → o ≡ rateOf b age year → AtMost U o
+  rate-bounded year e q h = let n = rate-small year (pos q) (sym e ∙ h) in let f : q ≡ n .0 = cc in omega (arith, n .2)

@@ -30,9 +30,13 @@ factorStep b age k factor = factorFrom age (b .base + 1 + k) (improvementOf b ag
 unfoldable pub heldYear : ℕ → ℕ
 heldYear year = cond (ltb year 2130) year 2130
 
+-- k, the years from B to the year, at most to 2130
+abbrev pub yearsTo : Basis → ℕ → ℕ
+yearsTo b year = heldYear year - b .base
+
 -- U in year B, then year by year
 unfoldable pub factorOf : Basis → ℕ → ℕ → Outcome ℤ
-factorOf b age year = steps (factorStep b age) (pos U) (heldYear year - b .base)
+factorOf b age year = steps (factorStep b age) (pos U) (yearsTo b year)
 
 -- ---- Rate: the lesser of U and round(base rate × factor / U)
 abbrev pub rateFrom : Basis → ℕ → ℤ → ℤ

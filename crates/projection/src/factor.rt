@@ -2,9 +2,11 @@
 ghost use mathlib.Core.Path.{_≡_};
 ghost use Prim.Native.Nat.{_≤_};
 ghost use lib.IntN.{pos, natAbs};
-ghost use Rattle.history.specs.History.{basisWith, Workable};
+ghost use Rattle.history.specs.Checked.{Cell};
+ghost use Rattle.history.specs.History.{basisWith};
 ghost use Rattle.outcome.specs.Outcome.{meaning};
-ghost use Rattle.improvement.specs.Improvement.{firstYear, improvementOf};
+ghost use Rattle.improvement.specs.Improvement.{improvementOf};
+ghost use Rattle.improvement.specs.Checked.{ImprovedCell};
 ghost use Rattle.projection.specs.Projection.{factorNext, factorFrom, heldYear, factorOf};
 use arithmetic::UNIT;
 use basis::Convergence;
@@ -26,11 +28,7 @@ fn factor_from(age: u32, year: u32, improvement: i64, factor: u64) -> Answer
     ensures { λ r. ⌜ meaning r ≡ factorFrom age year improvement (pos factor) ⌝ }
 {
     if !improvement::is_usable(improvement) {
-        return Answer::Refused(Refusal {
-            number: 9,
-            first: age as u64,
-            second: year as u64,
-        });
+        return Answer::Refused(improvement::beyond_limits(age, year));
     }
     let next = factor_next(factor, improvement);
     if 4_000_000_000 < next {
@@ -52,8 +50,7 @@ pub fn factor_in(
     year: u32,
     factor: u64,
 ) -> Answer
-    requires { ⌜ Workable (now run) (now history) × (20 ≤ age) × (age ≤ 150) × (terms ≡ basisWith (now run) (now history) .byAge age)
-        × (firstYear (basisWith (now run) (now history)) ≤ year) × (year ≤ 2130) × (factor ≤ 4_000_000_000) ⌝ }
+    requires { ⌜ ImprovedCell (now run) (now history) age year × (terms ≡ basisWith (now run) (now history) .byAge age) × (factor ≤ 4_000_000_000) ⌝ }
     ensures { λ r. ⌜ meaning r ≡ factorFrom age year (improvementOf (basisWith (now (run .entry)) (now (history .entry))) age year) (pos factor) ⌝ }
 {
     factor_from(
@@ -73,7 +70,7 @@ pub fn held_year(year: u32) -> u32
 
 // The factor at an age in a year from B on.
 pub fn factor_at(run: &[u8], history: &[u8], age: u32, year: u32) -> Answer
-    requires { ⌜ Workable (now run) (now history) × (20 ≤ age) × (age ≤ 150) × (basisWith (now run) (now history) .base ≤ year) ⌝ }
+    requires { ⌜ Cell (now run) (now history) age year ⌝ }
     ensures { λ r. ⌜ meaning r ≡ factorOf (basisWith (now (run .entry)) (now (history .entry))) age year ⌝ }
 {
     let terms = basis::fields::age_terms(run, age);

@@ -1,3 +1,3 @@
-// The projection of mortality from a basis: improvements, reduction factors and mortality rates.
+// The projection of mortality from a basis: reduction factors and mortality rates.
 pub mod factor;
 pub mod rate;

@@ -3,9 +3,11 @@ ghost use mathlib.Core.Path.{_≡_};
 ghost use Prim.Native.Nat.{_≤_};
 ghost use lib.IntN.{pos};
 ghost use Rattle.basis.specs.Basis.{basisOf, Accepted};
-ghost use Rattle.outcome.specs.Outcome.{meaning};
-ghost use Rattle.history.specs.History.{basisWith, Workable};
-ghost use Rattle.projection.specs.Projection.{factorOf, rateFrom, rateOf};
+ghost use Rattle.outcome.specs.Outcome.{value, andThen, meaning};
+ghost use Rattle.history.specs.Checked.{Cell};
+ghost use Rattle.history.specs.History.{basisWith};
+ghost use Rattle.projection.specs.Bounded.{AtMost};
+ghost use Rattle.projection.specs.Projection.{rateFrom, rateOf};
 use crate::factor;
 use arithmetic::UNIT;
 use outcome::Answer;
@@ -22,11 +24,10 @@ fn rate_from(run: &[u8], age: u32, factor: u64) -> u64
     if rate < UNIT { rate } else { UNIT }
 }
 
-// The mortality rate at an age in a year from what its factor is, wherever that was worked out. The history and the year
-// say whose factor it is, and nothing is read of them.
-pub fn rate_by(run: &[u8], history: &[u8], age: u32, year: u32, factor: Answer) -> Answer
-    requires { ⌜ Workable (now run) (now history) × (20 ≤ age) × (age ≤ 150) × (meaning factor ≡ factorOf (basisWith (now run) (now history)) age year) ⌝ }
-    ensures { λ r. ⌜ meaning r ≡ rateOf (basisWith (now (run .entry)) (now (history .entry))) age year ⌝ }
+// The mortality rate at an age from what its factor is, wherever that was worked out, or the factor's refusal.
+pub fn rate_by(run: &[u8], age: u32, factor: Answer) -> Answer
+    requires { ⌜ Accepted (now run) × (20 ≤ age) × (age ≤ 150) × AtMost 4_000_000_000 (meaning factor) ⌝ }
+    ensures { λ r. ⌜ meaning r ≡ andThen (meaning factor) (λ f. value (rateFrom (basisOf (now (run .entry))) age f)) ⌝ }
 {
     match factor {
         Answer::Value(f) => Answer::Value(rate_from(run, age, f)),
@@ -36,9 +37,9 @@ pub fn rate_by(run: &[u8], history: &[u8], age: u32, year: u32, factor: Answer) 
 
 // The mortality rate at an age in a year from B on.
 pub fn rate_at(run: &[u8], history: &[u8], age: u32, year: u32) -> Answer
-    requires { ⌜ Workable (now run) (now history) × (20 ≤ age) × (age ≤ 150) × (basisWith (now run) (now history) .base ≤ year) ⌝ }
+    requires { ⌜ Cell (now run) (now history) age year ⌝ }
     ensures { λ r. ⌜ meaning r ≡ rateOf (basisWith (now (run .entry)) (now (history .entry))) age year ⌝ }
 {
     let factor = factor::factor_at(run, history, age, year);
-    rate_by(run, history, age, year, factor)
+    rate_by(run, age, factor)
 }

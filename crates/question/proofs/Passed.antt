@@ -1,10 +1,13 @@
 -- What is known of a question once its checks have passed: all that the work asks for. From the laws of checks.
 use mathlib.Core.Path.{_≡_, refl}
 use mathlib.Core.Bool.{Bool, true, false, _&&_}
+use mathlib.Core.List.{List}
 use Prim.Native.Nat.{ℕ, _+_, _≤_}
 use native.Mathlib.Omega.{arith}
 use lib.Dec.{leb}
 use borrow.Author.Tests.{leb-true}
+use Rattle.history.specs.Checked.{Life}
+use Rattle.history.specs.History.{basisWith, Workable}
 use Rattle.outcome.specs.Outcome.{passed, firstOf}
 use Rattle.outcome.proofs.Outcome.{unless-passed, both-passed}
 use Rattle.question.specs.Question.{inRange, ageCheck, defermentCheck, yearCheck, cellCheck, questionCheck}
@@ -47,9 +50,16 @@ question-parts base age deferment year h =
     let q = both-passed (defermentCheck age deferment) (yearCheck base year) (p .1) in
     (p .0, q .0, q .1)
 
-pub question-passed : (base age deferment year : ℕ) → questionCheck base age deferment year ≡ passed
-    → (20 ≤ age) × (age + deferment ≤ 150) × (base ≤ year) × (year ≤ 2130)
-question-passed base age deferment year h =
-    let p = question-parts base age deferment year h in
-    let y = year-passed base year (p .2) in
-    (age-passed age (p .0) .0, deferment-passed age deferment (p .1), y .0, y .1)
+-- a question that passed on a basis and history that may be worked with asks about a life
+pub question-passed : (run history : List ℕ) (age deferment year : ℕ) → Workable run history
+    → questionCheck (basisWith run history .base) age deferment year ≡ passed → Life run history age deferment year
+question-passed run history age deferment year usable h =
+    let p = question-parts (basisWith run history .base) age deferment year h in
+    let y = year-passed (basisWith run history .base) year (p .2) in
+    record {
+      usable = usable;
+      age-low = age-passed age (p .0) .0;
+      age-high = deferment-passed age deferment (p .1);
+      year-low = y .0;
+      year-high = y .1;
+    }

@@ -7,7 +7,8 @@ use native.Mathlib.Omega.{arith}
 use lib.Dec.{eqb}
 use lib.IntN.{ℤ, pos, natAbs}
 use borrow.Author.Tests.{ne-eqb}
-use Rattle.outcome.specs.declared.Refusal.{Refusal}
+use lib.ListN.{length}
+use Rattle.layout.specs.Layout.{formOf, runLength, fileLength}
 use Rattle.basis.specs.Basis.{basisOf}
 use Rattle.outcome.specs.Outcome.{Finding, passed, refusedBy, Outcome, value, refused, firstOf}
 use Rattle.outcome.specs.Refusals.{numbers, recordNumbers, isListed, Listed, RefusesBy, RefusedBy}
@@ -23,7 +24,6 @@ use Rattle.improvement.specs.Improvement.{firstYear, improvementOf}
 use Rattle.improvement.proofs.Numbered.{needed-numbered}
 use Rattle.projection.proofs.Numbered.{factor-numbered, rate-numbered}
 use Rattle.survivorship.specs.declared.Kind.the-variants.{Cohort}
-use Rattle.survivorship.specs.Survivorship.{survivorsAfterYear}
 use Rattle.question.specs.Question.{cellCheck}
 use Rattle.question.proofs.Numbered.{cell-numbered, question-numbered}
 use Rattle.enquiry.specs.Enquiry.{valuationCheck, improvementEnquiry, factorEnquiry, rateEnquiry, survivorshipEnquiry, expectationEnquiry, annuityEnquiry}
@@ -34,9 +34,11 @@ use Rattle.small_set.specs.declared.Questions.{Questions}
 use Rattle.small_set.specs.SmallSet.{setOf, smallSetOf}
 use Rattle.grid_record.specs.Record.{answeredOf}
 use Rattle.grid.specs.Grid.{gridCheck}
-use Rattle.lifeline.specs.Said.{Said, ended}
-use Rattle.lifeline.specs.Lifeline.{begunAt, startAt, stepCheck, moved, yearLater, lived, unlessRefused, stepAt}
-use Rattle.lifeline.proofs.Numbered.{standing-numbered}
+use Rattle.lifeline.specs.Said.{Said, advanced, ended}
+use Rattle.lifeline.specs.declared.Position.{Position}
+use Rattle.lifeline.specs.Lifeline.{startUnlessRefused, startAt, stepAt}
+use Rattle.lifeline.proofs.Numbered.{position-numbered}
+use Rattle.lifeline.proofs.Survivorship.{is-cohort-survivorship}
 use Rattle.roll.specs.Roll.{liabilityOf, liabilityOn, liabilityJoining}
 use Rattle.roll.specs.Kept.{yearIn, numbersIn, totalIn, withMember, joining, joinedRoll, leaving, leftRoll, totalSaid, totalAnswer}
 use Rattle.roll.proofs.Numbered.{room-numbered, join-numbered, leave-numbered}
@@ -60,25 +62,19 @@ module _ (run history : List ℕ) where
   unfolding startAt
   start-numbered age year = by (valuationCheck run history age 0 year) (valuation-checked age 0 year)
     where
-      by : (c : Finding) → RefusesBy numbers c → RefusesBy numbers (begunAt age year c .check)
+      by : (c : Finding) → RefusesBy numbers c → RefusesBy numbers (startUnlessRefused age year c .check)
       by passed p = p
       by (refusedBy r) p = p
 
-  step-numbered : (age year survivors : ℕ) → RefusedBy numbers (stepAt run history age year survivors .says)
-  unfolding stepAt lived
-  step-numbered age year survivors =
-      record {
-        listed = by (stepCheck run history age year survivors) (first-by (basis-numbered run history) (standing-numbered (basisWith run history .base) age year survivors))
-            (eqb age 150) (survivorsAfterYear (basisWith run history) age year (pos survivors))
-            (work-among record-numbers (year-numbered (basisWith run history) age year (pos survivors)));
-      }
+  step-numbered : (p : Position) → RefusedBy numbers (stepAt run history p .says)
+  step-numbered p =
+      let own = first-by (basis-numbered run history) (position-numbered (length run) (basisWith run history .base) p) in
+      let year = work-among record-numbers (year-numbered (basisWith run history) (p .age) (p .year) (pos (p .survivors))) in
+      rw (is-cohort-survivorship run history (p .age) (p .year) .says (p .survivors)) (checked-by own (by (eqb (p .age) 150) (then-by year (λ s. value-by advanced))))
     where
-      by : (c : Finding) → RefusesBy numbers c → (t : Bool) (o : Outcome ℤ) → RefusedBy numbers o → (r : Refusal)
-          → unlessRefused age year survivors c (cond t (moved age year survivors (value ended)) (yearLater age year survivors o)) .says ≡ refused r → Listed numbers (r .number)
-      by (refusedBy q) p t o w r g = let e : q ≡ r = cc in rw (← e) (p .listed q refl)
-      by passed p true o w r g = let z : _≡_ {A = ℕ} 0 1 = cc in absurd (omega arith)
-      by passed p false (value s) w r g = let z : _≡_ {A = ℕ} 0 1 = cc in absurd (omega arith)
-      by passed p false (refused q) w r g = let e : q ≡ r = cc in rw (← e) (w .listed q refl)
+      by : (t : Bool) {o : Outcome Said} → RefusedBy numbers o → RefusedBy numbers (cond t (value ended) o)
+      by true w = value-by ended
+      by false w = w
 
   -- ---- a roll: its own refusals, then those of an annuity
   join-refusals : (roll : List ℕ) (number age pension : ℕ) → RefusedBy numbers (totalSaid (joinedRoll roll run history number age pension))
@@ -112,9 +108,9 @@ numbered-refusals run history =
     let b = basisWith run history in
     record {
       checkBasis = run-numbered run;
-      readBasis = λ file out. first-by (count-numbered 4554 _) (file-numbered file);
-      writeBasis = λ out. first-by (count-numbered 4608 _) (run-numbered run);
-      shortForm = λ rate out. first-by (count-numbered 4554 _) (short-form-numbered run rate);
+      readBasis = λ file out. first-by (count-numbered (runLength (formOf (length file))) _) (file-numbered file);
+      writeBasis = λ out. first-by (count-numbered (fileLength (formOf (length run))) _) (run-numbered run);
+      shortForm = λ rate out. first-by (count-numbered (runLength (formOf (length run))) _) (short-form-numbered run rate);
       withHistory = basis-numbered run history;
       factorWork = factor-numbered b;
       rateWork = rate-numbered b;

@@ -24,10 +24,13 @@ use Rattle.small_set.specs.SmallSet.{smallSetOf}
 use Rattle.grid_record.specs.declared.Point.{Point}
 use Rattle.grid_record.specs.Record.{questionOf, answeredOf}
 use Rattle.grid.specs.Grid.{gridCheck}
+use Rattle.lifeline.specs.declared.Position.{Position}
 use Rattle.lifeline.specs.Said.{Said}
 use Rattle.lifeline.specs.Lifeline.{startAt, stepAt}
 use Rattle.roll.specs.Kept.{rollCheck, joinedRoll, leftRoll, totalSaid, totalAnswer}
-use Rattle.engine.specs.Enquiry.{refusalOf, answerOf, signedAnswerOf, readCheck, writeCheck, shortCheck}
+use Rattle.engine.specs.Enquiry.{refusalOf, answerOf, signedAnswerOf}
+use Rattle.basis_file.specs.File.{readCheck, writeCheck}
+use Rattle.short_form.specs.ShortForm.{shortCheck}
 use Rattle.engine.specs.Lifelines.{stepRefusal}
 use Rattle.reply_text.specs.Ascii.{ascii}
 use Rattle.reply_text.specs.Reply.{questionText, resultsText, refusalLine, replyOf}
@@ -66,7 +69,7 @@ pub record NumberedRefusals (run history : List ℕ) : Type 0 where
   pub gridRecord : (p : Point) → answeredOf (basisWith run history) p .refusal ≡ pointOf (basisWith run history) (questionOf p) .refusal .number
   -- a lifeline's start and step
   pub start : (age year : ℕ) → RefusesBy numbers (startAt run history age year .check)
-  pub step : (age year survivors : ℕ) → RefusedBy numbers (stepAt run history age year survivors .says)
+  pub step : (p : Position) → RefusedBy numbers (stepAt run history p .says)
   -- a roll opened, a join, a leave, and its total
   pub rollOpen : (roll : List ℕ) → RefusesBy numbers (rollCheck roll)
   pub rollJoin : (roll : List ℕ) (number age pension : ℕ) → RefusedBy numbers (totalSaid (joinedRoll roll run history number age pension))

@@ -7,8 +7,9 @@ use lib.ListN.{length}
 use Rattle.outcome.specs.Refusals.{numbers, isListed, RefusesBy}
 use Rattle.outcome.proofs.Refusals.{refused-by, cond-by}
 use Rattle.field_check.proofs.Numbered.{areListed, fields-by}
-use Rattle.run_check.specs.Run.{runFields, runCheck}
+use Rattle.layout.specs.Layout.{formOf, runLength}
+use Rattle.run_check.specs.Run.{fieldsOf, runCheck}
 
 pub run-numbered : (run : List ℕ) → RefusesBy numbers (runCheck run)
-unfolding runCheck runFields numbers isListed areListed
-run-numbered run = cond-by (eqb (length run) 4554) (fields-by numbers run runFields refl) (refused-by _ refl)
+unfolding runCheck fieldsOf numbers isListed areListed
+run-numbered run = cond-by (eqb (length run) (runLength (formOf (length run)))) (fields-by numbers run (fieldsOf (formOf (length run))) refl) (refused-by _ refl)

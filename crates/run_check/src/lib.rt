@@ -12,7 +12,7 @@ use outcome::first_of;
 pub fn check_run(run: &[u8]) -> Check
     ensures { λ r. ⌜ finding r ≡ runCheck (now (run .entry)) ⌝ }
 {
-    if run.len() != 4554 {
+    if run.len() != layout::RUN_LENGTH {
         return Check::Refused(Refusal {
             number: 1,
             first: 0,
@@ -21,7 +21,25 @@ pub fn check_run(run: &[u8]) -> Check
     }
     let mark = rows::check_mark(run);
     let single = rows::check_single_fields(run);
-    let ages = rows::check_ages(run);
-    let births = rows::check_birth_years(run);
-    first_of(mark, first_of(single, first_of(ages, births)))
+    let base_rates = rows::check_base_rates(run);
+    let ages = rows::check_terms(
+        run,
+        layout::AGE_INITIAL_RATES_AT,
+        layout::AGE_LONG_TERM_RATES_AT,
+        layout::AGE_PERIODS_AT,
+        layout::AGE_PROPORTIONS_AT,
+        layout::AGES,
+    );
+    let births = rows::check_terms(
+        run,
+        layout::BIRTH_YEAR_INITIAL_RATES_AT,
+        layout::BIRTH_YEAR_LONG_TERM_RATES_AT,
+        layout::BIRTH_YEAR_PERIODS_AT,
+        layout::BIRTH_YEAR_PROPORTIONS_AT,
+        layout::BIRTH_YEARS,
+    );
+    first_of(
+        mark,
+        first_of(single, first_of(base_rates, first_of(ages, births))),
+    )
 }

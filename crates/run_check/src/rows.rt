@@ -1,51 +1,106 @@
-// The rows of the table of fields, in four parts. They stand in the calls, so that the compiler knows the limits in each
-// loop. A run that is accepted is walked whole, so nothing is lost by looking at the later rows of a refused one. Of the
-// tables every number is looked at, several at a time, and only where one is outside its limits is the first such sought.
+// The rows of the table of fields. The kind of number and the limits of a table stand in the function that checks it, so that the
+// compiler knows them in the loop. A run that is accepted is walked whole, so nothing is lost by looking at the later rows of a
+// refused one.
 ghost use mathlib.Core.Path.{_≡_};
-ghost use lib.ListN.{length, take, drop};
+ghost use Prim.Native.Nat.{_+_, _*_, _≤_};
+ghost use lib.ListN.{length};
+ghost use Rattle.layout.specs.Layout.{mpb1, runLength, widthOf};
 ghost use Rattle.outcome.specs.Outcome.{finding};
-ghost use Rattle.field_check.specs.Field.{fieldsCheck};
-ghost use Rattle.run_check.specs.Run.{runFields};
+ghost use Rattle.field_check.specs.Field.{field, fieldCheck, fieldsCheck};
+ghost use Rattle.run_check.specs.Run.{exactly, markFields, singleFields, baseRates, rates, periods, proportions, termFields};
 use field_check::Field;
-use field_check::Number;
-use field_check::all_within;
 use field_check::check_field;
+use layout::Number;
 use outcome::Check;
 use outcome::first_of;
 
-// The letters MPB1 and the zero bytes (4).
-pub(crate) fn check_mark(run: &[u8]) -> Check
-    requires { ⌜ length (now run) ≡ 4554 ⌝ }
-    ensures { λ r. ⌜ finding r ≡ fieldsCheck (now (run .entry)) (take 5 runFields) ⌝ }
+// Bytes that have one value only (4).
+fn check_exactly(run: &[u8], byte: i64, offset: usize, count: usize) -> Check
+    requires { ⌜ offset + count ≤ length (now run) ⌝ }
+    ensures { λ r. ⌜ finding r ≡ fieldCheck (now (run .entry)) (exactly byte offset count) ⌝ }
 {
-    let m = check_field(run, Field(4, Number::Byte, 77, 77, 0, 1));
-    let p = check_field(run, Field(4, Number::Byte, 80, 80, 1, 1));
-    let b = check_field(run, Field(4, Number::Byte, 66, 66, 2, 1));
-    let one = check_field(run, Field(4, Number::Byte, 49, 49, 3, 1));
-    let zeros = check_field(run, Field(4, Number::Byte, 0, 0, 16, 14));
+    check_field(
+        run,
+        Field {
+            number: 4,
+            kind: Number::Byte,
+            low: byte,
+            high: byte,
+            offset: offset,
+            count: count,
+        },
+    )
+}
+
+// The letters of the mark and the zero bytes (4).
+pub(crate) fn check_mark(run: &[u8]) -> Check
+    requires { ⌜ length (now run) ≡ runLength mpb1 ⌝ }
+    ensures { λ r. ⌜ finding r ≡ fieldsCheck (now (run .entry)) (markFields mpb1) ⌝ }
+{
+    let m = check_exactly(run, 77, 0, 1);
+    let p = check_exactly(run, 80, 1, 1);
+    let b = check_exactly(run, 66, 2, 1);
+    let last = check_exactly(run, layout::LAST_LETTER, 3, 1);
+    let zeros = check_exactly(run, 0, layout::ZEROS_AT, layout::ZEROS);
     first_of(
         m,
         first_of(
             p,
-            first_of(b, first_of(one, first_of(zeros, Check::Passed))),
+            first_of(b, first_of(last, first_of(zeros, Check::Passed))),
         ),
     )
 }
 
-// F, B, the addition and the rate of discount (5).
-pub(crate) fn check_single_fields(run: &[u8]) -> Check
-    requires { ⌜ length (now run) ≡ 4554 ⌝ }
-    ensures { λ r. ⌜ finding r ≡ fieldsCheck (now (run .entry)) (take 4 (drop 5 runFields)) ⌝ }
+// A field of one number (5).
+fn check_number(run: &[u8], kind: Number, low: i64, high: i64, offset: usize) -> Check
+    requires { ⌜ offset + widthOf kind ≤ length (now run) ⌝ }
+    ensures { λ r. ⌜ finding r ≡ fieldCheck (now (run .entry)) (field 5 kind low high offset 1) ⌝ }
 {
-    let foundation = check_field(run, Field(5, Number::Half, 1992, 2080, 4, 1));
-    let base = check_field(run, Field(5, Number::Half, 1992, 2130, 6, 1));
-    let addition = check_field(
+    check_field(
         run,
-        Field(5, Number::SignedWord, -100_000_000, 100_000_000, 8, 1),
+        Field {
+            number: 5,
+            kind: kind,
+            low: low,
+            high: high,
+            offset: offset,
+            count: 1,
+        },
+    )
+}
+
+// F, B, the constant addition and the rate of discount (5).
+pub(crate) fn check_single_fields(run: &[u8]) -> Check
+    requires { ⌜ length (now run) ≡ runLength mpb1 ⌝ }
+    ensures { λ r. ⌜ finding r ≡ fieldsCheck (now (run .entry)) singleFields ⌝ }
+{
+    let foundation = check_number(
+        run,
+        Number::Half,
+        layout::FIRST_YEAR,
+        layout::LAST_FOUNDATION_YEAR,
+        layout::FOUNDATION_AT,
     );
-    let discount = check_field(
+    let base = check_number(
         run,
-        Field(5, Number::SignedWord, -10_000_000, 200_000_000, 12, 1),
+        Number::Half,
+        layout::FIRST_YEAR,
+        layout::LAST_BASE_YEAR,
+        layout::BASE_AT,
+    );
+    let addition = check_number(
+        run,
+        Number::SignedWord,
+        layout::LEAST_ADDITION,
+        layout::ADDITION_LIMIT,
+        layout::ADDITION_AT,
+    );
+    let discount = check_number(
+        run,
+        Number::SignedWord,
+        layout::LEAST_DISCOUNT,
+        layout::GREATEST_DISCOUNT,
+        layout::DISCOUNT_AT,
     );
     first_of(
         foundation,
@@ -53,59 +108,102 @@ pub(crate) fn check_single_fields(run: &[u8]) -> Check
     )
 }
 
-// The tables by age (5).
-pub(crate) fn check_ages(run: &[u8]) -> Check
-    requires { ⌜ length (now run) ≡ 4554 ⌝ }
-    ensures { λ r. ⌜ finding r ≡ fieldsCheck (now (run .entry)) (take 5 (drop 9 runFields)) ⌝ }
+// The base rates (5).
+pub(crate) fn check_base_rates(run: &[u8]) -> Check
+    requires { ⌜ length (now run) ≡ runLength mpb1 ⌝ }
+    ensures { λ r. ⌜ finding r ≡ fieldCheck (now (run .entry)) baseRates ⌝ }
 {
-    let rates = Field(5, Number::Word, 0, 1_000_000_000, 30, 131);
-    let initial = Field(5, Number::SignedWord, -200_000_000, 200_000_000, 554, 131);
-    let long = Field(5, Number::SignedWord, -200_000_000, 200_000_000, 1078, 131);
-    let period = Field(5, Number::Byte, 1, 50, 1602, 131);
-    let remaining = Field(5, Number::Byte, 0, 150, 1733, 131);
-    let within = all_within(run, rates)
-        & (all_within(run, initial)
-            & (all_within(run, long) & (all_within(run, period) & all_within(run, remaining))));
-    if within {
-        return Check::Passed;
-    }
-    first_of(
-        check_field(run, rates),
-        first_of(
-            check_field(run, initial),
-            first_of(
-                check_field(run, long),
-                first_of(
-                    check_field(run, period),
-                    first_of(check_field(run, remaining), Check::Passed),
-                ),
-            ),
-        ),
+    check_field(
+        run,
+        Field {
+            number: 5,
+            kind: Number::Word,
+            low: 0,
+            high: layout::GREATEST_BASE_RATE,
+            offset: layout::BASE_RATES_AT,
+            count: layout::AGES,
+        },
     )
 }
 
-// The tables by birth year (5).
-pub(crate) fn check_birth_years(run: &[u8]) -> Check
-    requires { ⌜ length (now run) ≡ 4554 ⌝ }
-    ensures { λ r. ⌜ finding r ≡ fieldsCheck (now (run .entry)) (take 4 (drop 14 runFields)) ⌝ }
+// I or L (5).
+fn check_rates(run: &[u8], offset: usize, count: usize) -> Check
+    requires { ⌜ offset + count * 4 ≤ length (now run) ⌝ }
+    ensures { λ r. ⌜ finding r ≡ fieldCheck (now (run .entry)) (rates offset count) ⌝ }
 {
-    let initial = Field(5, Number::SignedWord, -200_000_000, 200_000_000, 1864, 269);
-    let long = Field(5, Number::SignedWord, -200_000_000, 200_000_000, 2940, 269);
-    let period = Field(5, Number::Byte, 1, 50, 4016, 269);
-    let remaining = Field(5, Number::Byte, 0, 150, 4285, 269);
-    let within = all_within(run, initial)
-        & (all_within(run, long) & (all_within(run, period) & all_within(run, remaining)));
-    if within {
-        return Check::Passed;
-    }
+    check_field(
+        run,
+        Field {
+            number: 5,
+            kind: Number::SignedWord,
+            low: layout::LEAST_RATE,
+            high: layout::RATE_LIMIT,
+            offset: offset,
+            count: count,
+        },
+    )
+}
+
+// T (5).
+fn check_periods(run: &[u8], offset: usize, count: usize) -> Check
+    requires { ⌜ offset + count ≤ length (now run) ⌝ }
+    ensures { λ r. ⌜ finding r ≡ fieldCheck (now (run .entry)) (periods offset count) ⌝ }
+{
+    check_field(
+        run,
+        Field {
+            number: 5,
+            kind: Number::Byte,
+            low: 1,
+            high: layout::LONGEST_PERIOD,
+            offset: offset,
+            count: count,
+        },
+    )
+}
+
+// P (5).
+fn check_proportions(run: &[u8], offset: usize, count: usize) -> Check
+    requires { ⌜ offset + count ≤ length (now run) ⌝ }
+    ensures { λ r. ⌜ finding r ≡ fieldCheck (now (run .entry)) (proportions mpb1 offset count) ⌝ }
+{
+    check_field(
+        run,
+        Field {
+            number: 5,
+            kind: Number::Byte,
+            low: 0,
+            high: layout::GREATEST_PROPORTION,
+            offset: offset,
+            count: count,
+        },
+    )
+}
+
+// The four tables of the terms of improvement, by age or by birth year (5).
+pub(crate) fn check_terms(
+    run: &[u8],
+    initial: usize,
+    long: usize,
+    period: usize,
+    remaining: usize,
+    count: usize,
+) -> Check
+    requires { ⌜ initial + count * 4 ≤ length (now run) ⌝ }
+    requires { ⌜ long + count * 4 ≤ length (now run) ⌝ }
+    requires { ⌜ period + count ≤ length (now run) ⌝ }
+    requires { ⌜ remaining + count ≤ length (now run) ⌝ }
+    ensures { λ r. ⌜ finding r ≡ fieldsCheck (now (run .entry)) (termFields mpb1 initial long period remaining count) ⌝ }
+{
+    let initials = check_rates(run, initial, count);
+    let longs = check_rates(run, long, count);
+    let periods = check_periods(run, period, count);
+    let proportions = check_proportions(run, remaining, count);
     first_of(
-        check_field(run, initial),
+        initials,
         first_of(
-            check_field(run, long),
-            first_of(
-                check_field(run, period),
-                first_of(check_field(run, remaining), Check::Passed),
-            ),
+            longs,
+            first_of(periods, first_of(proportions, Check::Passed)),
         ),
     )
 }

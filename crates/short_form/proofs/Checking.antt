@@ -6,37 +6,38 @@ use mathlib.Core.List.{List}
 use Prim.Native.Nat.{ℕ, _-_, _≤_}
 use lib.ListN.{length}
 use lib.IntN.{ℤ, pos, negℤ, natAbs}
+use Rattle.layout.specs.Layout.{mpb1, runLength}
+use Rattle.layout.specs.Layout.{ageLongTermRatesAt}
 use Rattle.outcome.specs.declared.Refusal.{Refusal}
 use Rattle.basis.specs.Basis.{Accepted}
-use Rattle.outcome.specs.Outcome.{Finding, passed, refusedBy, refusal, unless, firstOf}
+use Rattle.outcome.specs.Outcome.{Finding, passed, refusedBy, refusal, unless}
 use Rattle.field_check.specs.Field.{between}
 use Rattle.run_check.specs.Run.{runCheck}
 use Rattle.outcome.proofs.Outcome.{first-stands, unless-passed, both-passed}
 use Rattle.field_check.proofs.Limits.{opened, size}
 use Rattle.run_check.proofs.Acceptance.{accepted}
-use Rattle.lent.specs.Lent.{roomCheck}
 use Rattle.lent.proofs.Lent.{room-passed}
-use Rattle.short_form.specs.ShortForm.{rateLimit, shortFormCheck}
+use Rattle.short_form.specs.ShortForm.{longTermLimit, shortFormCheck, shortCheck}
 
 module _ (run : List ℕ) (rate : ℤ) where
   pub run-refused : (c : Finding) {r : Refusal} → c ≡ runCheck run → c ≡ refusedBy r → c ≡ shortFormCheck run rate
   unfolding shortFormCheck
   run-refused c e f = e ∙ sym (first-stands (runCheck run) _ (sym e ∙ f))
 
-  pub run-passed : (t : Bool) → runCheck run ≡ passed → t ≡ between (negℤ (pos rateLimit)) (pos rateLimit) rate
-      → unless t (refusal 5 1078 0) ≡ shortFormCheck run rate
+  pub run-passed : (t : Bool) → runCheck run ≡ passed → t ≡ between (negℤ (pos longTermLimit)) (pos longTermLimit) rate
+      → unless t (refusal 5 ageLongTermRatesAt 0) ≡ shortFormCheck run rate
   unfolding shortFormCheck
   run-passed t e f = rw (e, f) refl
 
-  pub within-limits : shortFormCheck run rate ≡ passed → Accepted run × (natAbs rate ≤ rateLimit)
+  pub within-limits : shortFormCheck run rate ≡ passed → Accepted run × (natAbs rate ≤ longTermLimit)
   unfolding shortFormCheck
   within-limits h =
       let e = both-passed (runCheck run) _ h in
-      (accepted run (e .0), size (rateLimit - 1) rate (opened (negℤ (pos rateLimit)) (pos rateLimit) rate (unless-passed _ _ (e .1))))
+      (accepted run (e .0), size (longTermLimit - 1) rate (opened (negℤ (pos longTermLimit)) (pos longTermLimit) rate (unless-passed _ _ (e .1))))
 
-  pub through : (out : List ℕ) → firstOf (roomCheck 4554 out) (shortFormCheck run rate) ≡ passed
-      → (length run ≡ 4554) × (natAbs rate ≤ rateLimit) × (4554 ≤ length out)
+  pub through : (out : List ℕ) → shortCheck run rate out ≡ passed
+      → (length run ≡ runLength mpb1) × (natAbs rate ≤ longTermLimit) × (runLength mpb1 ≤ length out)
   through out h =
-      let p = room-passed 4554 out (shortFormCheck run rate) h in
+      let p = room-passed (runLength mpb1) out (shortFormCheck run rate) h in
       let e = within-limits (p .1) in
       (e .0 .size, e .1, p .0)

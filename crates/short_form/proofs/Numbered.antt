@@ -7,8 +7,8 @@ use Rattle.outcome.specs.Refusals.{numbers, isListed, RefusesBy}
 use Rattle.outcome.proofs.Refusals.{unless-by, first-by}
 use Rattle.field_check.specs.Field.{between}
 use Rattle.run_check.proofs.Numbered.{run-numbered}
-use Rattle.short_form.specs.ShortForm.{shortFormCheck}
+use Rattle.short_form.specs.ShortForm.{longTermLimit, shortFormCheck}
 
 pub short-form-numbered : (run : List ℕ) (rate : ℤ) → RefusesBy numbers (shortFormCheck run rate)
 unfolding shortFormCheck numbers isListed
-short-form-numbered run rate = first-by (run-numbered run) (unless-by (between (negℤ (pos 200_000_000)) (pos 200_000_000) rate) _ refl)
+short-form-numbered run rate = first-by (run-numbered run) (unless-by (between (negℤ (pos longTermLimit)) (pos longTermLimit) rate) _ refl)

@@ -6,6 +6,9 @@ use native.Mathlib.Omega.{arith}
 use lib.ListN.{length, take, drop, replicate, length-append, length-take, length-drop, length-replicate}
 use lib.Seq.{length-take-le}
 use lib.IntN.{ℤ}
+use Rattle.layout.specs.Layout.{mpb1, runLength, ages, birthYears}
+use Rattle.layout.specs.Layout.{ageLongTermRatesAt, agePeriodsAt, ageProportionsAt}
+use Rattle.layout.specs.Layout.{birthYearInitialRatesAt, birthYearLongTermRatesAt, birthYearPeriodsAt, birthYearProportionsAt}
 use Rattle.little_endian.specs.Bytes.{i32Bytes}
 use Rattle.lent.specs.Lent.{placed}
 use Rattle.lent.proofs.Lent.{placed-none, then, then-length}
@@ -24,22 +27,22 @@ four out a b c d at at₁ at₂ at₃ p q r s e f g h i j k l =
     l ∙ then out at (p ++ q ++ r) (omega arith) c pqr at₃ s (omega arith)
 
 -- ---- the rates by age
-module _ (out new : List ℕ) (rate : ℤ) (i : ℕ) (h : i < 131) (k : 1602 ≤ length out)
-    (e : new ≡ placed out (1078 + 4 * i) (i32Bytes (longTermOf rate (20 + i)))) where
+module _ (out new : List ℕ) (rate : ℤ) (i : ℕ) (h : i < ages) (k : agePeriodsAt ≤ length out)
+    (e : new ≡ placed out (ageLongTermRatesAt + 4 * i) (i32Bytes (longTermOf rate (20 + i)))) where
   pub rates-length : length new ≡ length out
-  rates-length = then-length out (1078 + 4 * i) (i32Bytes (longTermOf rate (20 + i))) (omega arith) new e
+  rates-length = then-length out (ageLongTermRatesAt + 4 * i) (i32Bytes (longTermOf rate (20 + i))) (omega arith) new e
 
-  pub rates-turn : placed new (1078 + 4 * (i + 1)) (longTermRates rate (20 + (i + 1)) (131 - (i + 1)))
-      ≡ placed out (1078 + 4 * i) (longTermRates rate (20 + i) (131 - i))
+  pub rates-turn : placed new (ageLongTermRatesAt + 4 * (i + 1)) (longTermRates rate (20 + (i + 1)) (ages - (i + 1)))
+      ≡ placed out (ageLongTermRatesAt + 4 * i) (longTermRates rate (20 + i) (ages - i))
   unfolding longTermRates
   rates-turn =
-      let d : 131 - i ≡ suc (131 - (i + 1)) = omega arith in
+      let d : ages - i ≡ suc (ages - (i + 1)) = omega arith in
       let a : 20 + (i + 1) ≡ 20 + i + 1 = omega arith in
-      rw (d, a) (then out (1078 + 4 * i) (i32Bytes (longTermOf rate (20 + i))) (omega arith) new e (1078 + 4 * (i + 1)) _ (omega arith))
+      rw (d, a) (then out (ageLongTermRatesAt + 4 * i) (i32Bytes (longTermOf rate (20 + i))) (omega arith) new e (ageLongTermRatesAt + 4 * (i + 1)) _ (omega arith))
 
-pub rates-end : (out : List ℕ) (rate : ℤ) (i : ℕ) → 131 ≤ i → placed out (1078 + 4 * i) (longTermRates rate (20 + i) (131 - i)) ≡ out
+pub rates-end : (out : List ℕ) (rate : ℤ) (i : ℕ) → ages ≤ i → placed out (ageLongTermRatesAt + 4 * i) (longTermRates rate (20 + i) (ages - i)) ≡ out
 unfolding longTermRates
-rates-end out rate i h = let e : 131 - i ≡ 0 = omega arith in rw e (placed-none out (1078 + 4 * i))
+rates-end out rate i h = let e : ages - i ≡ 0 = omega arith in rw e (placed-none out (ageLongTermRatesAt + 4 * i))
 
 pub length-rates : (rate : ℤ) (age n : ℕ) → length (longTermRates rate age n) ≡ 4 * n
 unfolding longTermRates
@@ -50,47 +53,47 @@ length-rates rate age (suc n) = rw (length-append, length-rates rate (age + 1) n
 pub repeated : (n x : ℕ) → length (replicate n x) ≡ n
 repeated n x = length-replicate n x
 
-module _ (run out a b c d : List ℕ) (long : length run ≡ 4554) (room : 4554 ≤ length out) where
-  pub ages-placed : (rate : ℤ) → a ≡ placed out 0 (take 1078 run) → b ≡ placed a 1078 (longTermRates rate 20 131)
-      → c ≡ placed b 1602 (periods 131) → d ≡ placed c 1733 (proportions 131) → d ≡ placed out 0 (agesOf run rate)
+module _ (run out a b c d : List ℕ) (long : length run ≡ runLength mpb1) (room : runLength mpb1 ≤ length out) where
+  pub ages-placed : (rate : ℤ) → a ≡ placed out 0 (take ageLongTermRatesAt run) → b ≡ placed a ageLongTermRatesAt (longTermRates rate 20 ages)
+      → c ≡ placed b agePeriodsAt (periods ages) → d ≡ placed c ageProportionsAt (proportions ages) → d ≡ placed out 0 (agesOf run rate)
   unfolding agesOf
   ages-placed rate =
-      let p = length-take-le 1078 run (omega arith) in
-      let q = length-rates rate 20 131 in
-      let t = repeated 131 everyPeriod in
-      let s = repeated 131 everyProportion in
-      four out a b c d 0 1078 1602 1733 (take 1078 run) (longTermRates rate 20 131) (periods 131) (proportions 131)
+      let p = length-take-le ageLongTermRatesAt run (omega arith) in
+      let q = length-rates rate 20 ages in
+      let t = repeated ages everyPeriod in
+      let s = repeated ages everyProportion in
+      four out a b c d 0 ageLongTermRatesAt agePeriodsAt ageProportionsAt (take ageLongTermRatesAt run) (longTermRates rate 20 ages) (periods ages) (proportions ages)
       (omega arith) (omega arith) (omega arith) (omega arith)
 
-  pub birth-years-placed : a ≡ placed out 1864 (take 1076 (drop 1864 run)) → b ≡ placed a 2940 (replicate 1076 0)
-      → c ≡ placed b 4016 (periods 269) → d ≡ placed c 4285 (proportions 269) → d ≡ placed out 1864 (birthYearsOf run)
+  pub birth-years-placed : a ≡ placed out (birthYearInitialRatesAt mpb1) (take 1076 (drop (birthYearInitialRatesAt mpb1) run)) → b ≡ placed a (birthYearLongTermRatesAt mpb1) (replicate 1076 0)
+      → c ≡ placed b (birthYearPeriodsAt mpb1) (periods birthYears) → d ≡ placed c (birthYearProportionsAt mpb1) (proportions birthYears) → d ≡ placed out (birthYearInitialRatesAt mpb1) (birthYearsOf run)
   unfolding birthYearsOf
   birth-years-placed =
-      let p : length (take 1076 (drop 1864 run)) ≡ 1076 = rw (length-take, length-drop) (omega arith) in
+      let p : length (take 1076 (drop (birthYearInitialRatesAt mpb1) run)) ≡ 1076 = rw (length-take, length-drop) (omega arith) in
       let q = repeated 1076 0 in
-      let t = repeated 269 everyPeriod in
-      let s = repeated 269 everyProportion in
-      four out a b c d 1864 2940 4016 4285 (take 1076 (drop 1864 run)) (replicate 1076 0) (periods 269) (proportions 269)
+      let t = repeated birthYears everyPeriod in
+      let s = repeated birthYears everyProportion in
+      four out a b c d (birthYearInitialRatesAt mpb1) (birthYearLongTermRatesAt mpb1) (birthYearPeriodsAt mpb1) (birthYearProportionsAt mpb1) (take 1076 (drop (birthYearInitialRatesAt mpb1) run)) (replicate 1076 0) (periods birthYears) (proportions birthYears)
       (omega arith) (omega arith) (omega arith) (omega arith)
 
-module _ (run : List ℕ) (rate : ℤ) (long : length run ≡ 4554) where
-  pub length-ages : length (agesOf run rate) ≡ 1864
+module _ (run : List ℕ) (rate : ℤ) (long : length run ≡ runLength mpb1) where
+  pub length-ages : length (agesOf run rate) ≡ birthYearInitialRatesAt mpb1
   unfolding agesOf
-  length-ages = simp (length-append, length-take-le 1078 run (omega arith), length-rates, repeated)
+  length-ages = simp (length-append, length-take-le ageLongTermRatesAt run (omega arith), length-rates, repeated)
 
   pub length-birth-years : length (birthYearsOf run) ≡ 2690
   unfolding birthYearsOf
   length-birth-years =
-      let p : length (take 1076 (drop 1864 run)) ≡ 1076 = rw (length-take, length-drop) (omega arith) in
+      let p : length (take 1076 (drop (birthYearInitialRatesAt mpb1) run)) ≡ 1076 = rw (length-take, length-drop) (omega arith) in
       simp (length-append, p, repeated)
 
-  pub length-short-form : length (shortFormOf run rate) ≡ 4554
+  pub length-short-form : length (shortFormOf run rate) ≡ runLength mpb1
   unfolding shortFormOf
   length-short-form = rw (length-append, length-ages, length-birth-years)
 
-  pub short-form-placed : (out a b : List ℕ) → 4554 ≤ length out → a ≡ placed out 0 (agesOf run rate) → b ≡ placed a 1864 (birthYearsOf run)
+  pub short-form-placed : (out a b : List ℕ) → runLength mpb1 ≤ length out → a ≡ placed out 0 (agesOf run rate) → b ≡ placed a (birthYearInitialRatesAt mpb1) (birthYearsOf run)
       → b ≡ placed out 0 (shortFormOf run rate)
   unfolding shortFormOf
   short-form-placed out a b room e f =
       let n = length-ages in
-      f ∙ then out 0 (agesOf run rate) (omega arith) a e 1864 (birthYearsOf run) (omega arith)
+      f ∙ then out 0 (agesOf run rate) (omega arith) a e (birthYearInitialRatesAt mpb1) (birthYearsOf run) (omega arith)

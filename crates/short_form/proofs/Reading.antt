@@ -2,11 +2,14 @@
 use mathlib.Core.Path.{_≡_, refl, sym, ap, _∙_}
 use mathlib.Core.List.{List, _++_}
 use Prim.Native.Nat.{ℕ, zero, suc, _+_, _*_, _≤_, _<_}
-use native.Mathlib.Nat.{add-zero, zero-add, not-suc-le-zero}
+use native.Mathlib.Nat.{add-zero, zero-add, one-mul, not-suc-le-zero}
 use native.Mathlib.Omega.{arith}
 use lib.ListN.{length, getD, take, drop, replicate, length-append, length-take, length-drop, getD-replicate, List·getD-append}
 use lib.Seq.{getD-append-add, getD-take, getD-drop, length-take-le}
 use lib.IntN.{ℤ, pos, natAbs}
+use Rattle.layout.specs.Layout.{mpb1, runLength, ages, birthYears}
+use Rattle.layout.specs.Layout.{ageLongTermRatesAt, agePeriodsAt, ageProportionsAt}
+use Rattle.layout.specs.Layout.{birthYearInitialRatesAt, birthYearLongTermRatesAt, birthYearPeriodsAt, birthYearProportionsAt}
 use Rattle.little_endian.specs.Bytes.{byteAt, u16At, u32At, signed32, i32At, i32Bytes}
 use Rattle.little_endian.proofs.Bytes.{i32-back}
 use Rattle.short_form.specs.ShortForm.{everyPeriod, everyProportion, longTermOf, longTermRates, periods, proportions, agesOf, birthYearsOf, shortFormOf}
@@ -63,49 +66,49 @@ rate-bytes rate age (suc n) (suc i) j at e l m =
     ∙ rate-bytes rate (age + 1) n i j (4 * i + j) refl (omega arith) m ∙ ap (λ (a : ℕ). byteAt (i32Bytes (longTermOf rate a)) j) next
 
 -- ---- the bytes of a short form, part by part
-module _ (run : List ℕ) (rate : ℤ) (long : length run ≡ 4554) where
-  in-ages : (at : ℕ) → at < 1864 → byteAt (shortFormOf run rate) at ≡ byteAt (agesOf run rate) at
+module _ (run : List ℕ) (rate : ℤ) (long : length run ≡ runLength mpb1) where
+  in-ages : (at : ℕ) → at < birthYearInitialRatesAt mpb1 → byteAt (shortFormOf run rate) at ≡ byteAt (agesOf run rate) at
   unfolding shortFormOf
   in-ages at l = ahead (agesOf run rate) (birthYearsOf run) at (omega (arith, length-ages run rate long))
 
-  in-birth-years : (at i : ℕ) → at ≡ 1864 + i → byteAt (shortFormOf run rate) at ≡ byteAt (birthYearsOf run) i
+  in-birth-years : (at i : ℕ) → at ≡ birthYearInitialRatesAt mpb1 + i → byteAt (shortFormOf run rate) at ≡ byteAt (birthYearsOf run) i
   unfolding shortFormOf
-  in-birth-years at i e = rw e (behind (agesOf run rate) (birthYearsOf run) 1864 i (length-ages run rate long))
+  in-birth-years at i e = rw e (behind (agesOf run rate) (birthYearsOf run) (birthYearInitialRatesAt mpb1) i (length-ages run rate long))
 
-  ages : Parts (agesOf run rate) (take 1078 run) (longTermRates rate 20 131) (periods 131) (proportions 131) 1078 524 131
+  age-parts : Parts (agesOf run rate) (take ageLongTermRatesAt run) (longTermRates rate 20 ages) (periods ages) (proportions ages) ageLongTermRatesAt 524 ages
   unfolding agesOf
-  ages = parts _ _ _ _ 1078 524 131 (length-take-le 1078 run (omega arith)) (length-rates rate 20 131) (repeated 131 everyPeriod)
+  age-parts = parts _ _ _ _ ageLongTermRatesAt 524 ages (length-take-le ageLongTermRatesAt run (omega arith)) (length-rates rate 20 ages) (repeated ages everyPeriod)
 
-  birth-years : Parts (birthYearsOf run) (take 1076 (drop 1864 run)) (replicate 1076 0) (periods 269) (proportions 269) 1076 1076 269
+  birth-year-parts : Parts (birthYearsOf run) (take 1076 (drop (birthYearInitialRatesAt mpb1) run)) (replicate 1076 0) (periods birthYears) (proportions birthYears) 1076 1076 birthYears
   unfolding birthYearsOf
-  birth-years = parts _ _ _ _ 1076 1076 269 (rw (length-take, length-drop) (omega arith)) (repeated 1076 0) (repeated 269 everyPeriod)
+  birth-year-parts = parts _ _ _ _ 1076 1076 birthYears (rw (length-take, length-drop) (omega arith)) (repeated 1076 0) (repeated birthYears everyPeriod)
 
-  pub front-kept : (at : ℕ) → at < 1078 → byteAt (shortFormOf run rate) at ≡ byteAt run at
-  front-kept at l = in-ages at (omega arith) ∙ ages .first at l ∙ getD-take 1078 run at 0 l
+  pub front-kept : (at : ℕ) → at < ageLongTermRatesAt → byteAt (shortFormOf run rate) at ≡ byteAt run at
+  front-kept at l = in-ages at (omega arith) ∙ age-parts .first at l ∙ getD-take ageLongTermRatesAt run at 0 l
 
-  age-rate-byte : (i j : ℕ) → i < 131 → j < 4 → byteAt (shortFormOf run rate) (1078 + 4 * i + j) ≡ byteAt (i32Bytes (longTermOf rate (20 + i))) j
+  age-rate-byte : (i j : ℕ) → i < ages → j < 4 → byteAt (shortFormOf run rate) (ageLongTermRatesAt + 4 * i + j) ≡ byteAt (i32Bytes (longTermOf rate (20 + i))) j
   age-rate-byte i j l m =
-      let e : 1078 + 4 * i + j ≡ 1078 + (4 * i + j) = omega arith in
-      rw e (in-ages (1078 + (4 * i + j)) (omega arith) ∙ ages .second (4 * i + j) (omega arith) ∙ rate-bytes rate 20 131 i j (4 * i + j) refl l m)
+      let e : ageLongTermRatesAt + 4 * i + j ≡ ageLongTermRatesAt + (4 * i + j) = omega arith in
+      rw e (in-ages (ageLongTermRatesAt + (4 * i + j)) (omega arith) ∙ age-parts .second (4 * i + j) (omega arith) ∙ rate-bytes rate 20 ages i j (4 * i + j) refl l m)
 
-  pub age-period : (i : ℕ) → i < 131 → byteAt (shortFormOf run rate) (1602 + i) ≡ everyPeriod
-  age-period i l = in-ages (1602 + i) (omega arith) ∙ ages .third i l ∙ getD-replicate 131 i everyPeriod 0 l
+  pub age-period : (i : ℕ) → i < ages → byteAt (shortFormOf run rate) (agePeriodsAt + 1 * i) ≡ everyPeriod
+  age-period i l = rw one-mul (in-ages (agePeriodsAt + i) (omega arith) ∙ age-parts .third i l ∙ getD-replicate ages i everyPeriod 0 l)
 
-  pub age-proportion : (i : ℕ) → i < 131 → byteAt (shortFormOf run rate) (1733 + i) ≡ everyProportion
-  age-proportion i l = in-ages (1733 + i) (omega arith) ∙ ages .fourth i ∙ getD-replicate 131 i everyProportion 0 l
+  pub age-proportion : (i : ℕ) → i < ages → byteAt (shortFormOf run rate) (ageProportionsAt + 1 * i) ≡ everyProportion
+  age-proportion i l = rw one-mul (in-ages (ageProportionsAt + i) (omega arith) ∙ age-parts .fourth i ∙ getD-replicate ages i everyProportion 0 l)
 
-  birth-kept : (i : ℕ) → i < 1076 → byteAt (shortFormOf run rate) (1864 + i) ≡ byteAt run (1864 + i)
+  birth-kept : (i : ℕ) → i < 1076 → byteAt (shortFormOf run rate) (birthYearInitialRatesAt mpb1 + i) ≡ byteAt run (birthYearInitialRatesAt mpb1 + i)
   birth-kept i l =
-      in-birth-years (1864 + i) i refl ∙ birth-years .first i l ∙ getD-take 1076 (drop 1864 run) i 0 l ∙ getD-drop 1864 run i 0
+      in-birth-years (birthYearInitialRatesAt mpb1 + i) i refl ∙ birth-year-parts .first i l ∙ getD-take 1076 (drop (birthYearInitialRatesAt mpb1) run) i 0 l ∙ getD-drop (birthYearInitialRatesAt mpb1) run i 0
 
-  birth-rate-byte : (i : ℕ) → i < 1076 → byteAt (shortFormOf run rate) (2940 + i) ≡ 0
-  birth-rate-byte i l = in-birth-years (2940 + i) (1076 + i) (omega arith) ∙ birth-years .second i l ∙ getD-replicate 1076 i 0 0 l
+  birth-rate-byte : (i : ℕ) → i < 1076 → byteAt (shortFormOf run rate) (birthYearLongTermRatesAt mpb1 + i) ≡ 0
+  birth-rate-byte i l = in-birth-years (birthYearLongTermRatesAt mpb1 + i) (1076 + i) (omega arith) ∙ birth-year-parts .second i l ∙ getD-replicate 1076 i 0 0 l
 
-  pub birth-period : (i : ℕ) → i < 269 → byteAt (shortFormOf run rate) (4016 + i) ≡ everyPeriod
-  birth-period i l = in-birth-years (4016 + i) (2152 + i) (omega arith) ∙ birth-years .third i l ∙ getD-replicate 269 i everyPeriod 0 l
+  pub birth-period : (i : ℕ) → i < birthYears → byteAt (shortFormOf run rate) (birthYearPeriodsAt mpb1 + 1 * i) ≡ everyPeriod
+  birth-period i l = in-birth-years (birthYearPeriodsAt mpb1 + 1 * i) (2152 + i) (omega arith) ∙ birth-year-parts .third i l ∙ getD-replicate birthYears i everyPeriod 0 l
 
-  pub birth-proportion : (i : ℕ) → i < 269 → byteAt (shortFormOf run rate) (4285 + i) ≡ everyProportion
-  birth-proportion i l = in-birth-years (4285 + i) (2421 + i) (omega arith) ∙ birth-years .fourth i ∙ getD-replicate 269 i everyProportion 0 l
+  pub birth-proportion : (i : ℕ) → i < birthYears → byteAt (shortFormOf run rate) (birthYearProportionsAt mpb1 + 1 * i) ≡ everyProportion
+  birth-proportion i l = in-birth-years (birthYearProportionsAt mpb1 + 1 * i) (2421 + i) (omega arith) ∙ birth-year-parts .fourth i ∙ getD-replicate birthYears i everyProportion 0 l
 
   -- ---- and its numbers
   pub half-kept : (at : ℕ) → at < 1077 → u16At (shortFormOf run rate) at ≡ u16At run at
@@ -114,19 +117,19 @@ module _ (run : List ℕ) (rate : ℤ) (long : length run ≡ 4554) where
   pub word-kept : (at : ℕ) → at < 1075 → u32At (shortFormOf run rate) at ≡ u32At run at
   word-kept at l = same-word (shortFormOf run rate) run at at (λ j m. front-kept (at + j) (omega arith))
 
-  pub age-rate : (i : ℕ) → i < 131 → natAbs rate < 2_147_483_648 → i32At (shortFormOf run rate) (1078 + 4 * i) ≡ longTermOf rate (20 + i)
+  pub age-rate : (i : ℕ) → i < ages → natAbs rate < 2_147_483_648 → i32At (shortFormOf run rate) (ageLongTermRatesAt + 4 * i) ≡ longTermOf rate (20 + i)
   age-rate i l h =
-      ap signed32 (same-word (shortFormOf run rate) (i32Bytes (longTermOf rate (20 + i))) (1078 + 4 * i) 0 (λ j m. rw zero-add (age-rate-byte i j l m)))
+      ap signed32 (same-word (shortFormOf run rate) (i32Bytes (longTermOf rate (20 + i))) (ageLongTermRatesAt + 4 * i) 0 (λ j m. rw zero-add (age-rate-byte i j l m)))
       ∙ i32-back (longTermOf rate (20 + i)) (omega (arith, long-term-size rate (20 + i) 2_147_483_647 (omega arith)))
 
-  pub birth-initial : (i : ℕ) → i < 269 → i32At (shortFormOf run rate) (1864 + 4 * i) ≡ i32At run (1864 + 4 * i)
+  pub birth-initial : (i : ℕ) → i < birthYears → i32At (shortFormOf run rate) (birthYearInitialRatesAt mpb1 + 4 * i) ≡ i32At run (birthYearInitialRatesAt mpb1 + 4 * i)
   birth-initial i l =
-      let e : (j : ℕ) → 1864 + 4 * i + j ≡ 1864 + (4 * i + j) = λ j. omega arith in
-      ap signed32 (same-word (shortFormOf run rate) run (1864 + 4 * i) (1864 + 4 * i) (λ j m. rw (e j) (birth-kept (4 * i + j) (omega arith))))
+      let e : (j : ℕ) → birthYearInitialRatesAt mpb1 + 4 * i + j ≡ birthYearInitialRatesAt mpb1 + (4 * i + j) = λ j. omega arith in
+      ap signed32 (same-word (shortFormOf run rate) run (birthYearInitialRatesAt mpb1 + 4 * i) (birthYearInitialRatesAt mpb1 + 4 * i) (λ j m. rw (e j) (birth-kept (4 * i + j) (omega arith))))
 
-  pub birth-rate : (i : ℕ) → i < 269 → i32At (shortFormOf run rate) (2940 + 4 * i) ≡ pos 0
+  pub birth-rate : (i : ℕ) → i < birthYears → i32At (shortFormOf run rate) (birthYearLongTermRatesAt mpb1 + 4 * i) ≡ pos 0
   birth-rate i l =
-      let e : (j : ℕ) → 2940 + 4 * i + j ≡ 2940 + (4 * i + j) = λ j. omega arith in
-      ap signed32 (same-word (shortFormOf run rate) (replicate 4 0) (2940 + 4 * i) 0
+      let e : (j : ℕ) → birthYearLongTermRatesAt mpb1 + 4 * i + j ≡ birthYearLongTermRatesAt mpb1 + (4 * i + j) = λ j. omega arith in
+      ap signed32 (same-word (shortFormOf run rate) (replicate 4 0) (birthYearLongTermRatesAt mpb1 + 4 * i) 0
       (λ j m. rw (e j, zero-add) (birth-rate-byte (4 * i + j) (omega arith) ∙ sym (getD-replicate 4 j 0 0 m))))
       ∙ i32-back (pos 0) (omega arith)

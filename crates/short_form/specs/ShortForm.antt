@@ -3,22 +3,30 @@
 use Prim.Native.Nat.{ℕ, zero, suc, _+_, _*_, _-_, _≤_}
 use mathlib.Core.Path.{_≡_}
 use mathlib.Core.List.{List, [], _++_}
-use lib.ListN.{take, drop, replicate}
+use lib.ListN.{length, take, drop, replicate}
 use lib.IntN.{ℤ, pos, negℤ, _*ℤ_}
 use Rattle.arithmetic.specs.Round.{roundDiv}
 use Rattle.basis.specs.declared.Convergence.{Convergence}
 use Rattle.little_endian.specs.Bytes.{i32Bytes}
 use Rattle.outcome.specs.Outcome.{Finding, passed, refusal, unless, firstOf}
 use Rattle.field_check.specs.Field.{between}
+use Rattle.layout.specs.Layout.{formOf, runLength, ages, birthYears, rateLimit, ageLongTermRatesAt, birthYearInitialRatesAt}
 use Rattle.run_check.specs.Run.{runCheck}
+use Rattle.lent.specs.Lent.{roomCheck}
 use Rattle.basis.specs.Basis.{Basis, basisOf}
 
--- ---- the check: the run's own, then S beyond ±200,000,000 (5)
-abbrev pub rateLimit : ℕ
-rateLimit = 200_000_000
+-- ---- the check: the run's own, then S beyond its limit (5)
+-- the limit of every long-term rate
+abbrev pub longTermLimit : ℕ
+longTermLimit = rateLimit
 
 unfoldable pub shortFormCheck : List ℕ → ℤ → Finding
-shortFormCheck run rate = firstOf (runCheck run) (unless (between (negℤ (pos rateLimit)) (pos rateLimit) rate) (refusal 5 1078 0))
+shortFormCheck run rate =
+    firstOf (runCheck run) (unless (between (negℤ (pos longTermLimit)) (pos longTermLimit) rate) (refusal 5 ageLongTermRatesAt 0))
+
+-- before these the lent output's room (11), which is that of the run's own form
+abbrev pub shortCheck : List ℕ → ℤ → List ℕ → Finding
+shortCheck run rate out = firstOf (roomCheck (runLength (formOf (length run))) out) (shortFormCheck run rate)
 
 -- ---- the rates by age
 -- the share of S at an age, in thirtieths: 30 less what the age exceeds 90 (02, change 4). A difference of natural numbers is 0 at
@@ -50,11 +58,13 @@ proportions n = replicate n everyProportion
 
 -- what stands before the age L, then the age L, T and P
 unfoldable pub agesOf : List ℕ → ℤ → List ℕ
-agesOf run rate = take 1078 run ++ longTermRates rate 20 131 ++ periods 131 ++ proportions 131
+agesOf run rate = take ageLongTermRatesAt run ++ longTermRates rate 20 ages ++ periods ages ++ proportions ages
 
 -- the birth-year I, then L, which are 0, T and P
 unfoldable pub birthYearsOf : List ℕ → List ℕ
-birthYearsOf run = take (269 * 4) (drop 1864 run) ++ replicate (269 * 4) 0 ++ periods 269 ++ proportions 269
+birthYearsOf run =
+    take (4 * birthYears) (drop (birthYearInitialRatesAt (formOf (length run))) run)
+    ++ replicate (4 * birthYears) 0 ++ periods birthYears ++ proportions birthYears
 
 unfoldable pub shortFormOf : List ℕ → ℤ → List ℕ
 shortFormOf run rate = agesOf run rate ++ birthYearsOf run

@@ -4,9 +4,9 @@ mod parts;
 mod rates;
 
 ghost use mathlib.Core.Path.{_≡_};
-ghost use Rattle.outcome.specs.Outcome.{firstOf, finding};
-ghost use Rattle.lent.specs.Lent.{roomCheck, written};
-ghost use Rattle.short_form.specs.ShortForm.{shortFormCheck, shortFormOf};
+ghost use Rattle.outcome.specs.Outcome.{finding};
+ghost use Rattle.lent.specs.Lent.{written};
+ghost use Rattle.short_form.specs.ShortForm.{shortFormCheck, shortCheck, shortFormOf};
 use outcome::Check;
 use outcome::Refusal;
 
@@ -18,12 +18,12 @@ fn check_short_form(run: &[u8], rate: i32) -> Check
     if let Check::Refused(_) = c {
         return c;
     }
-    if field_check::in_limits(-200_000_000, 200_000_000, rate as i64) {
+    if field_check::in_limits(layout::LEAST_RATE, layout::RATE_LIMIT, rate as i64) {
         Check::Passed
     } else {
         Check::Refused(Refusal {
             number: 5,
-            first: 1078,
+            first: layout::AGE_LONG_TERM_RATES_AT as u64,
             second: 0,
         })
     }
@@ -31,11 +31,11 @@ fn check_short_form(run: &[u8], rate: i32) -> Check
 
 // Writes the short form into the front of `out`.
 pub fn short_form(run: &[u8], rate: i32, out: &mut [u8]) -> Check
-    ensures { λ r. ⌜ finding r ≡ firstOf (roomCheck 4554 (now (out .entry))) (shortFormCheck (now (run .entry)) rate) ⌝ }
+    ensures { λ r. ⌜ finding r ≡ shortCheck (now (run .entry)) rate (now (out .entry)) ⌝ }
     ensures { λ r. ⌜ now (out .exit) ≡ written (finding r) (shortFormOf (now (run .entry)) rate) (now (out .entry)) ⌝ }
 {
     let c = outcome::first_of(
-        lent::check_room(4554, out.len()),
+        lent::check_room(layout::RUN_LENGTH, out.len()),
         check_short_form(run, rate),
     );
     if let Check::Passed = c {

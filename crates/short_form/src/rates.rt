@@ -2,7 +2,7 @@
 ghost use mathlib.Core.Path.{_≡_};
 ghost use Prim.Native.Nat.{_-_, _≤_};
 ghost use lib.IntN.{natAbs};
-ghost use Rattle.short_form.specs.ShortForm.{rateLimit, shareOf, longTermOf};
+ghost use Rattle.short_form.specs.ShortForm.{longTermLimit, shareOf, longTermOf};
 
 // The last age with all of S.
 const RUN_OFF_AGE: usize = 90;
@@ -23,7 +23,7 @@ fn share(age: usize) -> usize
 
 // The long-term rate at an age.
 pub(crate) fn long_term_rate(rate: i32, age: usize) -> i32
-    requires { ⌜ (natAbs rate ≤ rateLimit) × (20 ≤ age) × (age ≤ 150) ⌝ }
+    requires { ⌜ (natAbs rate ≤ longTermLimit) × (20 ≤ age) × (age ≤ 150) ⌝ }
     ensures { λ r. ⌜ r ≡ longTermOf rate age ⌝ }
 {
     arithmetic::round_div(rate as i64 * share(age) as i64, 30) as i32

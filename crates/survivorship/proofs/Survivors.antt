@@ -1,6 +1,7 @@
 -- Survivorship year by year: what its loops need, and that survivors are a natural number of at most U; from the laws of `steps`.
 -- Assumes nothing.
 use mathlib.Core.Path.{_≡_, _∙_, ap, sym, refl}
+use mathlib.Core.List.{List}
 use Prim.Native.Nat.{ℕ, suc, _+_, _*_, _-_, _/_, _≤_, _<_}
 use native.Mathlib.Omega.{arith}
 use native.Mathlib.Nat.{mul-le-mul}
@@ -10,7 +11,9 @@ use Rattle.arithmetic.specs.Round.{roundDiv}
 use Rattle.arithmetic.proofs.Difference.{ring, ⊖-eq}
 use Rattle.arithmetic.proofs.Rounding.{round-abs-le}
 use Rattle.basis.specs.Basis.{Basis}
-use Rattle.outcome.specs.Outcome.{Outcome, value, refused}
+use Rattle.history.specs.Checked.{Cell}
+use Rattle.history.specs.History.{basisWith, Workable}
+use Rattle.outcome.specs.Outcome.{Outcome, value, refused, andThen}
 use Rattle.outcome.specs.declared.Refusal.{Refusal}
 use Rattle.outcome.proofs.Outcome.{none, next, persists, came, along}
 use Rattle.projection.specs.Projection.{rateOf}
@@ -39,16 +42,10 @@ next-small s q r h e = rounded-small (s * (U - q)) U r (omega arith) (mul-le-mul
 
 -- ---- the same of an age and a year
 module _ (b : Basis) (age year : ℕ) where
-  pub year-value : (s q : ℤ) → rateOf b age year ≡ value q → survivorsAfterYear b age year s ≡ value (survivorsNext s q)
+  -- from what the rate is, wherever that was worked out
+  pub survivors-by-rate : {o : Outcome ℤ} (s : ℤ) → o ≡ rateOf b age year → andThen o (λ q. value (survivorsNext s q)) ≡ survivorsAfterYear b age year s
   unfolding survivorsAfterYear
-  year-value s q h = rw h refl
-
-  pub year-refused : (s : ℤ) (r : Refusal) → rateOf b age year ≡ refused r → survivorsAfterYear b age year s ≡ refused r
-  unfolding survivorsAfterYear
-  year-refused s r h = rw h refl
-
-  pub rate-at-most : (q : ℕ) → rateOf b age year ≡ value (pos q) → q ≤ U
-  rate-at-most q h = let n = rate-small b age year (pos q) h in let e : q ≡ n .0 = cc in omega (arith, n .2)
+  survivors-by-rate s e = ap (λ o. andThen o (λ q. value (survivorsNext s q))) e
 
   year-natural : (a g : ℤ) (s : ℕ) → a ≡ pos s → s ≤ U → survivorsAfterYear b age year a ≡ value g → (m : ℕ) × (g ≡ pos m) × (m ≤ U)
   unfolding survivorsAfterYear
@@ -65,6 +62,12 @@ module _ (b : Basis) (age year : ℕ) where
 pub year-late : (kind : Kind) (j year : ℕ) → year ≤ yearOn kind j year
 year-late Period j year = omega arith
 year-late Cohort j year = omega arith
+
+-- the cell of the rate j years on
+pub cell-on : {run history : List ℕ} (age start : ℕ) {year : ℕ} (kind : Kind) (j : ℕ) → Workable run history → 20 ≤ age → age + j ≤ 150 → basisWith run history .base ≤ start →
+    year ≡ yearOn kind j start → Cell run history (age + j) year
+cell-on age start kind j usable low high from e =
+    record { usable = usable; age-low = omega arith; age-high = high; year-low = omega (arith, from, e, year-late kind j start) }
 
 -- ---- survivorship: at first, one year more, after a refusal, and its size
 module _ (b : Basis) (kind : Kind) (age : ℕ) where

@@ -2,10 +2,10 @@
 ghost use mathlib.Core.Path.{_≡_};
 ghost use Prim.Native.Nat.{_+_, _≤_};
 ghost use lib.IntN.{pos};
-ghost use Rattle.history.specs.Checked.{Life};
-ghost use Rattle.history.specs.History.{basisWith, Workable};
-ghost use Rattle.outcome.specs.Outcome.{meaning};
-ghost use Rattle.projection.specs.Projection.{rateOf};
+ghost use Rattle.history.specs.Checked.{Cell, Life};
+ghost use Rattle.history.specs.History.{basisWith};
+ghost use Rattle.outcome.specs.Outcome.{value, andThen, meaning};
+ghost use Rattle.projection.specs.Bounded.{AtMost};
 ghost use Rattle.survivorship.specs.Survivorship.{yearOn, survivorsNext, survivorsAfterYear, survivorsOf};
 use arithmetic::UNIT;
 use outcome::Answer;
@@ -35,11 +35,10 @@ fn survivors_next(s: u64, q: u64) -> u64
     arithmetic::round_div_unsigned(s * (UNIT - q), UNIT)
 }
 
-// The same with what the rate of an age and a year is, wherever that was worked out, or its refusal. The run, the history,
-// the age and the year say whose rate it is, and nothing is read of them.
-pub fn survivors_by(run: &[u8], history: &[u8], age: u32, year: u32, rate: Answer, s: u64) -> Answer
-    requires { ⌜ (s ≤ 1_000_000_000) × (meaning rate ≡ rateOf (basisWith (now run) (now history)) age year) ⌝ }
-    ensures { λ r. ⌜ meaning r ≡ survivorsAfterYear (basisWith (now (run .entry)) (now (history .entry))) age year (pos s) ⌝ }
+// The same with what the rate is, wherever that was worked out, or the rate's refusal.
+pub fn survivors_by(rate: Answer, s: u64) -> Answer
+    requires { ⌜ (s ≤ 1_000_000_000) × AtMost 1_000_000_000 (meaning rate) ⌝ }
+    ensures { λ r. ⌜ meaning r ≡ andThen (meaning rate) (λ q. value (survivorsNext (pos s) q)) ⌝ }
 {
     match rate {
         Answer::Value(q) => Answer::Value(survivors_next(s, q)),
@@ -49,11 +48,10 @@ pub fn survivors_by(run: &[u8], history: &[u8], age: u32, year: u32, rate: Answe
 
 // The same at an age in a year from B on.
 pub fn survivors_after_year(run: &[u8], history: &[u8], age: u32, year: u32, s: u64) -> Answer
-    requires { ⌜ Workable (now run) (now history) × (20 ≤ age) × (age ≤ 150) × (basisWith (now run) (now history) .base ≤ year) × (s ≤ 1_000_000_000) ⌝ }
+    requires { ⌜ Cell (now run) (now history) age year × (s ≤ 1_000_000_000) ⌝ }
     ensures { λ r. ⌜ meaning r ≡ survivorsAfterYear (basisWith (now (run .entry)) (now (history .entry))) age year (pos s) ⌝ }
 {
-    let rate = projection::rate::rate_at(run, history, age, year);
-    survivors_by(run, history, age, year, rate, s)
+    survivors_by(projection::rate::rate_at(run, history, age, year), s)
 }
 
 // The survivors after n years.

@@ -9,26 +9,26 @@ use lib.IntN.{ℤ, pos, natAbs}
 use lib.ListN.{length, getD}
 use Rattle.outcome.specs.Outcome.{Outcome, value, refused}
 use Rattle.sweep.specs.Sweep.{State}
-use Rattle.sweep.specs.Held.{refusedNumber, heldIn, Holds}
-use Rattle.sweep.specs.Fixed.{HeldIsFixed}
-use Rattle.sweep.proofs.Numbers.{held-factor, held-above}
+use Rattle.sweep.specs.Encoding.{refusedNumber, decoded, Encodes}
+use Rattle.sweep.specs.Fixed.{EncodingIsFixed}
+use Rattle.sweep.proofs.Numbers.{decoded-factor, decoded-above}
 
 -- ---- a number
 abbrev numberOf : Outcome ℤ → ℕ
 numberOf (value z) = natAbs z
 numberOf (refused r) = refusedNumber (r .number) (r .second)
 
-number-back : (age n : ℕ) → numberOf (heldIn age n) ≡ n
+number-back : (age n : ℕ) → numberOf (decoded age n) ≡ n
 number-back age n = by (decLt 4_000_000_000 n)
   where
-    by : Dec (4_000_000_000 < n) → numberOf (heldIn age n) ≡ n
-    by (no l) = ap numberOf (held-factor age n (omega arith))
+    by : Dec (4_000_000_000 < n) → numberOf (decoded age n) ≡ n
+    by (no l) = ap numberOf (decoded-factor age n (omega arith))
     by (yes l) =
         let whole : refusedNumber ((n - 4_000_000_000) / 10_000) ((n - 4_000_000_000) % 10_000) ≡ n = omega arith in
-        ap numberOf (held-above age n l) ∙ whole
+        ap numberOf (decoded-above age n l) ∙ whole
 
-pub held-once : (age m n : ℕ) → heldIn age m ≡ heldIn age n → m ≡ n
-held-once age m n h = sym (number-back age m) ∙ ap numberOf h ∙ number-back age n
+pub decoded-once : (age m n : ℕ) → decoded age m ≡ decoded age n → m ≡ n
+decoded-once age m n h = sym (number-back age m) ∙ ap numberOf h ∙ number-back age n
 
 -- ---- a list
 -- lists that are equally long and have the same number in each place are the same
@@ -41,11 +41,11 @@ same-numbers (x ∷ xs) (y ∷ ys) l h =
     let rest = same-numbers xs ys (omega arith) (λ i k. h (suc i) (omega arith)) in
     rw (first, rest) refl
 
-pub held-is-fixed : HeldIsFixed
-held-is-fixed =
+pub encoding-is-fixed : EncodingIsFixed
+encoding-is-fixed =
     record {
-      number = held-once;
+      number = decoded-once;
       list = λ state numbers others h k.
           same-numbers numbers others (h .size ∙ sym (k .size))
-          (λ i l. held-once (20 + i) _ _ (h .each i (omega (arith, h .size)) ∙ sym (k .each i (omega (arith, h .size)))));
+          (λ i l. decoded-once (20 + i) _ _ (h .each i (omega (arith, h .size)) ∙ sym (k .each i (omega (arith, h .size)))));
     }

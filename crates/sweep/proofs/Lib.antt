@@ -1,6 +1,6 @@
 pub mod Direct
 pub mod Fixed
-mod Moving
+mod OneAge
 pub mod Numbers
 mod Stepping
 pub mod Steps

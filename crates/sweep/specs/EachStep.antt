@@ -9,13 +9,13 @@ use Rattle.outcome.specs.Outcome.{passed, refused}
 use Rattle.history.specs.History.{basisWith, runAndHistoryCheck}
 use Rattle.projection.specs.Projection.{factorOf}
 use Rattle.sweep.specs.Sweep.{sweepStart, sweepStep}
-use Rattle.sweep.specs.Held.{stateIn, Holds}
+use Rattle.sweep.specs.Encoding.{stateIn, Encodes}
 
 -- the lists of numbers that n steps go through: the first is what the contract of `start` gives, and each later one what that of `step` leaves
 -- of the one before it, in the years B, B + 1 and so on
 pub record Swept (run history : List ℕ) (lists : ℕ → List ℕ) (n : ℕ) : Type 0 where
-  pub started : Holds (lists 0) sweepStart
-  pub stepped : (k : ℕ) → k < n → Holds (lists (suc k)) (sweepStep (basisWith run history) (basisWith run history .base + k) (stateIn (lists k)))
+  pub started : Encodes (lists 0) sweepStart
+  pub stepped : (k : ℕ) → k < n → Encodes (lists (suc k)) (sweepStep (basisWith run history) (basisWith run history .base + k) (stateIn (lists k)))
 
 pub record EachStep (run history : List ℕ) : Type 0 where
   -- on an accepted basis and history, after k steps, at each age

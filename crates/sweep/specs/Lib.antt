@@ -1,4 +1,4 @@
-pub mod Held
+pub mod Encoding
 pub mod Sweep
 pub mod EachStep
 pub mod Fixed

@@ -1,4 +1,4 @@
--- The year sweep (02, change 5): the factors of all ages, moved on one year per step.
+-- The year sweep (02, change 5): the factors of all ages, advanced one year per step.
 use Prim.Native.Nat.{ℕ, zero, suc, _+_}
 use mathlib.Core.Bool.{Bool, cond}
 use lib.Dec.{ltb}
@@ -21,17 +21,17 @@ sweepStart age = value (pos U)
 abbrev pub factorOn : Basis → ℕ → ℕ → ℤ → Outcome ℤ
 factorOn b age year factor = factorFrom age (year + 1) (improvementOf b age (year + 1)) factor
 
--- after 2130 the factors stand
-abbrev pub moves : ℕ → Bool
-moves year = ltb year 2130
+-- has an age a factor of the next year? After 2130 the factors stand, at every age
+abbrev pub hasNextYear : ℕ → ℕ → Bool
+hasNextYear age year = ltb year 2130
 
 -- one age from a year to the next; a refusal stays
-unfoldable pub movedOn : Basis → ℕ → ℕ → Outcome ℤ → Outcome ℤ
-movedOn b age year held = cond (moves year) (andThen held (factorOn b age year)) held
+unfoldable pub advancedFactor : Basis → ℕ → ℕ → Outcome ℤ → Outcome ℤ
+advancedFactor b age year last = cond (hasNextYear age year) (andThen last (factorOn b age year)) last
 
 -- one step: every age by itself
 abbrev pub sweepStep : Basis → ℕ → State → State
-sweepStep b year state age = movedOn b age year (state age)
+sweepStep b year state age = advancedFactor b age year (state age)
 
 -- the state after k steps from B
 unfoldable pub sweepAfter : Basis → ℕ → State

@@ -1,13 +1,15 @@
-// The year sweep (02, change 5): the factors of all ages, moved on one year per step.
+// The year sweep (02, change 5): the factors of all ages, advanced one year per step.
 // The state is lent: 131 numbers of 4 bytes, one for each age from 20 to 150, each a factor or a refusal.
 ghost use mathlib.Core.Path.{_≡_};
-ghost use Prim.Native.Nat.{_+_, _-_, _≤_, _<_};
+ghost use Prim.Native.Nat.{_≤_, _<_};
+ghost use lib.IntN.{pos};
 ghost use lib.Dec.{ltb};
 ghost use lib.ListN.{length};
 ghost use Rattle.outcome.specs.Outcome.{meaning};
+ghost use Rattle.history.specs.Checked.{Cell};
 ghost use Rattle.history.specs.History.{basisWith, Workable};
-ghost use Rattle.sweep.specs.Sweep.{sweepStart, movedOn, sweepStep};
-ghost use Rattle.sweep.specs.Held.{refusedNumber, heldIn, stateIn, Holds};
+ghost use Rattle.sweep.specs.Sweep.{sweepStart, factorOn, advancedFactor, sweepStep};
+ghost use Rattle.sweep.specs.Encoding.{refusedNumber, decoded, stateIn, Encodes};
 use outcome::Answer;
 use outcome::Refusal;
 
@@ -20,8 +22,8 @@ fn refused_number(number: u32, year: u32) -> u32
 }
 
 // What a number of the state stands for at an age.
-pub fn held(age: u32, n: u32) -> Answer
-    ensures { λ r. ⌜ meaning r ≡ heldIn age n ⌝ }
+pub fn decoded(age: u32, n: u32) -> Answer
+    ensures { λ r. ⌜ meaning r ≡ decoded age n ⌝ }
 {
     if n <= 4_000_000_000 {
         return Answer::Value(n as u64);
@@ -36,19 +38,16 @@ pub fn held(age: u32, n: u32) -> Answer
 
 // The state in year B: U at every age.
 pub fn start() -> [u32; 131]
-    ensures { λ r. ⌜ Holds r sweepStart ⌝ }
+    ensures { λ r. ⌜ Encodes r sweepStart ⌝ }
 {
     [1_000_000_000; 131]
 }
 
-// One age from a year before 2130 to the next.
-fn moved_on(run: &[u8], history: &[u8], age: u32, year: u32, n: u32) -> u32
-    requires { ⌜ Workable (now run) (now history) × (20 ≤ age) × (age ≤ 150) × (basisWith (now run) (now history) .base ≤ year) × (year < 2130) ⌝ }
-    ensures { λ r. ⌜ heldIn age r ≡ movedOn (basisWith (now (run .entry)) (now (history .entry))) age year (heldIn age n) ⌝ }
+// The number of the next year's factor at an age, or of its refusal.
+fn next_factor(run: &[u8], history: &[u8], age: u32, year: u32, n: u32) -> u32
+    requires { ⌜ Cell (now run) (now history) age year × (year < 2130) × (n ≤ 4_000_000_000) ⌝ }
+    ensures { λ r. ⌜ decoded age r ≡ factorOn (basisWith (now (run .entry)) (now (history .entry))) age year (pos n) ⌝ }
 {
-    if 4_000_000_000 < n {
-        return n;
-    }
     let terms = basis::fields::age_terms(run, age);
     match projection::factor::factor_in(run, history, terms, age, year + 1, n as u64) {
         Answer::Value(factor) => factor as u32,
@@ -56,20 +55,32 @@ fn moved_on(run: &[u8], history: &[u8], age: u32, year: u32, n: u32) -> u32
     }
 }
 
-// One step: every age by itself. After 2130 the factors stand, and a step from 2260 on is none, which the answer says.
+// One age from a year to the next: a refusal stays, and after 2130 a factor does too.
+fn advanced_factor(run: &[u8], history: &[u8], age: u32, year: u32, n: u32) -> u32
+    requires { ⌜ Cell (now run) (now history) age year ⌝ }
+    ensures { λ r. ⌜ decoded age r ≡ advancedFactor (basisWith (now (run .entry)) (now (history .entry))) age year (decoded age n) ⌝ }
+{
+    if 4_000_000_000 < n {
+        return n;
+    }
+    if year < 2130 {
+        next_factor(run, history, age, year, n)
+    } else {
+        n
+    }
+}
+
+// One step: every age by itself. A step from 2260 on is none, which the answer says.
 pub fn step(run: &[u8], history: &[u8], year: u32, state: &mut [u32]) -> bool
     requires { ⌜ Workable (now run) (now history) × (length (now state) ≡ 131) × (basisWith (now run) (now history) .base ≤ year) ⌝ }
     ensures { λ r. ⌜ r ≡ ltb year 2260 ⌝ }
-    ensures { λ _. ⌜ Holds (now (state .exit)) (sweepStep (basisWith (now (run .entry)) (now (history .entry))) year (stateIn (now (state .entry)))) ⌝ }
+    ensures { λ _. ⌜ Encodes (now (state .exit)) (sweepStep (basisWith (now (run .entry)) (now (history .entry))) year (stateIn (now (state .entry)))) ⌝ }
 {
-    if 2130 <= year {
-        return year < 2260;
-    }
     let mut age: u32 = 20;
     while age <= 150 {
         let i = (age - 20) as usize;
-        state[i] = moved_on(run, history, age, year, state[i]);
+        state[i] = advanced_factor(run, history, age, year, state[i]);
         age += 1;
     }
-    true
+    year < 2260
 }

@@ -12,15 +12,11 @@ use Rattle.outcome.specs.Outcome.{value, refused, sumOf}
 use Rattle.outcome.proofs.Outcome.{sum-none, sum-next}
 use Rattle.survivorship.specs.declared.Kind.{Kind}
 use Rattle.survivorship.specs.Survivorship.{yearOn, survivorsAfterYear, survivorsOf}
-use Rattle.survivorship.proofs.Survivors.{year-late, survivors-next, survivors-refused}
+use Rattle.survivorship.proofs.Survivors.{survivors-next, survivors-refused}
 use Rattle.valuation.specs.Valuation.{discountAfter, payment, paymentAfter, expectationOf, annuityOf}
 use Rattle.valuation.proofs.Lives.{Living, living-first, living-next, lived-refused, lived-last}
 use Rattle.valuation.proofs.Payments.{payment-value, paid-refused, refused-before, paid-last}
 use Rattle.swept_points.specs.Inner.DeferredPayment.{deferredPayment}
-
--- the year of a rate is not before the first one
-pub not-before : {at : ℕ} (kind : Kind) (year j : ℕ) → at ≡ yearOn kind j year → year ≤ at
-not-before kind year j e = omega (arith, e, year-late kind j year)
 
 -- ---- the payment of a year
 pub payment-not-yet : (b : Basis) (from j : ℕ) (s : ℤ) → j < from → pos 0 ≡ deferredPayment b from j s

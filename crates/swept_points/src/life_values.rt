@@ -3,6 +3,7 @@ ghost use mathlib.Core.Path.{_≡_};
 ghost use Prim.Native.Nat.{_+_, _≤_};
 ghost use lib.IntN.{pos};
 ghost use Rattle.outcome.specs.Outcome.{meaning};
+ghost use Rattle.history.specs.Checked.{Cell};
 ghost use Rattle.history.specs.History.{basisWith, Workable};
 ghost use Rattle.survivorship.specs.Survivorship.{survivorsAfterYear};
 ghost use Rattle.valuation.specs.Valuation.{expectationOf, annuityOf};
@@ -30,13 +31,11 @@ fn survivors_after_year(
     year: u32,
     s: u64,
 ) -> Answer
-    requires { ⌜ Workable (now run) (now history) × FactorTable (basisWith (now run) (now history)) (now table) × (20 ≤ age) × (age ≤ 150)
-        × (basisWith (now run) (now history) .base ≤ year) × (s ≤ 1_000_000_000) ⌝ }
+    requires { ⌜ Cell (now run) (now history) age year × FactorTable (basisWith (now run) (now history)) (now table) × (s ≤ 1_000_000_000) ⌝ }
     ensures { λ r. ⌜ meaning r ≡ survivorsAfterYear (basisWith (now (run .entry)) (now (history .entry))) age year (pos s) ⌝ }
 {
     let factor = factor_table::factors::factor(run, history, table, age, year);
-    let rate = projection::rate::rate_by(run, history, age, year, factor);
-    survivorship::survivors_by(run, history, age, year, rate, s)
+    survivorship::survivors_by(projection::rate::rate_by(run, age, factor), s)
 }
 
 // The payment after j years to the survivors: none before the deferment's end.
@@ -54,7 +53,7 @@ fn deferred_payment(
     if j < deferment {
         return 0;
     }
-    valuation::annuity::payment(factor_table::discounts::discount(run, history, table, j), s)
+    valuation::annuity::payment(factor_table::discounts::discount(table, j), s)
 }
 
 // From an age in a year to age 150, with an annuity whose payments begin after a deferment.

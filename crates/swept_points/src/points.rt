@@ -2,6 +2,7 @@
 ghost use mathlib.Core.Path.{_≡_};
 ghost use Prim.Native.Nat.{_+_, _≤_};
 ghost use Rattle.outcome.specs.Outcome.{meaning};
+ghost use Rattle.history.specs.Checked.{Life};
 ghost use Rattle.history.specs.History.{basisWith, Workable};
 ghost use Rattle.valuation.specs.Valuation.{expectationOf};
 ghost use Rattle.factor_table.specs.FactorTable.{FactorTable, Tabled};
@@ -45,8 +46,7 @@ fn expectation(
     q: Question,
     known: LifeValues,
 ) -> Answer
-    requires { ⌜ Workable (now run) (now history) × FactorTable (basisWith (now run) (now history)) (now table) × (20 ≤ q .age)
-        × (q .age + q .deferment ≤ 150) × (basisWith (now run) (now history) .base ≤ q .year) × (q .year ≤ 2130)
+    requires { ⌜ Life (now run) (now history) (q .age) (q .deferment) (q .year) × FactorTable (basisWith (now run) (now history)) (now table)
         × (lifeExpectation known ≡ expectationOf (basisWith (now run) (now history)) kind (q .age) 0 (q .year)) ⌝ }
     ensures { λ r. ⌜ meaning r ≡ expectationOf (basisWith (now (run .entry)) (now (history .entry))) kind (q .age) (q .deferment) (q .year) ⌝ }
 {
@@ -60,8 +60,7 @@ fn expectation(
 
 // The results of a question that has been checked.
 fn swept_results(run: &[u8], history: &[u8], table: &[u32], q: Question) -> PointAnswer
-    requires { ⌜ Workable (now run) (now history) × FactorTable (basisWith (now run) (now history)) (now table) × (20 ≤ q .age)
-        × (q .age + q .deferment ≤ 150) × (basisWith (now run) (now history) .base ≤ q .year) × (q .year ≤ 2130) ⌝ }
+    requires { ⌜ Life (now run) (now history) (q .age) (q .deferment) (q .year) × FactorTable (basisWith (now run) (now history)) (now table) ⌝ }
     ensures { λ r. ⌜ r ≡ pointAnswerOf (resultsOf (basisWith (now (run .entry)) (now (history .entry))) (q .age) (q .deferment) (q .year)) ⌝ }
 {
     let age = q.age;

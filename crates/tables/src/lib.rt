@@ -1,6 +1,7 @@
 // The nine tables of a data run, each handed back as that stretch of the lent run itself.
 ghost use mathlib.Core.Path.{_≡_};
 ghost use Prim.Native.Nat.{_+_};
+ghost use Rattle.layout.specs.Layout.{mpb1};
 ghost use Rattle.tables.specs.Tables.{stretchOf, tableStart, tableOf};
 use outcome::Check;
 
@@ -22,18 +23,30 @@ pub enum Table {
 struct Stretch(usize, usize);
 
 fn stretch_of(table: Table) -> Stretch
-    ensures { λ r. ⌜ r ≡ stretchOf table ⌝ }
+    ensures { λ r. ⌜ r ≡ stretchOf mpb1 table ⌝ }
 {
     match table {
-        Table::BaseRates => Stretch(30, 524),
-        Table::AgeInitialRates => Stretch(554, 524),
-        Table::AgeLongTermRates => Stretch(1078, 524),
-        Table::AgePeriods => Stretch(1602, 131),
-        Table::AgeProportions => Stretch(1733, 131),
-        Table::BirthYearInitialRates => Stretch(1864, 1076),
-        Table::BirthYearLongTermRates => Stretch(2940, 1076),
-        Table::BirthYearPeriods => Stretch(4016, 269),
-        Table::BirthYearProportions => Stretch(4285, 269),
+        Table::BaseRates => Stretch(layout::BASE_RATES_AT, layout::AGE_RATES_LENGTH),
+        Table::AgeInitialRates => Stretch(layout::AGE_INITIAL_RATES_AT, layout::AGE_RATES_LENGTH),
+        Table::AgeLongTermRates => Stretch(
+            layout::AGE_LONG_TERM_RATES_AT,
+            layout::AGE_RATES_LENGTH,
+        ),
+        Table::AgePeriods => Stretch(layout::AGE_PERIODS_AT, layout::AGES),
+        Table::AgeProportions => Stretch(layout::AGE_PROPORTIONS_AT, layout::AGES),
+        Table::BirthYearInitialRates => Stretch(
+            layout::BIRTH_YEAR_INITIAL_RATES_AT,
+            layout::BIRTH_YEAR_RATES_LENGTH,
+        ),
+        Table::BirthYearLongTermRates => Stretch(
+            layout::BIRTH_YEAR_LONG_TERM_RATES_AT,
+            layout::BIRTH_YEAR_RATES_LENGTH,
+        ),
+        Table::BirthYearPeriods => Stretch(layout::BIRTH_YEAR_PERIODS_AT, layout::BIRTH_YEARS),
+        Table::BirthYearProportions => Stretch(
+            layout::BIRTH_YEAR_PROPORTIONS_AT,
+            layout::BIRTH_YEARS,
+        ),
     }
 }
 

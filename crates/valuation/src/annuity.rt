@@ -4,7 +4,8 @@ ghost use Prim.Native.Nat.{_+_, _≤_};
 ghost use lib.IntN.{pos};
 ghost use Rattle.basis.specs.Basis.{basisOf, Accepted};
 ghost use Rattle.outcome.specs.Outcome.{meaning, value};
-ghost use Rattle.history.specs.History.{basisWith, Workable};
+ghost use Rattle.history.specs.Checked.{Life};
+ghost use Rattle.history.specs.History.{basisWith};
 ghost use Rattle.survivorship.specs.Survivorship.{survivorsOf};
 ghost use Rattle.valuation.specs.Valuation.{discountNext, discountAfter, payment, annuityOf};
 use arithmetic::UNIT;
@@ -52,8 +53,8 @@ fn annuity_from(
     year: u32,
     first: u64,
 ) -> Answer
-    requires { ⌜ Workable (now run) (now history) × (20 ≤ age) × (age + deferment ≤ 150) × (basisWith (now run) (now history) .base ≤ year)
-        × (year ≤ 2130) × (first ≤ 1_000_000_000) × (survivorsOf (basisWith (now run) (now history)) kind age deferment year ≡ value (pos first)) ⌝ }
+    requires { ⌜ Life (now run) (now history) age deferment year
+        × (first ≤ 1_000_000_000) × (survivorsOf (basisWith (now run) (now history)) kind age deferment year ≡ value (pos first)) ⌝ }
     ensures { λ r. ⌜ meaning r ≡ annuityOf (basisWith (now (run .entry)) (now (history .entry))) kind age deferment year ⌝ }
 {
     let accumulation = basis::fields::accumulation(run);
@@ -91,7 +92,7 @@ pub fn annuity_at(
     deferment: u32,
     year: u32,
 ) -> Answer
-    requires { ⌜ Workable (now run) (now history) × (20 ≤ age) × (age + deferment ≤ 150) × (basisWith (now run) (now history) .base ≤ year) × (year ≤ 2130) ⌝ }
+    requires { ⌜ Life (now run) (now history) age deferment year ⌝ }
     ensures { λ r. ⌜ meaning r ≡ annuityOf (basisWith (now (run .entry)) (now (history .entry))) kind age deferment year ⌝ }
 {
     match survivorship::survivors_at(run, history, kind, age, deferment, year) {

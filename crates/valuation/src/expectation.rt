@@ -1,7 +1,8 @@
 // The expectation of life: the years that U lives have left on average, with half a year for the year of death.
 ghost use mathlib.Core.Path.{_≡_};
 ghost use Prim.Native.Nat.{_+_, _≤_};
-ghost use Rattle.history.specs.History.{basisWith, Workable};
+ghost use Rattle.history.specs.Checked.{Life};
+ghost use Rattle.history.specs.History.{basisWith};
 ghost use Rattle.outcome.specs.Outcome.{meaning};
 ghost use Rattle.valuation.specs.Valuation.{expectationOf};
 use arithmetic::HALF_UNIT;
@@ -18,7 +19,7 @@ pub fn expectation_at(
     deferment: u32,
     year: u32,
 ) -> Answer
-    requires { ⌜ Workable (now run) (now history) × (20 ≤ age) × (age + deferment ≤ 150) × (basisWith (now run) (now history) .base ≤ year) × (year ≤ 2130) ⌝ }
+    requires { ⌜ Life (now run) (now history) age deferment year ⌝ }
     ensures { λ r. ⌜ meaning r ≡ expectationOf (basisWith (now (run .entry)) (now (history .entry))) kind age deferment year ⌝ }
 {
     let from = age + deferment;

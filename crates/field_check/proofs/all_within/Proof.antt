@@ -9,7 +9,8 @@ use mir.Val.{toZ}
 use mir.Syntax.{w64}
 use mir.Facts.{toZ-ofZ}
 use Rattle.outcome.specs.Outcome.{passes}
-use Rattle.field_check.specs.Field.{widthOf, entriesCheck, fieldCheck}
+use Rattle.layout.specs.Layout.{widthOf}
+use Rattle.field_check.specs.Field.{entriesCheck, fieldCheck}
 use Rattle.field_check.proofs.Turns.{room, also, ended, any-number}
 use Rattle.field_check.proofs.all_within.Statement.{statement}
 use Rattle.field_check.proofs.all_within.Tie as tie
@@ -31,12 +32,12 @@ loop-holds c = (search needs, refl)
 entry-ok-requires : tie.Need-entry-ok-requires Inv-loop μ-loop
 entry-ok-requires c κs =
     let l = c .before in
-    omega (arith, room (l .loop .more) (widthOf (l .before .before .before .before .before .args .f .1)) (c .loop-test .taken))
+    omega (arith, room (l .loop .more) (widthOf (l .before .before .before .before .before .args .f .kind)) (c .loop-test .taken))
 
 add-at : tie.Need-add-at Inv-loop μ-loop
 add-at c =
     let l = c .before .before in
-    omega (arith, room (l .loop .more) (widthOf (l .before .before .before .before .before .args .f .1)) (c .before .loop-test .taken))
+    omega (arith, room (l .loop .more) (widthOf (l .before .before .before .before .before .args .f .kind)) (c .before .loop-test .taken))
 
 sub-more : tie.Need-sub-more Inv-loop μ-loop
 sub-more c = omega arith
@@ -49,8 +50,8 @@ loop-again c =
     let l = c .before .before in
     let f = l .before .before .before .before .before .args .f in
     let test = c .before .loop-test .taken in (
-      omega (arith, room (l .loop .more) (widthOf (f .1)) test),
-      rw (l .before .width-of .ensures) (also _ 0 (f .1) _ _ _ (l .loop .more) test (l .loop .all) (c .entry-ok .ensures) ∙ l .loop .inv .1),
+      omega (arith, room (l .loop .more) (widthOf (f .kind)) test),
+      rw (l .before .width-of .ensures) (also _ 0 (f .kind) _ _ _ (l .loop .more) test (l .loop .all) (c .entry-ok .ensures) ∙ l .loop .inv .1),
     )
 
 returns : tie.Need-returns Inv-loop μ-loop
@@ -59,8 +60,8 @@ returns c =
     let l = c .before in
     let f = l .before .before .before .before .before .args .f in
     let e : l .loop .more ≡ 0 = omega arith in
-    let out = sym (ended _ 0 (f .1) _ _ (l .loop .all) _ _ e) ∙ l .loop .inv .1 ∙ any-number _ (f .0) (f .1) _ _ 0 _ _ in
-    simp (toZ-ofZ {w = w64} {z = f .2} (search needs), toZ-ofZ {w = w64} {z = f .3} (search needs)) at out
+    let out = sym (ended _ 0 (f .kind) _ _ (l .loop .all) _ _ e) ∙ l .loop .inv .1 ∙ any-number _ (f .number) (f .kind) _ _ 0 _ _ in
+    simp (toZ-ofZ {w = w64} {z = f .low} (search needs), toZ-ofZ {w = w64} {z = f .high} (search needs)) at out
 
 pub all-within-spec : {M : Type 1} → statement M
 all-within-spec =

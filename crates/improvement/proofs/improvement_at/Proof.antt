@@ -19,7 +19,7 @@ actual-improvement-requires : tie.Need-actual-improvement-requires
 actual-improvement-requires c κs =
     let s = c .before .before .before .before in
     let r = actual-range (basisOf (s .args .run .now)) (s .args .year) (sym (c .before .is-actual .ensures) ∙ c .if1 .taken) in
-    (s .pre .0, omega arith, omega arith, r .0, r .1)
+    (s .pre .0 .usable, s .pre .0 .age-low, s .pre .0 .age-high, r .0, r .1)
 
 wide-requires : tie.Need-wide-requires
 wide-requires c κs = search needs
@@ -28,8 +28,9 @@ projected-at-requires : tie.Need-projected-at-requires
 projected-at-requires c κs =
     let s = c .before .before .before .before in
     let b = basisWith (s .args .run .now) (s .args .history .now) in
-    let late = projected-range b (s .args .year) (s .pre .4) (sym (c .before .is-actual .ensures) ∙ c .if1 .left) in
-    (s .pre .0 .basis, s .pre .1, s .pre .2, s .pre .3, late, s .pre .5)
+    let p = s .pre .0 in
+    let late = projected-range b (s .args .year) (p .year-low) (sym (c .before .is-actual .ensures) ∙ c .if1 .left) in
+    (record { accepted = p .usable .basis; age-low = p .age-low; age-high = p .age-high; year-low = late; birth-high = p .birth-high }, s .pre .1)
 
 returns : tie.Need-returns
 unfolding improvementOf

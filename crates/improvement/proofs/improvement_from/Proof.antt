@@ -9,13 +9,13 @@ use mir.Val.{SFits, toZ, ofZ}
 use mir.Facts.{toZ-ofZ}
 use borrow.Author.Needs.{needs}
 use Rattle.arithmetic.specs.Fraction.{Fraction, _+ᶠ_, round}
-use Rattle.arithmetic.specs.MixedNumbers.{mixedOf, fractionOf}
 use Rattle.arithmetic.specs.declared.Mixed.{Mixed}
 use Rattle.arithmetic.proofs.Difference.{natAbs-add}
 use Rattle.arithmetic.proofs.Machine.{got, sfits-abs, abs-fits}
-use Rattle.arithmetic.proofs.Remainders.{sum-of-parts, sum-abs}
+use Rattle.arithmetic.proofs.Remainders.{sum-abs}
 use Rattle.component.specs.Component.{componentOf}
 use Rattle.component.proofs.Parts.{SmallParts, component-proper, component-small}
+use Rattle.improvement.proofs.LongTerm.{sum-of}
 use Rattle.improvement.proofs.improvement_from.Statement.{statement}
 use Rattle.improvement.proofs.improvement_from.Tie as tie
 
@@ -47,12 +47,9 @@ module _ (s : tie.Start) where
       let sum = sum-abs by-age by-birth age-proper birth-proper in
       sfits-abs (omega (arith, natAbs-add rounded (a .addition), abs-fits (s .fits .addition), sum, age .whole, birth .whole))
 
--- the parts that a call gave are small, and are those of the fraction
+-- the parts that a call gave are small
 small-of : {m n : Mixed} → m ≡ n → SmallParts n → SmallParts m
 small-of e h = rw e h
-
-sum-of : {m n : Mixed} (p q : Fraction) → m ≡ mixedOf p → n ≡ mixedOf q → 0 < p .den → 0 < q .den → round (fractionOf m +ᶠ fractionOf n) ≡ round (p +ᶠ q)
-sum-of p q e f h k = rw (e, f) (sum-of-parts p q h k)
 
 sum-is : (c : tie.After-round-sum) → toZ w64 (ofZ w64 (c .round-sum .result)) ≡ rounded (c .before .before .before)
 unfolding by-age by-birth rounded

@@ -3,7 +3,7 @@ use mathlib.Core.Path.{_∙_, ap, sym}
 use mir.Syntax.{w64}
 use borrow.Author.Needs.{needs}
 use Rattle.arithmetic.proofs.Machine.{got}
-use Rattle.outcome.specs.Outcome.{value}
+use Rattle.outcome.specs.Outcome.{value, refused}
 use Rattle.improvement.specs.Improvement.{usable}
 use Rattle.improvement.proofs.Cases.{needed-usable, needed-beyond}
 use Rattle.improvement.proofs.improvement_needed.Statement.{statement}
@@ -24,13 +24,17 @@ returns c =
     let e = got w64 (i .ok) (i .ensures) in
     ap value e ∙ sym (needed-usable _ _ _ (ap usable (sym e) ∙ sym (c .before .is-usable .ensures) ∙ c .if1 .taken))
 
+beyond-limits-requires : tie.Need-beyond-limits-requires
+beyond-limits-requires c κs = search needs
+
 returns-2 : tie.Need-returns-2
 returns-2 c =
-    let i = c .before .before .improvement-at in
+    let t = c .before in
+    let i = t .before .before .improvement-at in
     let e = got w64 (i .ok) (i .ensures) in
-    sym (needed-beyond _ _ _ (ap usable (sym e) ∙ sym (c .before .is-usable .ensures) ∙ c .if1 .left))
+    ap refused (c .beyond-limits .ensures) ∙ sym (needed-beyond _ _ _ (ap usable (sym e) ∙ sym (t .before .is-usable .ensures) ∙ t .if1 .left))
 
 pub improvement-needed-spec : {M : Type 1} → statement M
 improvement-needed-spec =
     tie.close
-    (tie.spec age-terms-requires improvement-at-requires is-usable-requires returns returns-2)
+    (tie.spec age-terms-requires improvement-at-requires is-usable-requires beyond-limits-requires returns returns-2)

@@ -24,9 +24,10 @@ improvement-from-requires : tie.Need-improvement-from-requires
 improvement-from-requires c κs =
     let s = c .before .before .before .before in
     let a = s .args in
-    let l = s .pre .0 .limits in (
-      limits-of (s .pre .3) (l .byAge (a .age) (s .pre .1) (s .pre .2)),
-      limits-of (c .before .birth-terms .ensures) (birth-limited _ (a .age) (a .year) l (s .pre .1) (s .pre .2) (omega (arith, l .foundation-low)) (omega arith)),
+    let p = s .pre .0 in
+    let l = p .accepted .limits in (
+      limits-of (s .pre .1) (l .byAge (a .age) (p .age-low) (p .age-high)),
+      limits-of (c .before .birth-terms .ensures) (birth-limited _ (a .age) (a .year) l (p .age-low) (p .age-high) (omega (arith, l .foundation-low)) (p .birth-high)),
     )
 
 returns : tie.Need-returns
@@ -37,7 +38,7 @@ returns c =
     let foundation = d .before .before .foundation-year .ensures in
     let addition = got w32 (d .addition-in .ok) (d .addition-in .ensures) in
     got w64 (c .improvement-from .ok)
-    (c .improvement-from .ensures ∙ projected-is _ (s .args .age) (s .args .year) (s .pre .3) birth foundation addition)
+    (c .improvement-from .ensures ∙ projected-is _ (s .args .age) (s .args .year) (s .pre .1) birth foundation addition)
 
 pub projected-at-spec : {M : Type 1} → statement M
 projected-at-spec =

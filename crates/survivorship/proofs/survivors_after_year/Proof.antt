@@ -1,5 +1,10 @@
 -- The rate is worked out, and the survivors follow from it.
+use mathlib.Core.Path.{_∙_}
+use lib.IntN.{pos}
 use borrow.Author.Needs.{needs}
+use Rattle.history.specs.History.{basisWith}
+use Rattle.projection.proofs.Years.{rate-bounded}
+use Rattle.survivorship.proofs.Survivors.{survivors-by-rate}
 use Rattle.survivorship.proofs.survivors_after_year.Statement.{statement}
 use Rattle.survivorship.proofs.survivors_after_year.Tie as tie
 
@@ -7,10 +12,15 @@ rate-at-requires : tie.Need-rate-at-requires
 rate-at-requires c κs = search needs
 
 survivors-by-requires : tie.Need-survivors-by-requires
-survivors-by-requires c κs = (c .before .before .before .pre .4, c .rate-at .ensures)
+survivors-by-requires c κs =
+    let s = c .before .before .before in
+    let b = basisWith (s .args .run .now) (s .args .history .now) in
+    (s .pre .1, rate-bounded b (s .args .age) (s .args .year) (c .rate-at .ensures))
 
 returns : tie.Need-returns
-returns c = c .survivors-by .ensures
+returns c =
+    let a = c .before .before .before .before .args in
+    c .survivors-by .ensures ∙ survivors-by-rate (basisWith (a .run .now) (a .history .now)) (a .age) (a .year) (pos (a .s)) (c .before .rate-at .ensures)
 
 pub survivors-after-year-spec : {M : Type 1} → statement M
 survivors-after-year-spec = tie.close (tie.spec rate-at-requires survivors-by-requires returns)

@@ -9,7 +9,7 @@ use Rattle.arithmetic.specs.Fraction.{U}
 use Rattle.history.specs.History.{basisWith}
 use Rattle.outcome.specs.Outcome.{value, refused, meaning}
 use Rattle.survivorship.specs.Survivorship.{survivorsOf}
-use Rattle.survivorship.proofs.Survivors.{survivors-first, survivors-next, survivors-refused, year-small, year-late}
+use Rattle.survivorship.proofs.Survivors.{survivors-first, survivors-next, survivors-refused, year-small, cell-on}
 use Rattle.survivorship.proofs.survivors_at.Statement.{statement}
 use Rattle.survivorship.proofs.survivors_at.Tie as tie
 
@@ -30,7 +30,7 @@ year-on-requires c κs = search needs
 
 survivors-after-year-requires : tie.Need-survivors-after-year-requires Inv-loop μ-loop
 survivors-after-year-requires c κs = let l = c .before .before in let s = l .before .before .before in
-    (s .pre .usable, omega arith, omega arith, omega (arith, s .pre .year-low, c .year-on .ensures, year-late (s .args .kind) (l .loop .j) (s .args .year)), l .loop .inv .1)
+    (cell-on (s .args .age) (s .args .year) (s .args .kind) (l .loop .j) (s .pre .usable) (s .pre .age-low) (omega arith) (s .pre .year-low) (c .year-on .ensures), l .loop .inv .1)
 
 enum-known-v : tie.Need-enum-known-v Inv-loop μ-loop
 enum-known-v c = search needs

@@ -3,8 +3,8 @@ use mathlib.Core.Path.{_∙_, ap, refl}
 use Prim.Native.Nat.{ℕ, _+_}
 use native.Mathlib.Omega.{arith}
 use lib.ListN.{getD-replicate}
-use Rattle.sweep.specs.Held.{heldIn}
-use Rattle.sweep.proofs.Numbers.{held-factor}
+use Rattle.sweep.specs.Encoding.{decoded}
+use Rattle.sweep.proofs.Numbers.{decoded-factor}
 use Rattle.sweep.proofs.start.Statement.{statement}
 use Rattle.sweep.proofs.start.Tie as tie
 
@@ -12,7 +12,7 @@ returns : tie.Need-returns
 returns c =
     record {
       size = refl;
-      each = λ i l. ap (heldIn (20 + i)) (getD-replicate {0} {A = ℕ} 131 i _ 0 l) ∙ held-factor (20 + i) _ (omega arith);
+      each = λ i l. ap (decoded (20 + i)) (getD-replicate {0} {A = ℕ} 131 i _ 0 l) ∙ decoded-factor (20 + i) _ (omega arith);
     }
 
 pub start-spec : {M : Type 1} → statement M

@@ -8,6 +8,7 @@ use lib.ListN.{take, drop}
 use Rattle.outcome.specs.declared.Refusal.{Refusal}
 use Rattle.outcome.specs.Outcome.{Finding, passed, refusedBy}
 use Rattle.outcome.proofs.Outcome.{found}
+use Rattle.layout.specs.Layout.{mpb1, runLength}
 use Rattle.run_check.specs.Run.{runCheck}
 use Rattle.run_check.proofs.Acceptance.{accepted}
 use Rattle.tables.specs.declared.Table.{Table}
@@ -21,14 +22,16 @@ use Rattle.tables.proofs.table_of.Tie as tie
 -- ---- what is handed back, by what the check says
 module _ (run : List ℕ) (table : Table) where
   handed : {c : Finding} → runCheck run ≡ c
-      → (tableOf run table ≡ bytesOf run (handedBack c table)) × (tableStart run table ≡ handedBack c table .0)
+      → (tableOf run table ≡ bytesOf run (handedBack c (stretchOf mpb1 table))) × (tableStart run table ≡ handedBack c (stretchOf mpb1 table) .0)
   unfolding tableOf tableStart
-  handed h = (ap (λ (c : Finding). bytesOf run (handedBack c table)) h, ap (λ (c : Finding). handedBack c table .0) h)
+  handed h =
+      let s = stretchOf mpb1 table in
+      (ap (λ (c : Finding). bytesOf run (handedBack c s)) h, ap (λ (c : Finding). handedBack c s .0) h)
 
   refused-table : {r : Refusal} → runCheck run ≡ refusedBy r → (tableOf run table ≡ []) × (tableStart run table ≡ 0)
   refused-table h = handed h
 
-  passed-table : {s : Stretch} → runCheck run ≡ passed → s ≡ stretchOf table
+  passed-table : {s : Stretch} → runCheck run ≡ passed → s ≡ stretchOf mpb1 table
       → (take (s .0 + s .1 - s .0) (drop (s .0) run) ≡ tableOf run table) × (s .0 ≡ tableStart run table)
   passed-table {s} h e =
       let cut : s .0 + s .1 - s .0 ≡ s .1 = omega arith in
@@ -67,7 +70,7 @@ stretch-of-requires c κs = search needs
 
 record Passing (c : tie.After-struct-known) : Type 0 where
   passed : runCheck (c .before .before .before .before .before .before .args .run .now) ≡ passed
-  in-run : c .before .stretch-of .result .0 + c .before .stretch-of .result .1 ≤ 4554
+  in-run : c .before .stretch-of .result .0 + c .before .stretch-of .result .1 ≤ runLength mpb1
 
 passing : (c : tie.After-struct-known) → Passing c
 passing c =

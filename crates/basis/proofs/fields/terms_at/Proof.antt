@@ -1,4 +1,5 @@
 -- Each of the four numbers is what is read at its own offset; the signed ones come back from their bits as they were.
+use native.Mathlib.Nat.{one-mul}
 use Rattle.arithmetic.proofs.Machine.{got}
 use mir.Syntax.{w32}
 use borrow.Author.Needs.{needs}
@@ -37,7 +38,7 @@ shared-slice-read-t18 c = search needs
 
 returns : tie.Need-returns
 returns c = let d = c .before .before in
-    simp (got w32 (d .before .read-i32 .ok) (d .before .read-i32 .ensures), got w32 (d .read-i322 .ok) (d .read-i322 .ensures))
+    simp (one-mul, got w32 (d .before .read-i32 .ok) (d .before .read-i32 .ensures), got w32 (d .read-i322 .ok) (d .read-i322 .ensures))
 
 pub terms-at-spec : {M : Type 1} → statement M
 terms-at-spec =

@@ -3,6 +3,7 @@ use mathlib.Core.Path.{_≡_, refl, sym, ap, _∙_}
 use Prim.Native.Nat.{_+_, _*_, _-_, _≤_}
 use native.Mathlib.Omega.{arith}
 use lib.ListN.{length, drop}
+use Rattle.layout.specs.Layout.{mpb1, runLength}
 use Rattle.lent.specs.Lent.{placed}
 use Rattle.lent.proofs.Lent.{placed-whole}
 use Rattle.block.specs.Blocks.{partsOf}
@@ -15,10 +16,10 @@ use Rattle.basis_file.proofs.read.join_parts.Tie as tie
 
 abbrev Inv-loop : tie.InvT-loop
 Inv-loop file run₀ b₀ run b =
-    (b ≤ 9) × (length run ≡ length run₀) × (placed run (506 * b) (partsOf (9 - b) (drop (512 * b) file)) ≡ placed run₀ 0 (runIn file))
+    (b ≤ mpb1 .blocks) × (length run ≡ length run₀) × (placed run (506 * b) (partsOf (mpb1 .blocks - b) (drop (512 * b) file)) ≡ placed run₀ 0 (runIn file))
 
 abbrev μ-loop : tie.MeasureT-loop
-μ-loop file run₀ b₀ run b = 9 - b
+μ-loop file run₀ b₀ run b = mpb1 .blocks - b
 
 loop-holds : tie.Need-loop-holds Inv-loop μ-loop
 unfolding runIn
@@ -60,11 +61,11 @@ loop-again c =
     let s = l .before .before .before in
     let f = s .args .file .now in
     let b = l .loop .b in
-    let m : length (l .loop .run) ≡ 4554 = omega arith in
+    let m : length (l .loop .run) ≡ runLength mpb1 = omega arith in
     let e = c .before .before .put .ensures ∙ ap (placed (l .loop .run) (506 * b)) (part-is f (512 * b + 2) 506) in (
       omega arith,
-      join-length f (l .loop .run) b _ (omega arith) (s .pre .0) m e ∙ l .loop .inv .1,
-      join-turn f (l .loop .run) b _ (omega arith) (s .pre .0) m e ∙ l .loop .inv .2,
+      join-length (mpb1 .blocks) f (l .loop .run) b _ (omega arith) (s .pre .0) m e ∙ l .loop .inv .1,
+      join-turn (mpb1 .blocks) f (l .loop .run) b _ (omega arith) (s .pre .0) m e ∙ l .loop .inv .2,
     )
 
 same-length : tie.Need-same-length Inv-loop μ-loop
@@ -76,7 +77,7 @@ returns c =
     let s = l .before .before .before in
     let f = s .args .file .now in
     let n = run-length f (s .pre .0) in
-    sym (join-end f (l .loop .run) (l .loop .b) (omega arith)) ∙ l .loop .inv .2 ∙ placed-whole (s .args .run .now) (runIn f) (omega arith)
+    sym (join-end (mpb1 .blocks) f (l .loop .run) (l .loop .b) (omega arith)) ∙ l .loop .inv .2 ∙ placed-whole (s .args .run .now) (runIn f) (omega arith)
 
 pub join-parts-spec : {M : Type 1} → statement M
 join-parts-spec =

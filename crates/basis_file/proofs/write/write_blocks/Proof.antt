@@ -3,6 +3,7 @@ use mathlib.Core.Path.{_≡_, refl, sym, ap, _∙_}
 use Prim.Native.Nat.{_*_, _-_, _≤_}
 use native.Mathlib.Omega.{arith}
 use lib.ListN.{length, drop}
+use Rattle.layout.specs.Layout.{mpb1, fileLength}
 use Rattle.lent.specs.Lent.{placed}
 use Rattle.block.specs.Block.{blockOf}
 use Rattle.block.specs.Blocks.{blocksOf}
@@ -14,10 +15,10 @@ use Rattle.basis_file.proofs.write.write_blocks.Tie as tie
 
 abbrev Inv-loop : tie.InvT-loop
 Inv-loop run file₀ b₀ file b =
-    (b ≤ 9) × (length file ≡ length file₀) × (placed file (512 * b) (blocksOf b (9 - b) (drop (506 * b) run)) ≡ placed file₀ 0 (fileOf run))
+    (b ≤ mpb1 .blocks) × (length file ≡ length file₀) × (placed file (512 * b) (blocksOf b (mpb1 .blocks - b) (drop (506 * b) run)) ≡ placed file₀ 0 (fileOf run))
 
 abbrev μ-loop : tie.MeasureT-loop
-μ-loop run file₀ b₀ file b = 9 - b
+μ-loop run file₀ b₀ file b = mpb1 .blocks - b
 
 loop-holds : tie.Need-loop-holds Inv-loop μ-loop
 unfolding fileOf
@@ -56,11 +57,11 @@ loop-again c =
     let s = l .before .before .before in
     let r = s .args .run .now in
     let b = l .loop .b in
-    let m : 4608 ≤ length (l .loop .file) = omega arith in
+    let m : fileLength mpb1 ≤ length (l .loop .file) = omega arith in
     let e = c .before .before .put-block .ensures ∙ ap (λ x. placed (l .loop .file) (512 * b) (blockOf b x)) (part-is r (506 * b) 506) in (
       omega arith,
-      write-length r (l .loop .file) b _ (omega arith) (s .pre .0) m e ∙ l .loop .inv .1,
-      write-turn r (l .loop .file) b _ (omega arith) (s .pre .0) m e ∙ l .loop .inv .2,
+      write-length (mpb1 .blocks) r (l .loop .file) b _ (omega arith) (s .pre .0) m e ∙ l .loop .inv .1,
+      write-turn (mpb1 .blocks) r (l .loop .file) b _ (omega arith) (s .pre .0) m e ∙ l .loop .inv .2,
     )
 
 same-length : tie.Need-same-length Inv-loop μ-loop
@@ -70,7 +71,7 @@ returns : tie.Need-returns Inv-loop μ-loop
 returns c =
     let l = c .before in
     let s = l .before .before .before in
-    sym (write-end (s .args .run .now) (l .loop .file) (l .loop .b) (omega arith)) ∙ l .loop .inv .2
+    sym (write-end (mpb1 .blocks) (s .args .run .now) (l .loop .file) (l .loop .b) (omega arith)) ∙ l .loop .inv .2
 
 pub write-blocks-spec : {M : Type 1} → statement M
 write-blocks-spec =

@@ -2,6 +2,7 @@
 use mathlib.Core.Path.{sym, _∙_, ap}
 use Rattle.outcome.specs.Outcome.{finding}
 use Rattle.outcome.proofs.Outcome.{found}
+use Rattle.layout.specs.Layout.{mpb1, fileLength}
 use Rattle.run_check.specs.Run.{runCheck}
 use Rattle.lent.proofs.Lent.{room-passed, kept, put-in-front}
 use Rattle.basis_file.proofs.Files.{accepted-run}
@@ -26,7 +27,7 @@ write-blocks-requires c κs =
     let k = c .before .before .before in
     let s = k .before .before .before .before .before .args in
     let e = rw (k .before .before .check-room .ensures, k .before .check-run .ensures) at (k .first-of .ensures) in
-    let p = room-passed 4608 (s .file .now) (runCheck (s .run .now)) (found e (c .before .enum-told .given .1)) in
+    let p = room-passed (fileLength mpb1) (s .file .now) (runCheck (s .run .now)) (found e (c .before .enum-told .given .1)) in
     (accepted-run (s .run .now) (p .1), p .0)
 
 enum-told-2 : tie.Need-enum-told-2

@@ -1,18 +1,18 @@
 -- The start by its numbers, as C is handed it.
 use mathlib.Core.Path.{_∙_, ap}
 use borrow.Author.Needs.{needs}
-use Rattle.engine.specs.Lifelines.{lifelineBegun}
+use Rattle.engine.specs.Lifelines.{lifelineOfStart}
 use Rattle.engine.proofs.lifelines.parvusek_lifeline_start.Statement.{statement}
 use Rattle.engine.proofs.lifelines.parvusek_lifeline_start.Tie as tie
 
 start-at-requires : tie.Need-start-at-requires
 start-at-requires c κs = search needs
 
-begun-requires : tie.Need-begun-requires
-begun-requires c κs = search needs
+lifeline-of-start-requires : tie.Need-lifeline-of-start-requires
+lifeline-of-start-requires c κs = search needs
 
 returns : tie.Need-returns
-returns c = c .begun .ensures ∙ ap lifelineBegun (c .before .start-at .ensures)
+returns c = c .lifeline-of-start .ensures ∙ ap lifelineOfStart (c .before .start-at .ensures)
 
 pub parvusek-lifeline-start-spec : {M : Type 1} → statement M
-parvusek-lifeline-start-spec = tie.close (tie.spec start-at-requires begun-requires returns)
+parvusek-lifeline-start-spec = tie.close (tie.spec start-at-requires lifeline-of-start-requires returns)

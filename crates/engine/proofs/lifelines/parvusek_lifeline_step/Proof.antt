@@ -1,18 +1,18 @@
 -- The step by its numbers, as C is handed it.
 use mathlib.Core.Path.{_∙_, ap}
 use borrow.Author.Needs.{needs}
-use Rattle.engine.specs.Lifelines.{lifelineMoved}
+use Rattle.engine.specs.Lifelines.{lifelineOfStep}
 use Rattle.engine.proofs.lifelines.parvusek_lifeline_step.Statement.{statement}
 use Rattle.engine.proofs.lifelines.parvusek_lifeline_step.Tie as tie
 
 step-at-requires : tie.Need-step-at-requires
 step-at-requires c κs = search needs
 
-moved-requires : tie.Need-moved-requires
-moved-requires c κs = search needs
+lifeline-of-step-requires : tie.Need-lifeline-of-step-requires
+lifeline-of-step-requires c κs = search needs
 
 returns : tie.Need-returns
-returns c = c .moved .ensures ∙ ap lifelineMoved (c .before .step-at .ensures)
+returns c = c .lifeline-of-step .ensures ∙ ap lifelineOfStep (c .before .step-at .ensures)
 
 pub parvusek-lifeline-step-spec : {M : Type 1} → statement M
-parvusek-lifeline-step-spec = tie.close (tie.spec step-at-requires moved-requires returns)
+parvusek-lifeline-step-spec = tie.close (tie.spec step-at-requires lifeline-of-step-requires returns)

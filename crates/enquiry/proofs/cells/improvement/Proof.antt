@@ -1,11 +1,9 @@
 -- The checks decide first; what they let pass is all that the work asks for.
 use mathlib.Core.Path.{_∙_, sym}
 use borrow.Author.Needs.{needs}
-use Rattle.history.specs.History.{basisWith}
-use Rattle.improvement.specs.Improvement.{firstYear}
 use Rattle.outcome.proofs.Outcome.{found, checked-passed, checked-refused}
 use Rattle.enquiry.specs.Enquiry.{improvementEnquiry}
-use Rattle.enquiry.proofs.Passed.{cell-passed}
+use Rattle.enquiry.proofs.Passed.{improved-passed}
 use Rattle.enquiry.proofs.cells.improvement.Statement.{statement}
 use Rattle.enquiry.proofs.cells.improvement.Tie as tie
 
@@ -19,8 +17,7 @@ improvement-needed-requires : tie.Need-improvement-needed-requires
 improvement-needed-requires c κs =
     let a = c .before .before .before .before .before .args in
     let passed = found (c .before .before .check-from-first .ensures) (c .enum-told .given .1) in
-    let p = cell-passed (a .run .now) (a .history .now) (firstYear (basisWith (a .run .now) (a .history .now))) (a .age) (a .year) passed in
-    p
+    improved-passed (a .run .now) (a .history .now) (a .age) (a .year) passed
 
 enum-known-r : tie.Need-enum-known-r
 enum-known-r c = search needs

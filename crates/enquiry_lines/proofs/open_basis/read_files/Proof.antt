@@ -8,6 +8,7 @@ use Rattle.basis.specs.Basis.{basisOf}
 use Rattle.outcome.proofs.Outcome.{first-passed, first-refused}
 use Rattle.lent.specs.Lent.{placed}
 use Rattle.lent.proofs.Lent.{kept, put-in-front}
+use Rattle.layout.specs.Layout.{mpb1, runLength}
 use Rattle.basis_file.specs.File.{fileCheck, runIn}
 use Rattle.outcome.specs.Outcome.{passed, finding}
 use Rattle.history.specs.History.{historyCheck}
@@ -19,10 +20,10 @@ use Rattle.enquiry_lines.proofs.open_basis.read_files.Tie as tie
 
 -- what the reading says, and what it leaves where it says nothing against the file
 decides : (k : tie.After-read-file) → fileCheck (k .before .before .before .before .before .args .file .now) ≡ finding (k .read-file .result)
-decides k = read-check _ (replicate 4554 0) (length-replicate {A = ℕ} 4554 0) _ (k .read-file .ensures .0)
+decides k = read-check _ (replicate (runLength mpb1) 0) (length-replicate {A = ℕ} (runLength mpb1) 0) _ (k .read-file .ensures .0)
 
 holds : (k : tie.After-read-file) → finding (k .read-file .result) ≡ passed → k .read-file .last .1 .0 ≡ runIn (k .before .before .before .before .before .args .file .now)
-holds k h = k .read-file .ensures .1 ∙ run-fills _ (decides k ∙ h) (replicate 4554 0) (length-replicate {A = ℕ} 4554 0) _ h
+holds k h = k .read-file .ensures .1 ∙ run-fills _ (decides k ∙ h) (replicate (runLength mpb1) 0) (length-replicate {A = ℕ} (runLength mpb1) 0) _ h
 
 judged : (h : tie.After-check-history) →
     let a = h .before .before .before .before .before .before .before .before .before .before .args in

@@ -4,6 +4,7 @@ use mathlib.Core.List.{[], _++_}
 use Prim.Native.Nat.{ℕ}
 use native.Mathlib.Omega.{arith}
 use lib.ListN.{replicate, length-replicate}
+use Rattle.layout.specs.Layout.{mpb1, runLength}
 use Rattle.basis_file.specs.File.{runIn}
 use Rattle.outcome.specs.Outcome.{passed, finding}
 use Rattle.outcome.proofs.Outcome.{found}
@@ -25,7 +26,7 @@ run-is : (o : tie.After-open-files) → finding (o .open-files .result .check) �
 run-is o h =
     let a = o .before .before .before .before .before .before .before .before .args in
     o .open-files .ensures .1 .0
-    ∙ opened-run (a .file .now) (a .history .now) (replicate 4554 0) (length-replicate {A = ℕ} 4554 0) _ (o .open-files .ensures .0) h
+    ∙ opened-run (a .file .now) (a .history .now) (replicate (runLength mpb1) 0) (length-replicate {A = ℕ} (runLength mpb1) 0) _ (o .open-files .ensures .0) h
 
 accepted : (o : tie.After-open-files) → finding (o .open-files .result .check) ≡ passed
     → Workable (o .open-files .last .1 .1 .0) (o .before .before .before .before .before .before .before .before .args .history .now)

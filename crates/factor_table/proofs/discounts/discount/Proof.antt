@@ -1,7 +1,4 @@
--- The number at that place is the discount.
-use mathlib.Core.Path.{_∙_, ap}
-use native.Mathlib.Omega.{arith}
-use lib.IntN.{pos}
+-- The number at that place is read.
 use borrow.Author.Needs.{needs}
 use Rattle.factor_table.proofs.discounts.discount.Statement.{statement}
 use Rattle.factor_table.proofs.discounts.discount.Tie as tie
@@ -19,9 +16,7 @@ wide-requires : tie.Need-wide-requires
 wide-requires c κs = search needs
 
 returns : tie.Need-returns
-returns c =
-    let s = c .before .before .before .before .before in
-    ap pos (c .wide .ensures) ∙ s .pre .0 .discounts (s .args .j) (omega (arith, s .pre .1))
+returns c = c .wide .ensures
 
 pub discount-spec : {M : Type 1} → statement M
 discount-spec = tie.close (tie.spec add-at mul-wide shared-slice-read-wide wide-requires returns)

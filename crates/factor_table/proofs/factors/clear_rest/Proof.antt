@@ -4,16 +4,17 @@ use Prim.Native.Nat.{_*_, _-_, _≤_}
 use native.Mathlib.Omega.{arith}
 use borrow.Author.Needs.{needs}
 use Rattle.history.specs.History.{basisWith}
+use Rattle.factor_table.specs.FactorTable.{tableYears, factorsLength}
 use Rattle.factor_table.proofs.Clearing.{Cleared, cleared-none, cleared-next}
 use Rattle.factor_table.proofs.factors.clear_rest.Statement.{statement}
 use Rattle.factor_table.proofs.factors.clear_rest.Tie as tie
 
 abbrev Inv-loop : tie.InvT-loop
 Inv-loop run history numbers₀ years at₀ numbers at =
-    (131 * (2131 - basisWith run history .base) ≤ at) × (at ≤ 18209) × Cleared (131 * (2131 - basisWith run history .base)) numbers₀ numbers at
+    (131 * tableYears (basisWith run history) ≤ at) × (at ≤ factorsLength) × Cleared (131 * tableYears (basisWith run history)) numbers₀ numbers at
 
 abbrev μ-loop : tie.MeasureT-loop
-μ-loop run history numbers₀ years at₀ numbers at = 18209 - at
+μ-loop run history numbers₀ years at₀ numbers at = factorsLength - at
 
 base-year-requires : tie.Need-base-year-requires Inv-loop μ-loop
 base-year-requires c κs = search needs
@@ -31,8 +32,8 @@ loop-holds : tie.Need-loop-holds Inv-loop μ-loop
 loop-holds c =
     let s = c .before .before .before .before in
     let b = basisWith (s .args .run .now) (s .args .history .now) in
-    let e : 131 * (2131 - c .base-year .result) ≡ 131 * (2131 - b .base) = omega (arith, c .base-year .ensures) in
-    rw e (omega arith, omega (arith, s .pre .0 .basis .limits .base-low), cleared-none (131 * (2131 - b .base)) (s .args .numbers .now))
+    let e : 131 * (2131 - c .base-year .result) ≡ 131 * tableYears b = omega (arith, c .base-year .ensures) in
+    rw e (omega arith, omega (arith, s .pre .0 .basis .limits .base-low), cleared-none (131 * tableYears b) (s .args .numbers .now))
 
 mul-numbers : tie.Need-mul-numbers Inv-loop μ-loop
 mul-numbers c = search needs
@@ -53,7 +54,7 @@ loop-again c =
     let b = basisWith (s .args .run .now) (s .args .history .now) in (
       omega arith,
       omega arith,
-      cleared-next (131 * (2131 - b .base)) (s .args .numbers .now) (l .loop .numbers) (l .loop .at) (l .loop .inv .0)
+      cleared-next (131 * tableYears b) (s .args .numbers .now) (l .loop .numbers) (l .loop .at) (l .loop .inv .0)
           (omega (arith, s .pre .1)) (l .loop .inv .2),
     )
 
@@ -63,7 +64,7 @@ same-length c = c .before .loop .inv .2 .same
 returns : tie.Need-returns Inv-loop μ-loop
 returns c =
     let l = c .before in
-    let e : l .loop .at ≡ 18209 = omega arith in
+    let e : l .loop .at ≡ factorsLength = omega arith in
     (rw e at (l .loop .inv .2 .zeros), l .loop .inv .2 .kept)
 
 pub clear-rest-spec : {M : Type 1} → statement M

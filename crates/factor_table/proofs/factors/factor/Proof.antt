@@ -1,9 +1,10 @@
 -- The number at the held year and the age is that of the sweep, and so the direct engine's factor.
 use mathlib.Core.Path.{_∙_}
+use Prim.Native.Nat.{_+_, _*_, _-_, _≤_, _<_}
 use native.Mathlib.Omega.{arith}
 use borrow.Author.Needs.{needs}
-use Rattle.history.specs.History.{basisWith}
-use Rattle.factor_table.proofs.Reading.{within, noted-factor}
+use Rattle.factor_table.specs.FactorTable.{factorsLength}
+use Rattle.factor_table.proofs.Reading.{within, stored-factor}
 use Rattle.factor_table.proofs.factors.factor.Statement.{statement}
 use Rattle.factor_table.proofs.factors.factor.Tie as tie
 
@@ -13,64 +14,48 @@ held-year-requires c κs = search needs
 base-year-requires : tie.Need-base-year-requires
 base-year-requires c κs = search needs
 
-sub-k : tie.Need-sub-k
-sub-k c =
+-- the place of its number
+place : (c : tie.After-base-year) →
+    let n = c .before .held-year .result in
+    let base = c .base-year .result in
+    let age = c .before .before .before .before .before .args .age in
+    (base ≤ n) × (n ≤ 2130) × (131 * (n - base) + (age - 20) < factorsLength)
+place c =
     let s = c .before .before .before .before .before in
     let a = s .args in
-    let limits = s .pre .0 .basis .limits in
-    within (basisWith (a .run .now) (a .history .now)) (a .numbers .now) (s .pre .1) (limits .base-low) (limits .base-high) (a .age) (a .year) (s .pre .2) (s .pre .3) (s .pre .4)
-    _ _ (c .before .held-year .ensures) (c .base-year .ensures) .0
+    within (a .run .now) (a .history .now) (a .numbers .now) (a .age) (a .year) (s .pre .0) (s .pre .1) _ _ (c .before .held-year .ensures) (c .base-year .ensures)
+
+sub-k : tie.Need-sub-k
+sub-k c = place c .0
 
 mul-at : tie.Need-mul-at
-mul-at c =
-    let s = c .before .before .before .before .before in
-    let a = s .args in
-    let limits = s .pre .0 .basis .limits in
-    let here = within (basisWith (a .run .now) (a .history .now)) (a .numbers .now) (s .pre .1) (limits .base-low) (limits .base-high) (a .age) (a .year) (s .pre .2) (s .pre .3)
-    (s .pre .4) _ _ (c .before .held-year .ensures) (c .base-year .ensures) in
-    record { fits = omega (arith, here .1) }
+mul-at c = record { fits = omega (arith, place c .1) }
 
 sub-at : tie.Need-sub-at
 sub-at c = search needs
 
 add-at : tie.Need-add-at
-add-at c =
-    let s = c .before .before .before .before .before in
-    let a = s .args in
-    let limits = s .pre .0 .basis .limits in
-    let here = within (basisWith (a .run .now) (a .history .now)) (a .numbers .now) (s .pre .1) (limits .base-low) (limits .base-high) (a .age) (a .year) (s .pre .2) (s .pre .3)
-    (s .pre .4) _ _ (c .before .held-year .ensures) (c .base-year .ensures) in
-    record { fits = omega (arith, here .2) }
+add-at c = record { fits = omega (arith, place c .2) }
 
 cast-at : tie.Need-cast-at
 cast-at c = search needs
 
-mul-held : tie.Need-mul-held
-mul-held c = search needs
+mul-decoded : tie.Need-mul-decoded
+mul-decoded c = search needs
 
-shared-slice-read-held : tie.Need-shared-slice-read-held
-shared-slice-read-held c =
-    let y = c .before in
-    let s = y .before .before .before .before .before in
-    let a = s .args in
-    let limits = s .pre .0 .basis .limits in
-    let here = within (basisWith (a .run .now) (a .history .now)) (a .numbers .now) (s .pre .1) (limits .base-low) (limits .base-high) (a .age) (a .year) (s .pre .2) (s .pre .3)
-    (s .pre .4) _ _ (y .before .held-year .ensures) (y .base-year .ensures) in
-    omega (arith, here .2, s .pre .1 .size)
+shared-slice-read-decoded : tie.Need-shared-slice-read-decoded
+shared-slice-read-decoded c = omega (arith, place (c .before) .2, c .before .before .before .before .before .before .pre .1 .size)
 
-held-requires : tie.Need-held-requires
-held-requires c κs = search needs
+decoded-requires : tie.Need-decoded-requires
+decoded-requires c κs = search needs
 
 returns : tie.Need-returns
 returns c =
     let y = c .before .before in
     let s = y .before .before .before .before .before in
     let a = s .args in
-    let limits = s .pre .0 .basis .limits in
-    c .held .ensures
-    ∙ noted-factor (basisWith (a .run .now) (a .history .now)) (a .numbers .now) (s .pre .1) (limits .base-low) (limits .base-high) (a .age)
-    (a .year) (s .pre .2) (s .pre .3) (s .pre .4)
-    _ _ (y .before .held-year .ensures) (y .base-year .ensures)
+    c .decoded .ensures
+    ∙ stored-factor (a .run .now) (a .history .now) (a .numbers .now) (a .age) (a .year) (s .pre .0) (s .pre .1) _ _ (y .before .held-year .ensures) (y .base-year .ensures)
 
 pub factor-spec : {M : Type 1} → statement M
 factor-spec =
@@ -83,7 +68,7 @@ factor-spec =
     sub-at
     add-at
     cast-at
-    mul-held
-    shared-slice-read-held
-    held-requires
+    mul-decoded
+    shared-slice-read-decoded
+    decoded-requires
     returns)

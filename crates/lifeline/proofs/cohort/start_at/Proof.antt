@@ -2,7 +2,7 @@
 use mathlib.Core.Path.{sym}
 use borrow.Author.Needs.{needs}
 use Rattle.outcome.proofs.Outcome.{found}
-use Rattle.lifeline.proofs.Standing.{start-passed, start-refused}
+use Rattle.lifeline.proofs.Steps.{start-passed, start-refused}
 use Rattle.lifeline.proofs.cohort.start_at.Statement.{statement}
 use Rattle.lifeline.proofs.cohort.start_at.Tie as tie
 

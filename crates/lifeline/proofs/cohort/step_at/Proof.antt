@@ -4,7 +4,7 @@ use native.Mathlib.Omega.{arith}
 use borrow.Author.Needs.{needs}
 use borrow.Author.Tests.{eq-eqb, ne-eqb}
 use Rattle.outcome.proofs.Outcome.{found}
-use Rattle.lifeline.proofs.Standing.{step-passed, step-refused, step-ended, step-lived}
+use Rattle.lifeline.proofs.Steps.{step-passed, step-refused, step-ended, step-year}
 use Rattle.lifeline.proofs.cohort.step_at.Statement.{statement}
 use Rattle.lifeline.proofs.cohort.step_at.Tie as tie
 
@@ -16,25 +16,28 @@ enum-told c = search needs
 
 year-later-requires : tie.Need-year-later-requires
 year-later-requires c κs =
-    let a = c .before .before .before .before .before .before .args in
-    let passed = found (c .before .before .before .check-step .ensures) (c .before .enum-told .given .1) in
-    let p = step-passed (a .run .now) (a .history .now) (a .age) (a .year) (a .survivors) passed in
+    let told = c .before .before in
+    let a = told .before .before .before .before .before .args in
+    let p = step-passed (a .run .now) (a .history .now) (a .position) (found (told .before .before .check-step .ensures) (told .enum-told .given .1)) in
     (p .0, p .1, omega (arith, p .2), p .3, omega (arith, p .2, p .4), p .5)
 
 enum-known-x : tie.Need-enum-known-x
 enum-known-x c = search needs
 
 returns : tie.Need-returns
-returns c = sym (step-ended _ _ _ _ _ (found (c .before .before .before .check-step .ensures) (c .before .enum-told .given .1)) (eq-eqb _ _ (c .if1 .taken)))
+returns c =
+    let told = c .before .before in
+    sym (step-ended _ _ _ (found (told .before .before .check-step .ensures) (told .enum-told .given .1)) (eq-eqb _ _ (c .if1 .taken)))
 
 returns-2 : tie.Need-returns-2
 returns-2 c =
     let else = c .before in
-    let passed = found (else .before .before .before .check-step .ensures) (else .before .enum-told .given .1) in
-    c .year-later .ensures ∙ sym (step-lived _ _ _ _ _ passed (ne-eqb _ _ (else .if1 .left)))
+    let told = else .before .before in
+    c .year-later .ensures
+    ∙ sym (step-year _ _ _ (found (told .before .before .check-step .ensures) (told .enum-told .given .1)) (ne-eqb _ _ (else .if1 .left)))
 
 returns-3 : tie.Need-returns-3
-returns-3 c = sym (step-refused _ _ _ _ _ _ (found (c .before .before .before .check-step .ensures) (c .before .x .given .1)))
+returns-3 c = sym (step-refused _ _ _ _ (found (c .before .before .before .check-step .ensures) (c .before .x .given .1)))
 
 pub step-at-spec : {M : Type 1} → statement M
 step-at-spec =

@@ -24,12 +24,12 @@ enum-known-r c = search needs
 returns : tie.Need-returns
 returns c =
     let a = c .before .before .before .before .before .before .args in
-    ap (yearLater (a .age) (a .year) (a .survivors)) (sym (ap meaning (c .before .s .given .1)) ∙ c .before .before .before .survivors-after-year .ensures)
+    ap (yearLater (a .position)) (sym (ap meaning (c .before .s .given .1)) ∙ c .before .before .before .survivors-after-year .ensures)
 
 returns-2 : tie.Need-returns-2
 returns-2 c =
     let a = c .before .before .before .before .before .before .args in
-    ap (yearLater (a .age) (a .year) (a .survivors)) (sym (ap meaning (c .before .r .given .1)) ∙ c .before .before .before .survivors-after-year .ensures)
+    ap (yearLater (a .position)) (sym (ap meaning (c .before .r .given .1)) ∙ c .before .before .before .survivors-after-year .ensures)
 
 pub year-later-spec : {M : Type 1} → statement M
 year-later-spec =

@@ -34,7 +34,7 @@ held-year-requires c κs = search needs
 sub-years : tie.Need-sub-years Inv-loop μ-loop
 sub-years c =
     let s = c .before .before .before .before .before in
-    let early = held-early (basisWith (s .args .run .now) (s .args .history .now) .base) (s .args .year) (s .pre .3) (s .pre .0 .basis .limits .base-high) in
+    let early = held-early (basisWith (s .args .run .now) (s .args .history .now) .base) (s .args .year) (s .pre .year-low) (s .pre .usable .basis .limits .base-high) in
     omega (arith, c .held-year .ensures, c .before .base-year .ensures, early)
 
 loop-holds : tie.Need-loop-holds Inv-loop μ-loop
@@ -97,12 +97,14 @@ factor-in-requires c κs =
     let s = h .before .before .before .before .before in
     let base = h .before .base-year .ensures in
     let late = held-late (s .args .year) in (
-      s .pre .0,
-      s .pre .1,
-      s .pre .2,
+      record {
+        usable = s .pre .usable;
+        age-low = s .pre .age-low;
+        age-high = s .pre .age-high;
+        year-low = omega (arith, base, first-early (basisWith (s .args .run .now) (s .args .history .now)));
+        birth-high = omega (arith, h .held-year .ensures, late, s .pre .age-low);
+      },
       h .before .before .age-terms .ensures,
-      omega (arith, base, first-early (basisWith (s .args .run .now) (s .args .history .now))),
-      omega (arith, h .held-year .ensures, late),
       omega (arith, l .loop .inv .1),
     )
 

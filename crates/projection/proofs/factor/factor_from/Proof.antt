@@ -1,11 +1,12 @@
 -- The code asks the definition's questions in its order: is the improvement usable, and is the factor at most 4 × U?
-use mathlib.Core.Path.{_≡_, _∙_, sym}
+use mathlib.Core.Path.{_≡_, _∙_, ap, sym}
 use mathlib.Core.Bool.{true, false}
 use lib.IntN.{pos}
 use mir.Syntax.{w64}
 use mir.Facts.{toZ-ofZ}
 use borrow.Author.Needs.{needs}
 use borrow.Author.Tests.{not-true, not-false}
+use Rattle.outcome.specs.Outcome.{refused}
 use Rattle.improvement.specs.Improvement.{usable}
 use Rattle.projection.specs.Projection.{factorNext}
 use Rattle.projection.proofs.Cases.{beyond, above, valued}
@@ -31,8 +32,11 @@ next-is c = rw (toZ-ofZ {w = w64} (c .before .before .before .fits .improvement)
 is-usable-requires : tie.Need-is-usable-requires
 is-usable-requires c κs = search needs
 
+beyond-limits-requires : tie.Need-beyond-limits-requires
+beyond-limits-requires c κs = search needs
+
 returns : tie.Need-returns
-returns c = sym (beyond _ _ (c .before .before .args .improvement) _ (not-usable c))
+returns c = let t = c .before in ap refused (c .beyond-limits .ensures) ∙ sym (beyond _ _ (t .before .before .args .improvement) _ (not-usable t))
 
 factor-next-requires : tie.Need-factor-next-requires
 factor-next-requires c κs =
@@ -51,4 +55,4 @@ returns-3 c =
 
 pub factor-from-spec : {M : Type 1} → statement M
 factor-from-spec =
-    tie.close (tie.spec is-usable-requires returns factor-next-requires returns-2 returns-3)
+    tie.close (tie.spec is-usable-requires beyond-limits-requires returns factor-next-requires returns-2 returns-3)

@@ -1,21 +1,20 @@
--- The rows stand in the calls as they stand in the table, so what is found first among them is what the table finds first.
-use Rattle.run_check.specs.Run.{runFields}
-use Rattle.field_check.proofs.Fields.{row-first, no-rows}
+-- What is found first among the rows is what their table finds first.
+use Rattle.field_check.specs.Field.{fieldsCheck}
 use borrow.Author.Needs.{needs}
 use Rattle.run_check.proofs.rows.check_single_fields.Statement.{statement}
 use Rattle.run_check.proofs.rows.check_single_fields.Tie as tie
 
-check-field-requires : tie.Need-check-field-requires
-check-field-requires c κs = search needs
+check-number-requires : tie.Need-check-number-requires
+check-number-requires c κs = search needs
 
-check-field-requires-2 : tie.Need-check-field-requires-2
-check-field-requires-2 c κs = search needs
+check-number-requires-2 : tie.Need-check-number-requires-2
+check-number-requires-2 c κs = search needs
 
-check-field-requires-3 : tie.Need-check-field-requires-3
-check-field-requires-3 c κs = search needs
+check-number-requires-3 : tie.Need-check-number-requires-3
+check-number-requires-3 c κs = search needs
 
-check-field-requires-4 : tie.Need-check-field-requires-4
-check-field-requires-4 c κs = search needs
+check-number-requires-4 : tie.Need-check-number-requires-4
+check-number-requires-4 c κs = search needs
 
 first-of-requires : tie.Need-first-of-requires
 first-of-requires c κs = search needs
@@ -30,28 +29,17 @@ first-of-requires-4 : tie.Need-first-of-requires-4
 first-of-requires-4 c κs = search needs
 
 returns : tie.Need-returns
-unfolding runFields
-returns c =
-    let f = c .before .before .before .before in
-    let run = f .before .before .before .before .before .args .run .now in
-    row-first run _ _ (f .before .before .before .check-field .ensures)
-    (row-first run _ _ (f .before .before .check-field2 .ensures)
-    (row-first run _ _ (f .before .check-field3 .ensures)
-    (row-first run _ _ (f .check-field4 .ensures)
-    (no-rows run)
-    (c .before .before .before .first-of .ensures))
-    (c .before .before .first-of2 .ensures))
-    (c .before .first-of3 .ensures))
-    (c .first-of4 .ensures)
+unfolding fieldsCheck
+returns c = cc
 
 pub check-single-fields-spec : {M : Type 1} → statement M
 check-single-fields-spec =
     tie.close
     (tie.spec
-    check-field-requires
-    check-field-requires-2
-    check-field-requires-3
-    check-field-requires-4
+    check-number-requires
+    check-number-requires-2
+    check-number-requires-3
+    check-number-requires-4
     first-of-requires
     first-of-requires-2
     first-of-requires-3

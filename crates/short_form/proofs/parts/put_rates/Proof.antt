@@ -6,6 +6,8 @@ use lib.ListN.{length}
 use mir.Syntax.{w32}
 use mir.Val.{toZ, ofZ}
 use mir.Facts.{toZ-ofZ}
+use Rattle.layout.specs.Layout.{ages}
+use Rattle.layout.specs.Layout.{ageLongTermRatesAt, agePeriodsAt}
 use Rattle.lent.specs.Lent.{placed}
 use Rattle.short_form.specs.ShortForm.{longTermRates}
 use Rattle.short_form.proofs.Placing.{rates-length, rates-turn, rates-end}
@@ -17,11 +19,11 @@ use Rattle.short_form.proofs.parts.put_rates.Tie as tie
 
 abbrev Inv-loop : tie.InvT-loop
 Inv-loop rate out₀ i₀ out i =
-    (i ≤ 131) × (length out ≡ length out₀)
-    × (placed out (1078 + 4 * i) (longTermRates (toZ w32 rate) (20 + i) (131 - i)) ≡ placed out₀ 1078 (longTermRates (toZ w32 rate) 20 131))
+    (i ≤ ages) × (length out ≡ length out₀)
+    × (placed out (ageLongTermRatesAt + 4 * i) (longTermRates (toZ w32 rate) (20 + i) (ages - i)) ≡ placed out₀ ageLongTermRatesAt (longTermRates (toZ w32 rate) 20 ages))
 
 abbrev μ-loop : tie.MeasureT-loop
-μ-loop rate out₀ i₀ out i = 131 - i
+μ-loop rate out₀ i₀ out i = ages - i
 
 loop-holds : tie.Need-loop-holds Inv-loop μ-loop
 loop-holds c = (omega arith, refl, refl)
@@ -58,10 +60,10 @@ loop-again c =
     let w = c .before .before .before .before .before in
     let l = w .before .before .before in
     let rate = toZ w32 (ofZ w32 (l .before .before .args .rate)) in
-    let at = 1078 + 4 * l .loop .i in
+    let at = ageLongTermRatesAt + 4 * l .loop .i in
     let word = w .i32-bytes .ensures ∙ ap i32Bytes (got w32 (w .before .long-term-rate .ok) (w .before .long-term-rate .ensures)) in
     let new = c .before .before .put .ensures ∙ ap (placed (l .loop .out) at) word in
-    let room : 1602 ≤ length (l .loop .out) = omega arith in (
+    let room : agePeriodsAt ≤ length (l .loop .out) = omega arith in (
       omega arith,
       rates-length (l .loop .out) _ rate (l .loop .i) (omega arith) room new ∙ l .loop .inv .1,
       rates-turn (l .loop .out) _ rate (l .loop .i) (omega arith) room new ∙ l .loop .inv .2,

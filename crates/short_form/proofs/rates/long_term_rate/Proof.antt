@@ -7,7 +7,7 @@ use mir.Syntax.{w32, w64}
 use mir.Val.{toZ, ofZ, SFits}
 use mir.Facts.{toZ-ofZ, toZ-pos, sfits-widen}
 use Rattle.arithmetic.proofs.Machine.{sfits-abs, got}
-use Rattle.short_form.specs.ShortForm.{rateLimit, shareOf, longTermOf}
+use Rattle.short_form.specs.ShortForm.{longTermLimit, shareOf, longTermOf}
 use Rattle.short_form.proofs.LongTerm.{share-most, product-size, long-term-size}
 use borrow.Author.Needs.{needs}
 use Rattle.short_form.proofs.rates.long_term_rate.Statement.{statement}
@@ -32,8 +32,8 @@ share-requires c κs = search needs
 cast-round-div-2 : tie.Need-cast-round-div-2
 cast-round-div-2 c = search needs
 
-product-fits : (rate : ℤ) (age : ℕ) → natAbs rate ≤ rateLimit → SFits w64 (rate *ℤ pos (shareOf age))
-product-fits rate age h = sfits-abs (omega (arith, product-size rate age rateLimit h))
+product-fits : (rate : ℤ) (age : ℕ) → natAbs rate ≤ longTermLimit → SFits w64 (rate *ℤ pos (shareOf age))
+product-fits rate age h = sfits-abs (omega (arith, product-size rate age longTermLimit h))
 
 mul-round-div : tie.Need-mul-round-div
 mul-round-div c =
@@ -44,7 +44,7 @@ round-div-requires : tie.Need-round-div-requires
 round-div-requires c κs =
     let s = c .before in
     rw (rate-is s, share-is _ (s .args .age) (c .share .ensures), toZ-ofZ (product-fits (s .args .rate) (s .args .age) (s .pre .0)))
-    (omega arith, omega (arith, product-size (s .args .rate) (s .args .age) rateLimit (s .pre .0)))
+    (omega arith, omega (arith, product-size (s .args .rate) (s .args .age) longTermLimit (s .pre .0)))
 
 -- what was divided
 gives : (c : lts.After-round-div (share-reads.Asked, share-reads.Learnt, round-div-reads.Asked, round-div-reads.Learnt) reads.Pre reads.Post)
@@ -54,8 +54,8 @@ gives c =
     let fits = product-fits (s .args .rate) (s .args .age) (s .pre .0) in
     got w64 (c .round-div .ok) (rw (rate-is s, share-is _ (s .args .age) (c .before .share .ensures), toZ-ofZ fits) at (c .round-div .ensures))
 
-result-fits : (rate : ℤ) (age : ℕ) → natAbs rate ≤ rateLimit → SFits w32 (longTermOf rate age)
-result-fits rate age h = sfits-abs (omega (arith, long-term-size rate age rateLimit h))
+result-fits : (rate : ℤ) (age : ℕ) → natAbs rate ≤ longTermLimit → SFits w32 (longTermOf rate age)
+result-fits rate age h = sfits-abs (omega (arith, long-term-size rate age longTermLimit h))
 
 cast-result : tie.Need-cast-result
 cast-result c = let s = c .before .before in rw (gives c) (result-fits (s .args .rate) (s .args .age) (s .pre .0))

@@ -5,8 +5,8 @@ use native.Mathlib.Omega.{arith}
 use borrow.Author.Needs.{needs}
 use Rattle.outcome.specs.Outcome.{meaning}
 use Rattle.history.specs.History.{basisWith}
-use Rattle.survivorship.proofs.Survivors.{year-small}
-use Rattle.swept_points.proofs.SoFar.{not-before, SoFar, so-far-first, so-far-next, expectation-refused, annuity-refused, expectation-last, annuity-last}
+use Rattle.survivorship.proofs.Survivors.{year-small, cell-on}
+use Rattle.swept_points.proofs.SoFar.{SoFar, so-far-first, so-far-next, expectation-refused, annuity-refused, expectation-last, annuity-last}
 use Rattle.swept_points.proofs.life_values.life_values_from.Statement.{statement}
 use Rattle.swept_points.proofs.life_values.life_values_from.Tie as tie
 
@@ -39,7 +39,7 @@ survivors-after-year-requires c κs =
     let l = c .before .before in
     let s = l .before .before .before .before .before in
     let a = s .args in
-    (s .pre .0, s .pre .1, omega (arith, s .pre .2), omega arith, omega (arith, s .pre .4, not-before (a .kind) (a .year) _ (c .year-on .ensures)), l .loop .inv .1 .living .people)
+    (cell-on (a .age) (a .year) (a .kind) (l .loop .j) (s .pre .0) (s .pre .2) (omega arith) (s .pre .4) (c .year-on .ensures), s .pre .1, l .loop .inv .1 .living .people)
 
 enum-known-x : tie.Need-enum-known-x Inv-loop μ-loop
 enum-known-x c = search needs

@@ -16,7 +16,7 @@ returns c =
     let s = c .before .before .before .before .before .before in
     let a = s .args in
     let none : 0 ≡ a .q .deferment = omega arith in
-    c .life-expectation .ensures ∙ s .pre .6 ∙ ap (λ d. expectationOf (basisWith (a .run .now) (a .history .now)) (a .kind) (a .q .age) d (a .q .year)) none
+    c .life-expectation .ensures ∙ s .pre .2 ∙ ap (λ d. expectationOf (basisWith (a .run .now) (a .history .now)) (a .kind) (a .q .age) d (a .q .year)) none
 
 add-age : tie.Need-add-age
 add-age c = search needs

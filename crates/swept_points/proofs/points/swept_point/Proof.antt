@@ -19,8 +19,7 @@ swept-results-requires c κs =
     let s = c .before .before .before .before .before .before in
     let q = s .args .q in
     let passed = found (c .before .before .check-question .ensures) (c .enum-told .given .1) in
-    let p = question-passed (basisWith (s .args .run .now) (s .args .history .now) .base) (q .age) (q .deferment) (q .year) passed in
-    (s .pre .0, s .pre .1, p .0, p .1, p .2, p .3)
+    (question-passed (s .args .run .now) (s .args .history .now) (q .age) (q .deferment) (q .year) (s .pre .0) passed, s .pre .1)
 
 enum-known-r : tie.Need-enum-known-r
 enum-known-r c = search needs

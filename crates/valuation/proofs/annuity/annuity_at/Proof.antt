@@ -19,7 +19,7 @@ annuity-from-requires : tie.Need-annuity-from-requires
 annuity-from-requires c κs = let s = c .before .before .before .before .before .before in let a = s .args in
     let h = sym (c .before .before .before .survivors-at .ensures) ∙ ap meaning (c .before .s .given .1) in
     let small = survivors-small (basisWith (a .run .now) (a .history .now)) (a .kind) (a .age) (a .deferment) (a .year) (c .before .s .given .0 .0) h in
-    (s .pre .0, s .pre .1, s .pre .2, s .pre .3, s .pre .4, omega (arith, small), h)
+    (s .pre, omega (arith, small), h)
 
 enum-known-r : tie.Need-enum-known-r
 enum-known-r c = search needs

@@ -9,7 +9,7 @@ use Rattle.history.proofs.With.{accumulation-with, limits-with}
 use Rattle.outcome.specs.Outcome.{refused, meaning}
 use Rattle.valuation.proofs.Discount.{discount-turn, discount-with, discount-small, discount-ranges}
 use Rattle.valuation.proofs.Payments.{Paying, paying-first, paying-next, paid-refused, paid-last}
-use Rattle.survivorship.proofs.Survivors.{survivors-next, year-small, year-late}
+use Rattle.survivorship.proofs.Survivors.{survivors-next, year-small, cell-on}
 use Rattle.valuation.proofs.annuity.annuity_from.Statement.{statement}
 use Rattle.valuation.proofs.annuity.annuity_from.Tie as tie
 
@@ -32,13 +32,13 @@ payment-requires : tie.Need-payment-requires Inv-loop μ-loop
 payment-requires c κs = let s = c .before .before .before .before in let a = s .args in
     let b = basisWith (a .run .now) (a .history .now) in
     let after = sym (c .discount-after .ensures ∙ discount-with (a .run .now) (a .history .now) (a .deferment)) in
-    let small = discount-small b (limits-with (s .pre .0)) (a .deferment) (c .discount-after .result) (omega arith) after in
-    (omega (arith, small), omega (arith, s .pre .5))
+    let small = discount-small b (limits-with (s .pre .0 .usable)) (a .deferment) (c .discount-after .result) (omega arith) after in
+    (omega (arith, small), omega (arith, s .pre .1))
 
 loop-holds : tie.Need-loop-holds Inv-loop μ-loop
 loop-holds c = let d = c .before in let s = d .before .before .before .before in let a = s .args in
     paying-first (basisWith (a .run .now) (a .history .now)) (a .kind) (a .age) (a .deferment) (a .year) (a .first) (d .discount-after .result) (c .payment .result)
-    (omega arith) (s .pre .5) (s .pre .6) (d .discount-after .ensures ∙ discount-with (a .run .now) (a .history .now) (a .deferment)) (c .payment .ensures)
+    (omega arith) (s .pre .1) (s .pre .2) (d .discount-after .ensures ∙ discount-with (a .run .now) (a .history .now) (a .deferment)) (c .payment .ensures)
 
 add-survivors-after-year : tie.Need-add-survivors-after-year Inv-loop μ-loop
 add-survivors-after-year c = search needs
@@ -48,7 +48,7 @@ year-on-requires c κs = search needs
 
 survivors-after-year-requires : tie.Need-survivors-after-year-requires Inv-loop μ-loop
 survivors-after-year-requires c κs = let l = c .before .before in let s = l .before .before .before .before .before .before in
-    (s .pre .0, omega arith, omega arith, omega (arith, s .pre .3, c .year-on .ensures, year-late (s .args .kind) (l .loop .j) (s .args .year)), l .loop .inv .people)
+    (cell-on (s .args .age) (s .args .year) (s .args .kind) (l .loop .j) (s .pre .0 .usable) (s .pre .0 .age-low) (omega arith) (s .pre .0 .year-low) (c .year-on .ensures), l .loop .inv .people)
 
 enum-known-x : tie.Need-enum-known-x Inv-loop μ-loop
 enum-known-x c = search needs
@@ -67,7 +67,7 @@ returns c = let y = c .before .before .before in let l = y .before .before .befo
 
 discount-next-requires : tie.Need-discount-next-requires Inv-loop μ-loop
 discount-next-requires c κs = let l = c .before .before .before .before .before .before in let h = l .before in let s = h .before .before .before .before .before in
-    discount-ranges (basisWith (s .args .run .now) (s .args .history .now)) (limits-with (s .pre .0)) (l .loop .j) (l .loop .v) (omega arith) (l .loop .inv .discount)
+    discount-ranges (basisWith (s .args .run .now) (s .args .history .now)) (limits-with (s .pre .0 .usable)) (l .loop .j) (l .loop .v) (omega arith) (l .loop .inv .discount)
     (h .before .before .accumulation .ensures ∙ accumulation-with (s .args .run .now) (s .args .history .now))
 
 add-j : tie.Need-add-j Inv-loop μ-loop
@@ -80,7 +80,7 @@ payment-requires-2 c κs = let x = c .before .before in let y = x .before .befor
     let g = sym (ap meaning (x .x .given .1)) ∙ y .survivors-after-year .ensures in
     let accumulation = h .before .before .accumulation .ensures ∙ accumulation-with (s .args .run .now) (s .args .history .now) in
     let turned = discount-turn b (l .loop .j) (pos (l .loop .v)) accumulation (l .loop .inv .discount) in
-    let small = discount-small b (limits-with (s .pre .0)) (suc (l .loop .j)) (c .discount-next .result) (omega arith) (turned ∙ sym (c .discount-next .ensures)) in
+    let small = discount-small b (limits-with (s .pre .0 .usable)) (suc (l .loop .j)) (c .discount-next .result) (omega arith) (turned ∙ sym (c .discount-next .ensures)) in
     (omega (arith, small), year-small b (s .args .age + l .loop .j) (y .before .year-on .result) (l .loop .s) (x .x .given .0 .0) (l .loop .inv .people) (sym g))
 
 add-total : tie.Need-add-total Inv-loop μ-loop

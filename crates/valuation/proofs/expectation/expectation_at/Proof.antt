@@ -6,7 +6,7 @@ use borrow.Author.Needs.{needs}
 use Rattle.history.specs.History.{basisWith}
 use Rattle.outcome.specs.Outcome.{meaning}
 use Rattle.valuation.proofs.Lives.{Living, living-first, living-next, lived-refused, lived-last}
-use Rattle.survivorship.proofs.Survivors.{year-small, year-late}
+use Rattle.survivorship.proofs.Survivors.{year-small, cell-on}
 use Rattle.valuation.proofs.expectation.expectation_at.Statement.{statement}
 use Rattle.valuation.proofs.expectation.expectation_at.Tie as tie
 
@@ -37,7 +37,7 @@ year-on-requires c κs = search needs
 
 survivors-after-year-requires : tie.Need-survivors-after-year-requires Inv-loop μ-loop
 survivors-after-year-requires c κs = let l = c .before .before in let s = l .before .before .before in let a = s .args in
-    (s .pre .0, omega arith, omega arith, omega (arith, s .pre .3, c .year-on .ensures, year-late (a .kind) (l .loop .j) (a .year + a .deferment)), l .loop .inv .1 .people)
+    (cell-on (a .age + a .deferment) (a .year + a .deferment) (a .kind) (l .loop .j) (s .pre .usable) (omega (arith, s .pre .age-low)) (omega arith) (omega (arith, s .pre .year-low)) (c .year-on .ensures), l .loop .inv .1 .people)
 
 enum-known-x : tie.Need-enum-known-x Inv-loop μ-loop
 enum-known-x c = search needs

@@ -1,0 +1,88 @@
+-- What is left of a field gives the same answer as the whole field.
+use mathlib.Core.Path.{_≡_, sym, _∙_}
+use Prim.Native.Nat.{_+_, _*_, _≤_}
+use native.Mathlib.Omega.{arith}
+use borrow.Author.Needs.{needs}
+use lib.ListN.{length}
+use mir.Val.{toZ}
+use mir.Syntax.{w64}
+use mir.Facts.{toZ-ofZ}
+use Rattle.layout.specs.Layout.{widthOf}
+use Rattle.field_check.specs.Field.{entriesCheck, fieldCheck}
+use Rattle.field_check.proofs.Turns.{room, inside, outside}
+use Rattle.field_check.proofs.first_outside.Statement.{statement}
+use Rattle.field_check.proofs.first_outside.Tie as tie
+
+abbrev Inv-loop : tie.InvT-loop
+Inv-loop run kind low high width number at₀ left₀ at left =
+    (at + left * widthOf kind ≤ length run)
+    × (entriesCheck run number kind (toZ w64 low) (toZ w64 high) at left ≡ entriesCheck run number kind (toZ w64 low) (toZ w64 high) at₀ left₀)
+
+abbrev μ-loop : tie.MeasureT-loop
+μ-loop run kind low high width number at₀ left₀ at left = left
+
+width-of-requires : tie.Need-width-of-requires Inv-loop μ-loop
+width-of-requires c κs = search needs
+
+loop-holds : tie.Need-loop-holds Inv-loop μ-loop
+loop-holds c = search needs
+
+entry-ok-requires : tie.Need-entry-ok-requires Inv-loop μ-loop
+entry-ok-requires c κs =
+    let l = c .before in
+    omega (arith, room (l .loop .left) (widthOf (l .before .before .before .before .before .args .f .kind)) (c .loop-test .taken))
+
+add-at : tie.Need-add-at Inv-loop μ-loop
+add-at c =
+    let l = c .before .before .before in
+    omega (arith, room (l .loop .left) (widthOf (l .before .before .before .before .before .args .f .kind)) (c .before .before .loop-test .taken))
+
+sub-left : tie.Need-sub-left Inv-loop μ-loop
+sub-left c = omega arith
+
+loop-less : tie.Need-loop-less Inv-loop μ-loop
+loop-less c = omega arith
+
+loop-again : tie.Need-loop-again Inv-loop μ-loop
+loop-again c =
+    let l = c .before .before .before in
+    let a = l .before .before .before .before .before .args in
+    let test = c .before .before .loop-test .taken in (
+      omega (arith, room (l .loop .left) (widthOf (a .f .kind)) test),
+      rw (l .before .width-of .ensures)
+          (sym (inside _ _ _ _ _ _ (l .loop .left) test (c .before .entry-ok .ensures) (c .if1 .taken)) ∙ l .loop .inv .1),
+    )
+
+returns : tie.Need-returns Inv-loop μ-loop
+unfolding fieldCheck
+returns c =
+    let l = c .before .before .before in
+    let f = l .before .before .before .before .before .args .f in
+    let test = c .before .before .loop-test .taken in
+    let out = sym (outside _ (f .number) _ _ _ _ (l .loop .left) test (c .before .entry-ok .ensures) (c .if1 .left)) ∙ l .loop .inv .1 in
+    simp (toZ-ofZ {w = w64} {z = f .low} (search needs), toZ-ofZ {w = w64} {z = f .high} (search needs)) at out
+
+returns-2 : tie.Need-returns-2 Inv-loop μ-loop
+unfolding fieldCheck entriesCheck
+returns-2 c =
+    let l = c .before in
+    let f = l .before .before .before .before .before .args .f in
+    let e : l .loop .left ≡ 0 = omega arith in
+    let out = rw e at (l .loop .inv .1) in
+    simp (toZ-ofZ {w = w64} {z = f .low} (search needs), toZ-ofZ {w = w64} {z = f .high} (search needs)) at out
+
+pub first-outside-spec : {M : Type 1} → statement M
+first-outside-spec =
+    tie.close
+    (tie.spec
+    Inv-loop
+    μ-loop
+    width-of-requires
+    loop-holds
+    entry-ok-requires
+    add-at
+    sub-left
+    loop-less
+    loop-again
+    returns
+    returns-2)

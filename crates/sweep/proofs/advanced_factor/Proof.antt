@@ -1,0 +1,35 @@
+-- A refusal stays; before 2130 a factor goes on to the next year's, and from then on it stands.
+use mathlib.Core.Path.{_∙_, sym}
+use native.Mathlib.Omega.{arith}
+use lib.IntN.{pos}
+use borrow.Author.Needs.{needs}
+use borrow.Author.Tests.{lt-ltb, le-ltb}
+use Rattle.history.specs.History.{basisWith}
+use Rattle.sweep.specs.Encoding.{decoded}
+use Rattle.sweep.proofs.Numbers.{decoded-factor, decoded-above}
+use Rattle.sweep.proofs.OneAge.{advanced-outcome, advanced-refused, advanced-late}
+use Rattle.sweep.proofs.advanced_factor.Statement.{statement}
+use Rattle.sweep.proofs.advanced_factor.Tie as tie
+
+returns : tie.Need-returns
+returns c =
+    let a = c .before .before .before .args in
+    sym (advanced-refused (basisWith (a .run .now) (a .history .now)) (a .age) (a .year) (decoded (a .age) (a .n)) _ (decoded-above (a .age) (a .n) (omega arith)))
+
+next-factor-requires : tie.Need-next-factor-requires
+next-factor-requires c κs = search needs
+
+returns-2 : tie.Need-returns-2
+returns-2 c =
+    let a = c .before .before .before .before .before .args in
+    c .next-factor .ensures
+    ∙ sym (advanced-outcome (basisWith (a .run .now) (a .history .now)) (a .age) (a .year) (decoded (a .age) (a .n)) (pos (a .n)) (lt-ltb (a .year) 2130 (c .before .if2 .taken))
+    (decoded-factor (a .age) (a .n) (omega arith)))
+
+returns-3 : tie.Need-returns-3
+returns-3 c =
+    let a = c .before .before .before .before .args in
+    sym (advanced-late (basisWith (a .run .now) (a .history .now)) (a .age) (a .year) (decoded (a .age) (a .n)) (le-ltb (a .year) 2130 (c .if2 .left)))
+
+pub advanced-factor-spec : {M : Type 1} → statement M
+advanced-factor-spec = tie.close (tie.spec returns next-factor-requires returns-2 returns-3)

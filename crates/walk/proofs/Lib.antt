@@ -1,0 +1,5 @@
+pub mod Tests
+pub mod Locals
+pub mod Statements
+pub mod Calls
+pub mod Meets

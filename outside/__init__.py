@@ -1,1 +1,0 @@
-"""The outside calculation: the paper's rules worked again, sharing nothing with the engine."""

@@ -1,1 +1,0 @@
-"""Tests of the outside calculation itself, against the paper's own figures."""

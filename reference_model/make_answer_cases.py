@@ -1,0 +1,213 @@
+"""Writes the cases of `check_answers`: enquiries of all nine kinds, with the answers.
+
+Run with `python3 -m reference_model.make_answer_cases [folder]` from the folder that holds `crates/`.
+
+Standard input, all numbers little-endian: the number of bases (2 bytes), as many data runs of 4,554
+bytes; the number of bytes of all histories together (4), and as many bytes, the history files
+joined one after the other; then cases to the end. A case is its kind (1 byte, its place in
+`enquiries.KINDS`), the place of its basis (1), age, deferment and year (4 each, unsigned), and
+where its history starts in those bytes (4) and its length (4). A place beyond the bases stands for
+a data run of no bytes, and a stretch that does not lie within the bytes for a history of no bytes.
+Expected, a line a case: `value` and the number, or `refused` and the refusal's number and places.
+"""
+
+import random
+import struct
+
+from reference_model.bases import discounted_bases, gentle_bases, named_bases, realistic
+from reference_model.basis import decode, encode
+from reference_model.damage import with_number
+from reference_model.enquiries import ANNUITY, IMPROVEMENT, KINDS, SURVIVORSHIP, ask
+from reference_model.history import NO_HISTORY
+from reference_model.history_cases import Group, beyond_the_bytes, groups_with_history, without_history
+from reference_model.refusals import Refusal, outcome
+from reference_model.rounding_bases import ONE_WAY_AGE, ONE_WAY_YEARS, celled_bases, rounded_one_way
+from reference_model.units import LAST_AGE, LAST_YEAR
+from reference_model.vectors import command, expected_output, write
+
+GREATEST = 4_294_967_295
+MOST_RUNS, MOST_HISTORY_BYTES = 64, 262_144  # the program's room
+
+CHOSEN = ("sample", "realistic", "improvements high", "all limits low", "P 150", "B 2130", "F 2080",
+          "9 in mid-course", "9 and 10 in one year", "10 in mid-course", "exactly four",
+          "just beyond low", "random gentle", "random mixed", "random wide")
+
+# At the limits of the rate of discount and just below zero.
+DISCOUNTED = ("nobody dies, lowest discount", "nobody dies, discount -1",
+              "nobody dies, greatest discount", "lowest discount")
+
+
+# ---- the questions
+
+def edges(base_year, foundation_year):
+    """Ages, deferments and years at and beyond each end, and numbers that fill four bytes."""
+    last = LAST_YEAR
+    yield from [(20, 0, base_year), (150, 0, base_year), (150, 0, last), (20, 0, last),
+                (20, 130, base_year), (20, 130, last), (149, 1, last), (149, 0, last),
+                (149, 1, base_year), (100, 50, last), (100, 49, last), (21, 128, base_year)]
+    yield from [(19, 0, last), (151, 0, last), (0, 0, last), (GREATEST, 0, last),
+                (GREATEST, GREATEST, GREATEST), (19, 132, last + 1)]
+    yield from [(20, 131, last), (150, 1, last), (149, 2, last), (60, GREATEST, last),
+                (150, GREATEST - 149, last), (60, GREATEST - 30, 0), (60, 91, last + 1)]
+    yield from [(60, 0, base_year - 1), (60, 0, last + 1), (60, 0, 0), (60, 0, GREATEST),
+                (60, 0, foundation_year), (60, 0, foundation_year - 1), (60, 90, last + 1),
+                (20, 0, foundation_year), (150, 0, foundation_year), (60, 20, GREATEST - 19)]
+
+
+def ordinary(draw, base_year):
+    """A question that 6, 8 and 7 do not refuse; young ages and late years often among them."""
+    age = draw(20, 150)
+    deferment = draw(0, 150 - age) if draw(0, 2) else 0
+    first = base_year if draw(0, 2) else max(base_year, 2100)
+    return age, deferment, draw(first, min(2130, first + 40))
+
+
+def stopping(kind, basis, draw):
+    """Ordinary questions, the first years in order, and the ages and years at which bases stop."""
+    for _ in range(14):
+        yield ordinary(draw, basis.base_year)
+    if kind[1] is None:
+        first = basis.foundation_year if kind[0] == IMPROVEMENT else basis.base_year
+        for years in range(10):
+            yield 80, 0, first + years
+    # Just before and at the ages that stop the chosen bases, and past them by deferment.
+    for age in (79, 80, 97, 110):
+        yield age, 1, min(LAST_YEAR, basis.base_year + 10)
+        yield age - 3, 6, min(LAST_YEAR, basis.base_year + 1)
+
+
+def stopping_and_edges(kind, basis, draw):
+    yield from edges(basis.base_year, basis.foundation_year)
+    yield from stopping(kind, basis, draw)
+
+
+def answerable(kind, basis, draw):
+    """Any that 6, 8 and 7 do not refuse; every other one not deferred, every third soon after B."""
+    for _ in range(60):
+        age = draw(20, LAST_AGE)
+        deferment = draw(0, 1) and draw(0, LAST_AGE - age)
+        last_year = LAST_YEAR if draw(0, 2) else min(LAST_YEAR, basis.base_year + 3)
+        yield age, deferment, draw(basis.base_year, last_year)
+
+
+def whole_lives(kind, basis, draw):
+    """Annuities from age 20, over which the discount runs to its end; a few of the other kinds."""
+    for year in (basis.base_year, LAST_YEAR):
+        for deferment in (0, 1, 45, 129, 130) if kind[0] == ANNUITY else (45,):
+            yield 20, deferment, year
+
+
+def whole_lives_and_more(kind, basis, draw):
+    yield from whole_lives(kind, basis, draw)
+    if kind[0] == ANNUITY:
+        yield from answerable(kind, basis, draw)
+
+
+def all_but_reached(kind, basis, draw):
+    """Where the distances are, after few years and after all; each year's improvement is a tie."""
+    years = range(1, ONE_WAY_YEARS + 1) if kind[0] == IMPROVEMENT else (1, 2, 3, 10, ONE_WAY_YEARS)
+    for each in years:
+        yield ONE_WAY_AGE, 1 if kind[0] == SURVIVORSHIP else 0, basis.base_year + each
+    yield from answerable(kind, basis, draw)
+
+
+def at_cells(cells):
+    """Each cell's own age and year, so that its improvement is in the first rate that is used."""
+    return lambda kind, basis, draw: [(age, 1 if kind[0] == SURVIVORSHIP else 0, year)
+                                      for age, year, _ in cells]
+
+
+def refused(kind, basis, draw):
+    """The data run's refusal comes before what could be said of the question."""
+    yield from [(60, 0, 2020), (19, 0, 2020), (150, 1, 2020), (60, 0, 2131)]
+
+
+# ---- the cases
+
+def bases():
+    """Each data run with its questions: accepted ones by choice, with the edges on every third; one
+    refused by 4 and one by 5; the gentle ones, for the distances; the rates of discount; the ways
+    to join two components.
+    """
+    by_name = named_bases()
+    return ([(encode(by_name[name]), stopping_and_edges if place % 3 == 1 else stopping)
+             for place, name in enumerate(CHOSEN)]
+            + [(with_number(encode(realistic()), 20, 1, 1), refused),
+               (with_number(encode(realistic()), 554 + 4 * 40, 4, 200_000_001), refused)]
+            + [(encode(basis), answerable) for basis in gentle_bases().values()]
+            + [(encode(rounded_one_way()), all_but_reached)]
+            + [(encode(by_name[name]), whole_lives) for name in DISCOUNTED]
+            + [(encode(basis), whole_lives_and_more) for basis in discounted_bases().values()]
+            + [(encode(basis), at_cells(cells)) for basis, cells in celled_bases().values()]
+            + [(b"", refused)])
+
+
+def line_of(answer):
+    return str(answer) if isinstance(answer, Refusal) else "value %d" % answer
+
+
+class Cases:
+    """The data runs and histories that are asked about, and the cases, each with its line."""
+
+    def __init__(self):
+        self.runs, self.histories = [], b""
+        self.asked, self.lines = [], []
+
+    def place_of(self, run):
+        """The place of a data run; of an empty one a place at which there will be none."""
+        if not run:
+            return 255
+        if run not in self.runs:
+            self.runs.append(run)
+        return self.runs.index(run)
+
+    def start_of(self, history):
+        """Where these bytes stand, which may be within those of another history."""
+        if history not in self.histories:
+            self.histories += history
+        return self.histories.index(history)
+
+    def add(self, group, kind, question, stretch=None):
+        """Asks about a group's data run and history, or about a stretch that stands for none."""
+        age, deferment, year = question
+        if kind[1] is None:
+            deferment = 0
+        start, length = stretch or (self.start_of(group.history), len(group.history))
+        self.asked.append(struct.pack("<BBIIIII", KINDS.index(kind), self.place_of(group.run),
+                                      age, deferment, year, start, length))
+        self.lines.append(line_of(outcome(ask, group.run, group.history, kind, age, deferment,
+                                          year)))
+
+    def add_all(self, groups, seed):
+        draw = random.Random(seed).randint
+        for kind in KINDS:
+            for group in groups:
+                basis = decode(group.run) if group.run else None
+                for question in group.questions(kind, basis, draw):
+                    self.add(group, kind, question)
+
+    def input_and_output(self):
+        assert len(self.runs) <= MOST_RUNS and len(self.histories) <= MOST_HISTORY_BYTES
+        return (len(self.runs).to_bytes(2, "little") + b"".join(self.runs)
+                + len(self.histories).to_bytes(4, "little") + self.histories
+                + b"".join(self.asked), expected_output(self.lines))
+
+
+def input_and_output():
+    """The bytes of standard input and of the expected standard output."""
+    cases = Cases()
+    cases.add_all([Group(run, NO_HISTORY, questions) for run, questions in bases()], 20_060_101)
+    cases.add_all(list(groups_with_history(edges)), 20_000_101)
+    for place, stretch in enumerate(beyond_the_bytes(len(cases.histories))):
+        for group, kind, question in without_history(place):
+            cases.add(group, kind, question, stretch)
+    return cases.input_and_output()
+
+
+def main():
+    options = command("Writes the cases of check_answers.", "crates/check_answers").parse_args()
+    write(options.folder, *input_and_output())
+
+
+if __name__ == "__main__":
+    main()

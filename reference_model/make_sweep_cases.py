@@ -1,0 +1,71 @@
+"""Writes the cases of `check_sweep`: bases with their histories, and every state of the year sweep.
+
+Run with `python3 -m reference_model.make_sweep_cases [folder]` from the folder that holds `crates/`.
+
+Standard input, all numbers little-endian: cases to the end. A case is the number of bytes of its
+history (4), its data run (4,554) and its history. Expected, a line a state, from B to 2260 and after
+one step more: the year, and the sum of age x number over the ages, a number being the factor of that
+age and year, or for its first refusal up to then 4 x U + 10,000 x the refusal's number + its year. A
+refused basis has the line of its refusal alone.
+"""
+
+from reference_model.bases import named_bases, realistic
+from reference_model.basis import encode
+from reference_model.damage import with_number
+from reference_model.engine import accepted
+from reference_model.history import NO_HISTORY
+from reference_model.older_bases import lent, older_bases
+from reference_model.refusals import Refusal, outcome
+from reference_model.units import FACTOR_LIMIT, FIRST_AGE, LAST_AGE
+from reference_model.vectors import command, write
+
+LAST_SWEPT = 2260
+
+# Some ages stop by 9 or 10 and others go on, all stop, none stops; B from 1992 to 2130.
+CHOSEN = ("sample", "realistic", "9 in mid-course", "9 and 10 in one year", "10 in mid-course",
+          "exactly four", "just beyond low", "all limits low", "B 2130", "F 2080", "random gentle",
+          "random mixed", "random wide")
+
+
+def number(projection, age, year):
+    """The factor, or what stands for the refusal; its year is that of the refusal."""
+    try:
+        return projection.factor(age, year)
+    except Refusal as refusal:
+        return FACTOR_LIMIT + 10_000 * refusal.number + refusal.second
+
+
+def states(run, history):
+    """The lines of a case: the factor of 2130 is held, and so a step after 2260 moves nothing."""
+    projection = accepted(run, history)
+    for year in range(projection.basis.base_year, LAST_SWEPT + 2):
+        weighed = sum(age * number(projection, age, year) for age in range(FIRST_AGE, LAST_AGE + 1))
+        yield "%d %d" % (year, weighed)
+
+
+def lines(run, history):
+    said = outcome(lambda: list(states(run, history)))
+    return [str(said)] if isinstance(said, Refusal) else said
+
+
+def cases():
+    """Bases by choice, all that have a history, and some that are refused."""
+    by_name = named_bases()
+    chosen = [(encode(by_name[name]), NO_HISTORY) for name in CHOSEN]
+    older = [lent(each) for each in older_bases().values()]
+    run, history = older[0]
+    return (chosen + older
+            + [(with_number(encode(realistic()), 20, 1, 1), NO_HISTORY), (run, NO_HISTORY),
+               (run, history[:-1] + bytes([history[-1] ^ 1])), (encode(realistic()), history)])
+
+
+def input_and_output():
+    """The bytes of standard input and of the expected standard output."""
+    asked = b"".join(len(history).to_bytes(4, "little") + run + history for run, history in cases())
+    expected = [line for run, history in cases() for line in lines(run, history)]
+    return asked, ("\n".join(expected) + "\n").encode("ascii")
+
+
+if __name__ == "__main__":
+    write(command(__doc__.split("\n")[0], "crates/check_sweep").parse_args().folder,
+          *input_and_output())

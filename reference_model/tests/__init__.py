@@ -1,0 +1,1 @@
+"""Tests of the reference model itself, against the paper's own figures."""
