@@ -9,7 +9,8 @@ use Rattle.outcome.specs.Refusals.{numbers, RefusedBy}
 use Rattle.outcome.proofs.Refusals.{never-zero}
 use Rattle.engine.specs.Enquiry.{answerOf, signedAnswerOf}
 
-pub value-handed : (work : Outcome ℤ) → RefusedBy numbers work → ((v : ℤ) → work ≡ value v → (m : ℕ) × (v ≡ pos m)) → answerOf work .refusal .number ≡ 0 → work ≡ value (pos (answerOf work .value))
+pub value-handed : (work : Outcome ℤ) → RefusedBy numbers work → ((v : ℤ) → work ≡ value v → (m : ℕ) × (v ≡ pos m)) → answerOf work .refusal .number ≡ 0
+    → work ≡ value (pos (answerOf work .value))
 value-handed (value v) numbered natural none = let n = natural v refl in ap value (rw (n .1) refl)
 value-handed (refused r) numbered natural none = absurd (omega (arith, none, never-zero (r .number) (numbered .listed r refl)))
 

@@ -8,10 +8,10 @@ use lib.ListN.{length, getD, take, drop, set, length-append, length-drop}
 use lib.Seq.{take-suc, take-suc-set, take-all, take-append-le, length-take-le, take-add}
 use Rattle.basis.specs.Basis.{Basis}
 use Rattle.enquiry_text.specs.Line.{lineOf}
-use Rattle.reply_text.specs.Inner.Put.{Put}
+use Rattle.reply_text.specs.Put.{Put}
 use Rattle.reply_text.proofs.Puts.{nothing, then, being}
 use Rattle.enquiry_lines.specs.Lines.{ended, unfinished, replyTo, replies}
-use Rattle.enquiry_lines.specs.Inner.State.{pendingOf, kept, Sound}
+use Rattle.enquiry_lines.specs.State.{pendingOf, kept, Sound}
 use Rattle.enquiry_lines.specs.declared.Pending.{Pending}
 use Rattle.enquiry_lines.proofs.State.{held-sound, held-kept, held-complete}
 use Rattle.enquiry_lines.proofs.Parting.{ended-one, ended-none, unfinished-none, unfinished-more, no-replies, reply-alone, Left, left-next, said-next}

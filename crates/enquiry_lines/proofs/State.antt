@@ -8,7 +8,7 @@ use lib.ListN.{length, take, drop, set, replicate, length-append, length-set, le
 use lib.Seq.{length-take-le, drop-cons, drop-set-lt, take-at, drop-at}
 use Rattle.enquiry_lines.specs.declared.Pending.{Pending}
 use Rattle.enquiry_lines.specs.Lines.{ended, unfinished}
-use Rattle.enquiry_lines.specs.Inner.State.{pendingOf, kept, Sound}
+use Rattle.enquiry_lines.specs.State.{pendingOf, kept, Sound}
 use Rattle.enquiry_lines.proofs.Parting.{ended-few}
 
 -- nothing is kept

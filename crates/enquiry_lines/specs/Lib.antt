@@ -1,3 +1,3 @@
 pub mod Lines
 pub mod Output
-pub mod Inner
+pub mod State

@@ -7,9 +7,9 @@ ghost use lib.ListN.{length};
 ghost use Rattle.history.specs.History.{basisWith, Workable};
 ghost use Rattle.factor_table.specs.FactorTable.{FactorTable, Tabled};
 ghost use Rattle.enquiry_text.specs.Line.{lineOf};
-ghost use Rattle.reply_text.specs.Inner.Put.{Put};
+ghost use Rattle.reply_text.specs.Put.{Put};
 ghost use Rattle.enquiry_lines.specs.Lines.{ended, unfinished, lastLine, replyTo, replies};
-ghost use Rattle.enquiry_lines.specs.Inner.State.{kept, pendingOf, Sound};
+ghost use Rattle.enquiry_lines.specs.State.{kept, pendingOf, Sound};
 use crate::Fed;
 use crate::Pending;
 use enquiry_text::Line;
@@ -35,7 +35,7 @@ fn put_line(
 {
     match parse::parse_line(text) {
         Line::Enquiry(q) => {
-            let a = swept_points::points::point_at(run, history, table, q);
+            let a = swept_points::points::swept_point(run, history, table, q);
             reply::put_reply(out, at, q, a)
         }
         Line::Malformed => {

@@ -7,7 +7,7 @@ ghost use Rattle.outcome.specs.Outcome.{finding};
 ghost use Rattle.layout.specs.Layout.{mpb1, runLength};
 ghost use Rattle.lent.specs.Lent.{written};
 ghost use Rattle.basis_file.specs.File.{runIn};
-ghost use Rattle.reply_text.specs.Inner.Put.{Put};
+ghost use Rattle.reply_text.specs.Put.{Put};
 ghost use Rattle.enquiry_lines.specs.Output.{filesCheck, printed};
 use crate::Opening;
 use basis_file::read;

@@ -37,7 +37,7 @@ pub fn answered(run: &[u8], history: &[u8], p: Point) -> Point
     requires { ⌜ Workable (now run) (now history) ⌝ }
     ensures { λ r. ⌜ r ≡ answeredOf (basisWith (now (run .entry)) (now (history .entry))) p ⌝ }
 {
-    let a = model_points::point_at(
+    let a = model_points::direct_point(
         run,
         history,
         Question {

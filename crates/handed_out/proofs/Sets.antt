@@ -19,7 +19,7 @@ use Rattle.question.specs.Question.{questionCheck}
 use Rattle.enquiry.specs.Enquiry.{valuationCheck}
 use Rattle.question.specs.declared.Question.{Question}
 use Rattle.model_points.specs.declared.PointAnswer.{PointAnswer}
-use Rattle.model_points.specs.Point.{fourOf, resultsOf, pointAnswerOf, pointOf}
+use Rattle.model_points.specs.Point.{fourResultsOf, resultsOf, pointAnswerOf, pointOf}
 use Rattle.small_set.specs.declared.Questions.{Questions}
 use Rattle.small_set.specs.SmallSet.{smallSetOf}
 use Rattle.grid_record.specs.declared.Point.{Point}
@@ -37,10 +37,11 @@ use Rattle.handed_out.proofs.Answers.{expectation-answer, annuity-answe
 
 -- four results came from four values, in their order
 pub record Four (first second third fourth : Outcome ℤ) (results : List ℕ) : Type 0 where
-  pub values : (i : ℤ) × (j : ℤ) × (k : ℤ) × (l : ℤ) × (first ≡ value i) × (second ≡ value j) × (third ≡ value k) × (fourth ≡ value l) × (results ≡ natAbs i ∷ natAbs j ∷ natAbs k ∷ natAbs l ∷ [])
+  pub values : (i : ℤ) × (j : ℤ) × (k : ℤ) × (l : ℤ) × (first ≡ value i) × (second ≡ value j) × (third ≡ value k) × (fourth ≡ value l)
+      × (results ≡ natAbs i ∷ natAbs j ∷ natAbs k ∷ natAbs l ∷ [])
 
-four-came : (first second third fourth : Outcome ℤ) (results : List ℕ) → fourOf first second third fourth ≡ value results → Four first second third fourth results
-unfolding fourOf
+four-came : (first second third fourth : Outcome ℤ) (results : List ℕ) → fourResultsOf first second third fourth ≡ value results → Four first second third fourth results
+unfolding fourResultsOf
 four-came (value i) (value j) (value k) (value l) results h =
     let e : results ≡ natAbs i ∷ natAbs j ∷ natAbs k ∷ natAbs l ∷ [] = cc in
     record { values = (i, j, k, l, refl, refl, refl, refl, e) }
@@ -55,12 +56,15 @@ module _ (run history : List ℕ) (accepted : runAndHistoryCheck run history ≡
     valued : valuationCheck run history age deferment year ≡ passed
     valued = rw (accepted, asked) refl
 
-    expectation-of : (kind : Kind) (e : ℤ) (n : ℕ) → expectationOf (basisWith run history) kind age deferment year ≡ value e → n ≡ natAbs e → ExpectationNear (basisWith run history) kind age deferment year (pos n)
+    expectation-of : (kind : Kind) (e : ℤ) (n : ℕ) → expectationOf (basisWith run history) kind age deferment year ≡ value e → n ≡ natAbs e
+        → ExpectationNear (basisWith run history) kind age deferment year (pos n)
     expectation-of kind e n h g =
         let answer = expectation-asked run history kind age deferment year valued e h in
-        rw (g, size-is e (expectation-answer run history kind age deferment year e answer)) (λ improving. quarters-more (demand-3 run history .expectation kind age deferment year e answer improving) (omega arith))
+        rw (g, size-is e (expectation-answer run history kind age deferment year e answer))
+        (λ improving. quarters-more (demand-3 run history .expectation kind age deferment year e answer improving) (omega arith))
 
-    annuity-of : (kind : Kind) (a : ℤ) (n : ℕ) → annuityOf (basisWith run history) kind age deferment year ≡ value a → n ≡ natAbs a → AnnuityNear (basisWith run history) kind age deferment year (pos n)
+    annuity-of : (kind : Kind) (a : ℤ) (n : ℕ) → annuityOf (basisWith run history) kind age deferment year ≡ value a → n ≡ natAbs a
+        → AnnuityNear (basisWith run history) kind age deferment year (pos n)
     annuity-of kind a n h g =
         let answer = annuity-asked run history kind age deferment year valued a h in
         rw (g, size-is a (annuity-answer run history kind age deferment year a answer)) (annuity-near run history kind age deferment year a answer)
@@ -87,7 +91,8 @@ module _ (run history : List ℕ) (accepted : runAndHistoryCheck run history ≡
       let w = zero-is-none .point (workOn (basisWith run history) q) (numbered-refusals run history .point q .0) answered in
       by (workOn (basisWith run history) q) (w .1) (results-near q (w .0) (w .1))
     where
-      by : (o : Outcome (List ℕ)) {results : List ℕ} → o ≡ value results → ResultsNear (basisWith run history) q results → ResultsNear (basisWith run history) q (pointAnswerOf o .results)
+      by : (o : Outcome (List ℕ)) {results : List ℕ} → o ≡ value results → ResultsNear (basisWith run history) q results
+          → ResultsNear (basisWith run history) q (pointAnswerOf o .results)
       by o e near = rw e near
 
 -- ---- the grid
@@ -118,7 +123,8 @@ module _ (run history : List ℕ) where
   getD-map f (x ∷ l) zero a b h = refl
   getD-map f (x ∷ l) (suc i) a b h = getD-map f l i a b (le-of-suc-le-suc h)
 
-  pub set-near : (questions : Questions) → smallSetOf run history questions .refusal .number ≡ 0 → (i : ℕ) → i < length (questions .points) → (noQuestion : Question) (noAnswer : PointAnswer) →
+  pub set-near : (questions : Questions) → smallSetOf run history questions .refusal .number ≡ 0 → (i : ℕ) → i < length (questions .points)
+      → (noQuestion : Question) (noAnswer : PointAnswer) →
       getD (smallSetOf run history questions .points) i noAnswer .refusal .number ≡ 0 →
       ResultsNear (basisWith run history) (getD (questions .points) i noQuestion) (getD (smallSetOf run history questions .points) i noAnswer .results)
   unfolding smallSetOf

@@ -90,7 +90,8 @@ pub record HandedOut (run history : List ℕ) : Type 0 where
       let p = getD (gridOf run history points) i past in
       p .refusal ≡ 0 → ResultsNear (basisWith run history) (questionOf p) (p .results)
   -- each point of a small set that is not refused
-  pub smallSetPoint : (questions : Questions) → smallSetOf run history questions .refusal .number ≡ 0 → (i : ℕ) → i < length (questions .points) → (noQuestion : Question) (noAnswer : PointAnswer) →
+  pub smallSetPoint : (questions : Questions) → smallSetOf run history questions .refusal .number ≡ 0 → (i : ℕ) → i < length (questions .points) →
+      (noQuestion : Question) (noAnswer : PointAnswer) →
       let a = getD (smallSetOf run history questions .points) i noAnswer in
       a .refusal .number ≡ 0 → ResultsNear (basisWith run history) (getD (questions .points) i noQuestion) (a .results)
   -- a lifeline whose start is not refused, after n steps that have all advanced

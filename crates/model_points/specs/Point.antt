@@ -11,14 +11,14 @@ use Rattle.question.specs.declared.Question.{Question}
 use Rattle.model_points.specs.declared.PointAnswer.{PointAnswer}
 
 -- four results in their order, the first refusal of the four deciding; no result is below zero, so its size is the result itself
-unfoldable pub fourOf : Outcome ℤ → Outcome ℤ → Outcome ℤ → Outcome ℤ → Outcome (List ℕ)
-fourOf first second third fourth =
+unfoldable pub fourResultsOf : Outcome ℤ → Outcome ℤ → Outcome ℤ → Outcome ℤ → Outcome (List ℕ)
+fourResultsOf first second third fourth =
     andThen first (λ i. andThen second (λ j. andThen third (λ k. andThen fourth (λ l. value (natAbs i ∷ natAbs j ∷ natAbs k ∷ natAbs l ∷ [])))))
 
 -- period and cohort expectation, period and cohort annuity
 unfoldable pub resultsOf : Basis → ℕ → ℕ → ℕ → Outcome (List ℕ)
 resultsOf b age deferment year =
-    fourOf
+    fourResultsOf
     (expectationOf b Period age deferment year)
     (expectationOf b Cohort age deferment year)
     (annuityOf b Period age deferment year)

@@ -4,7 +4,7 @@ ghost use Prim.Native.Nat.{_+_, _≤_};
 ghost use Rattle.history.specs.Checked.{Life};
 ghost use Rattle.history.specs.History.{basisWith, Workable};
 ghost use Rattle.outcome.specs.Outcome.{meaning, refused};
-ghost use Rattle.model_points.specs.Point.{fourOf, resultsOf, pointAnswerOf, pointOf};
+ghost use Rattle.model_points.specs.Point.{fourResultsOf, resultsOf, pointAnswerOf, pointOf};
 use outcome::Answer;
 use outcome::Check;
 use outcome::Refusal;
@@ -29,8 +29,8 @@ pub fn refused_point(refusal: Refusal) -> PointAnswer
 }
 
 // The four results in their order: the first refusal of the four decides.
-pub fn four(first: Answer, second: Answer, third: Answer, fourth: Answer) -> PointAnswer
-    ensures { λ r. ⌜ r ≡ pointAnswerOf (fourOf (meaning first) (meaning second) (meaning third) (meaning fourth)) ⌝ }
+pub fn four_results(first: Answer, second: Answer, third: Answer, fourth: Answer) -> PointAnswer
+    ensures { λ r. ⌜ r ≡ pointAnswerOf (fourResultsOf (meaning first) (meaning second) (meaning third) (meaning fourth)) ⌝ }
 {
     match first {
         Answer::Refused(r) => refused_point(r),
@@ -55,11 +55,11 @@ pub fn four(first: Answer, second: Answer, third: Answer, fourth: Answer) -> Poi
 }
 
 // The results of a question that has been checked.
-fn results_at(run: &[u8], history: &[u8], age: u32, deferment: u32, year: u32) -> PointAnswer
+fn direct_results(run: &[u8], history: &[u8], age: u32, deferment: u32, year: u32) -> PointAnswer
     requires { ⌜ Life (now run) (now history) age deferment year ⌝ }
     ensures { λ r. ⌜ r ≡ pointAnswerOf (resultsOf (basisWith (now (run .entry)) (now (history .entry))) age deferment year) ⌝ }
 {
-    four(
+    four_results(
         valuation::expectation::expectation_at(run, history, Kind::Period, age, deferment, year),
         valuation::expectation::expectation_at(run, history, Kind::Cohort, age, deferment, year),
         valuation::annuity::annuity_at(run, history, Kind::Period, age, deferment, year),
@@ -67,12 +67,12 @@ fn results_at(run: &[u8], history: &[u8], age: u32, deferment: u32, year: u32) -
     )
 }
 
-pub fn point_at(run: &[u8], history: &[u8], q: Question) -> PointAnswer
+pub fn direct_point(run: &[u8], history: &[u8], q: Question) -> PointAnswer
     requires { ⌜ Workable (now run) (now history) ⌝ }
     ensures { λ r. ⌜ r ≡ pointOf (basisWith (now (run .entry)) (now (history .entry))) q ⌝ }
 {
     match question::check_question(run, q.age, q.deferment, q.year) {
-        Check::Passed => results_at(run, history, q.age, q.deferment, q.year),
+        Check::Passed => direct_results(run, history, q.age, q.deferment, q.year),
         Check::Refused(r) => refused_point(r),
     }
 }

@@ -7,7 +7,7 @@ ghost use Rattle.layout.specs.Layout.{mpb1, runLength, fileLength};
 ghost use Rattle.history.specs.History.{Workable};
 ghost use Rattle.factor_table.specs.FactorTable.{Tabled};
 ghost use Rattle.io.specs.Counts.{Counts};
-ghost use Rattle.enquiry_lines.specs.Inner.State.{Sound};
+ghost use Rattle.enquiry_lines.specs.State.{Sound};
 use enquiry_lines::Pending;
 use enquiry_lines::lines;
 use enquiry_lines::open_basis;

@@ -120,8 +120,10 @@ numbered-refusals run history =
       improvement = λ age year. checked-by (cell-checked run history (firstYear b) age year) (work-among record-numbers (needed-numbered age year (improvementOf b age year)));
       factor = λ age year. checked-by (cell-checked run history (b .base) age year) (work-among record-numbers (factor-numbered b age year));
       rate = λ age year. checked-by (cell-checked run history (ratedFrom b) age year) (work-among record-numbers (rate-numbered b age year));
-      survivorship = λ kind age deferment year. checked-by (valuation-checked run history age deferment year) (work-among record-numbers (survivors-numbered b kind age deferment year));
-      expectation = λ kind age deferment year. checked-by (valuation-checked run history age deferment year) (work-among record-numbers (expectation-numbered b kind age deferment year));
+      survivorship = λ kind age deferment year. checked-by (valuation-checked run history age deferment year)
+          (work-among record-numbers (survivors-numbered b kind age deferment year));
+      expectation = λ kind age deferment year. checked-by (valuation-checked run history age deferment year)
+          (work-among record-numbers (expectation-numbered b kind age deferment year));
       annuity = λ kind age deferment year. checked-by (valuation-checked run history age deferment year) (work-among record-numbers (annuity-numbered b kind age deferment year));
       smallSet = set-refusal run history;
       grid = λ count. first-by (count-numbered 119 count) (basis-numbered run history);

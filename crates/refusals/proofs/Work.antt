@@ -14,7 +14,7 @@ use Rattle.survivorship.specs.Survivorship.{yearOn, survivorsNext, survivorsAft
 use Rattle.valuation.specs.Valuation.{curtateOf, expectationOf, discountAfter, payment, paymentAfter, annuityOf}
 use Rattle.question.proofs.Numbered.{question-numbered}
 use Rattle.question.specs.declared.Question.{Question}
-use Rattle.model_points.specs.Point.{fourOf, resultsOf}
+use Rattle.model_points.specs.Point.{fourResultsOf, resultsOf}
 use Rattle.refusals.specs.Numbered.{workOn}
 
 module _ (b : Basis) where
@@ -44,9 +44,9 @@ module _ (b : Basis) where
   expectation-numbered kind age deferment year =
       then-by (curtate-numbered kind (age + deferment) (150 - age - deferment) (year + deferment)) (λ t. value-by (pos (U / 2) +ℤ t))
 
-four-numbered : {first second third fourth : Outcome ℤ} → RefusedBy recordNumbers first → RefusedBy recordNumbers second → RefusedBy recordNumbers third → RefusedBy recordNumbers fourth
-    → RefusedBy recordNumbers (fourOf first second third fourth)
-unfolding fourOf
+four-numbered : {first second third fourth : Outcome ℤ} → RefusedBy recordNumbers first → RefusedBy recordNumbers second → RefusedBy recordNumbers third
+    → RefusedBy recordNumbers fourth → RefusedBy recordNumbers (fourResultsOf first second third fourth)
+unfolding fourResultsOf
 four-numbered p q r s = then-by p (λ i. then-by q (λ j. then-by r (λ k. then-by s (λ l. value-by (natAbs i ∷ natAbs j ∷ natAbs k ∷ natAbs l ∷ [])))))
 
 -- a question, and the four results

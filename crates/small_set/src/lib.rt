@@ -28,12 +28,12 @@ fn six(run: &[u8], history: &[u8], questions: [Question; 6]) -> [PointAnswer; 6]
     ensures { λ r. ⌜ r ≡ map (pointOf (basisWith (now (run .entry)) (now (history .entry)))) questions ⌝ }
 {
     [
-        model_points::point_at(run, history, questions[0]),
-        model_points::point_at(run, history, questions[1]),
-        model_points::point_at(run, history, questions[2]),
-        model_points::point_at(run, history, questions[3]),
-        model_points::point_at(run, history, questions[4]),
-        model_points::point_at(run, history, questions[5]),
+        model_points::direct_point(run, history, questions[0]),
+        model_points::direct_point(run, history, questions[1]),
+        model_points::direct_point(run, history, questions[2]),
+        model_points::direct_point(run, history, questions[3]),
+        model_points::direct_point(run, history, questions[4]),
+        model_points::direct_point(run, history, questions[5]),
     ]
 }
 

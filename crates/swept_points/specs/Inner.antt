@@ -1,2 +1,2 @@
 -- How the code goes about it. No promise of the surface rests on these alone.
-pub mod Due
+pub mod DeferredPayment

@@ -3,7 +3,7 @@ use mathlib.Core.Path.{sym}
 use Prim.Native.Nat.{_+_, _*_, _≤_}
 use native.Mathlib.Omega.{arith}
 use lib.Seq.{length-take-le}
-use Rattle.enquiry_lines.specs.Inner.State.{Sound}
+use Rattle.enquiry_lines.specs.State.{Sound}
 use Rattle.enquiry_lines.proofs.State.{held-sound, held-few}
 use borrow.Author.Needs.{needs}
 use Rattle.points.proofs.answer_block.Statement.{statement}
@@ -38,7 +38,8 @@ feed-requires c κs = let s = c .before .before .before .before .before .before 
     (s .pre .0, (search needs, (s .pre .1 .1 .0, search needs)))
 
 -- what a block that is read leaves
-fed : (f : tie.After-feed) → Sound (f .feed .result .pending) × (f .feed .result .pending .complete + 1024 * f .before .before .before .before .before .before .before .before .before .before .before .before .before .before .before .args .blocks ≤ 1024000000000000000)
+fed : (f : tie.After-feed) → let s = f .before .before .before .before .before .before .before .before .before .before .before .before .before .before .before in
+    Sound (f .feed .result .pending) × (f .feed .result .pending .complete + 1024 * s .args .blocks ≤ 1024000000000000000)
 fed f =
     let s = f .before .before .before .before .before .before .before .before .before .before .before .before .before .before .before in
     let e = f .feed .ensures .0 in

@@ -3,7 +3,7 @@ use Prim.Native.Nat.{_+_, _*_, _≤_}
 use mathlib.Core.Path.{_≡_, refl}
 use native.Mathlib.Omega.{arith}
 use lib.ListN.{length}
-use Rattle.enquiry_lines.specs.Inner.State.{Sound}
+use Rattle.enquiry_lines.specs.State.{Sound}
 use Rattle.enquiry_lines.proofs.State.{held-sound, held-complete}
 use borrow.Author.Needs.{needs}
 use Rattle.points.proofs.answer_blocks.Statement.{statement}

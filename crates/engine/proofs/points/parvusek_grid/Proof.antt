@@ -1,5 +1,6 @@
 -- `engine::points::parvusek_grid` meets its contract: a walk of its MIR, by hand. All that it knows of `fill` and `refusal_of` is that each meets its contract.
--- `fill` is called at the list's own lifetime, share and ghost name, so what it says of the last list is said of this one; the borrow is given up for good (`gave-slice`). Assumes nothing.
+-- `fill` is called at the list's own lifetime, share and ghost name, so what it says of the last list is said of this one; the borrow is
+-- given up for good (`gave-slice`). Assumes nothing.
 use mathlib.Core.Path.{_≡_, refl, ap, _∙_}
 use Prim.Native.Nat.{ℕ}
 use mathlib.Core.List.{List, [], _∷_}
@@ -162,7 +163,8 @@ module _ {M : Type 1} (𝓤 : URA M) (H : Heap 𝓤) (A : Atoms 𝓤) (W : Given
         -- [_6; …; _5; …; _4; …; _3; …; _2; …; _1; …; room for _0; …; what is had on entry]
         assigns ! (addr ! (from ! (fld ! refl (hop ! (look-in ! 6 (sub ! 0 refl (whole !))) (stop !))))) (from ! (stop !)) (init ! 2 refl (tt, tt)) $
         assigns ! (agg ! (and-then ! (load ! (from ! (stop !)) (look ! 2 refl))
-        (and-then ! (load ! (from ! (fld ! refl (stop !))) (look-in ! 6 (sub ! 1 refl (whole !)))) (no-more !)))) (from ! (stop !)) (init ! 0 refl (tt, (tt, (record { fits = room .0 }, tt)))) $
+        (and-then ! (load ! (from ! (fld ! refl (stop !))) (look-in ! 6 (sub ! 1 refl (whole !)))) (no-more !)))) (from ! (stop !))
+        (init ! 0 refl (tt, (tt, (record { fits = room .0 }, tt)))) $
         -- `fill`
         move ! (14 ∷ []) $ use1 W (raw (Fill 𝓤 H A mem run .pre to-fill) ⊛ Owned) goes-fill $ split ! $
         calls-at ! fm (Fill 𝓤 H A mem run) known-fill to-fill (and-then ! (load ! (from ! (stop !)) (look ! 12 refl)) (and-then ! (load ! (from ! (stop !)) (look ! 10 refl))
@@ -174,14 +176,17 @@ module _ {M : Type 1} (𝓤 : URA M) (H : Heap 𝓤) (A : Atoms 𝓤) (W : Given
         split ! $ move ! (1 ∷ []) $ split ! $ heard ! (finding c ≡ gridCheck (now s₀) (now s₁) (length xs)) (λ e. heard ! (zs .1 .1 .0 ≡ gridOf (now s₀) (now s₁) xs) (λ f.
         fsplit ! $ drop ! $ fsplit ! $ drop ! $ fsplit ! $ fsplit ! $ move ! (1 ∷ []) $ feqL ! (λ same. move ! (1 ∷ []) $ drop ! $ move ! (1 ∷ []) $ split ! $ move ! (1 ∷ []) $
         -- [what the check owns; the tokens; the last list; what the slices own; _6; …]
-        peeks ! K.the-row (Is K.the-row) (shows 𝓤 H A K.the-row) c (w ∷ []) (λ isc. land ! (from ! (stop !)) (init ! 8 refl (EL.lawful K.the-type K′.the-laws 𝓤 H A W tt .typed c _ isc .0)) $
+        peeks ! K.the-row (Is K.the-row) (shows 𝓤 H A K.the-row) c (w ∷ []) (λ isc. land ! (from ! (stop !))
+        (init ! 8 refl (EL.lawful K.the-type K′.the-laws 𝓤 H A W tt .typed c _ isc .0)) $
         -- `refusal_of`
         use1 W (raw (RefusalOf 𝓤 H A mem run .pre (to-refusal c w))) (goes-refusal c w) $
         calls-at ! fm (RefusalOf 𝓤 H A mem run) known-refusal (to-refusal c w) (and-then ! (load ! (from ! (stop !)) (look ! 8 refl)) (no-more !)) (λ t.
-        use1 W (later (some (λ (r : Refusal). (‵ ftrue ⊛ ‵ (F.the-row .own r (t ∷ []))) ⊛ raw (ensured 𝓤 H A refusal-of.ended (refusal-of.clauses 𝓤 H A mem run) tt (c, tt) tt r)))) (id⊢ 𝓤 _) $
+        use1 W (later (some (λ (r : Refusal). (‵ ftrue ⊛ ‵ (F.the-row .own r (t ∷ [])))
+        ⊛ raw (ensured 𝓤 H A refusal-of.ended (refusal-of.clauses 𝓤 H A mem run) tt (c, tt) tt r)))) (id⊢ 𝓤 _) $
         await ! tt $ pick ! (λ r.
         split ! $ move ! (1 ∷ []) $ use1 W (raw (fact 𝓤 (r ≡ refusalOf (finding c)))) (refusal-said c r) $ heard ! (r ≡ refusalOf (finding c)) (λ g. split ! $ drop ! $
-        peeks ! F.the-row (Is F.the-row) (shows 𝓤 H A F.the-row) r (t ∷ []) (λ isr. land ! (from ! (stop !)) (init ! 16 refl (LL.lawful F.the-type F′.the-laws 𝓤 H A W .typed r _ isr .0)) $
+        peeks ! F.the-row (Is F.the-row) (shows 𝓤 H A F.the-row) r (t ∷ []) (λ isr. land ! (from ! (stop !))
+        (init ! 16 refl (LL.lawful F.the-type F′.the-laws 𝓤 H A W .typed r _ isr .0)) $
         returns ! (look ! 16 refl) $ forget ! 4 refl $ forget ! 6 refl $ forget ! 8 refl $ forget ! 10 refl $ forget ! 12 refl $ forget ! 14 refl $ forget ! 16 refl $
         move ! (16 ∷ 17 ∷ []) $ free1 ! $ move ! (14 ∷ 15 ∷ []) $ free1 ! $ move ! (12 ∷ 13 ∷ []) $ free1 ! $ move ! (10 ∷ 11 ∷ []) $ free1 ! $ move ! (8 ∷ 9 ∷ []) $ free1 ! $
         move ! (6 ∷ 7 ∷ []) $ free1 ! $ move ! (4 ∷ 5 ∷ []) $ free1 ! $ free0 ! $
@@ -216,4 +221,5 @@ parvusek-grid-spec 𝓤 H 𝓜 𝓖 𝓡 =
     (tables 𝓤 H 𝓜 𝓡 code.env .C) (tables 𝓤 H 𝓜 𝓡 code.env .Λ) #engine·points·parvusek-grid code.function (code.unfolded 𝓤 H 𝓜 𝓡)
     (grid-meets 𝓤 H (𝓖 .A) (givenOf 𝓤 H 𝓜 𝓖) (𝓜 .mem) (𝓡 .run) (tablesOf 𝓤 H 𝓜 (tables 𝓤 H 𝓜 𝓡 code.env))
     (cited 𝓤 H (Fill 𝓤 H (𝓖 .A) (𝓜 .mem) (𝓡 .run)) 𝓜 𝓡 code.env #grid·fill fill-def.routine code.calls-grid·fill (fill-thm.met 𝓤 H 𝓜 𝓖 𝓡))
-    (cited 𝓤 H (RefusalOf 𝓤 H (𝓖 .A) (𝓜 .mem) (𝓡 .run)) 𝓜 𝓡 code.env #engine·answers·refusal-of refusal-of-def.routine code.calls-engine·answers·refusal-of (refusal-of-thm.met 𝓤 H 𝓜 𝓖 𝓡)))
+    (cited 𝓤 H (RefusalOf 𝓤 H (𝓖 .A) (𝓜 .mem) (𝓡 .run)) 𝓜 𝓡 code.env #engine·answers·refusal-of refusal-of-def.routine
+    code.calls-engine·answers·refusal-of (refusal-of-thm.met 𝓤 H 𝓜 𝓖 𝓡)))

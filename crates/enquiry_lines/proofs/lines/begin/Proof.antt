@@ -1,6 +1,6 @@
 -- Nothing is kept, sixteen zeros stand behind it, and no line is complete.
 use mathlib.Core.Path.{refl}
-use Rattle.enquiry_lines.specs.Inner.State.{pendingOf}
+use Rattle.enquiry_lines.specs.State.{pendingOf}
 use Rattle.enquiry_lines.proofs.lines.begin.Statement.{statement}
 use Rattle.enquiry_lines.proofs.lines.begin.Tie as tie
 

@@ -8,7 +8,7 @@ use lib.Seq.{length-take-le}
 use Rattle.history.specs.History.{basisWith}
 use Rattle.enquiry_lines.specs.declared.Pending.{Pending}
 use Rattle.enquiry_lines.specs.Lines.{unfinished}
-use Rattle.enquiry_lines.specs.Inner.State.{kept}
+use Rattle.enquiry_lines.specs.State.{kept}
 use Rattle.enquiry_lines.proofs.Parting.{ended-few}
 use Rattle.enquiry_lines.proofs.SoFar.{SoFar, begins, byte-turns, ends, line-ends, line-grows, line-full, put-ended, put-none}
 use Rattle.enquiry_lines.proofs.State.{sound-empty, sound-grows, pending-is}
@@ -92,7 +92,8 @@ loop-again-2 c = let e = c .before in
     let b = basisWith (s .run .now) (s .history .now) in
     let held = heldAt l in
     let h = l .loop .inv in
-    let none = put-none b _ (kept held) _ (l .loop .out) (l .loop .at) (e .if1 .left) (omega (arith, h .most, h .within, h .put .same, l .before .before .before .before .before .before .before .pre .1 .0)) in
+    let none = put-none b _ (kept held) _ (l .loop .out) (l .loop .at) (e .if1 .left)
+    (omega (arith, h .most, h .within, h .put .same, l .before .before .before .before .before .before .before .pre .1 .0)) in
     byte-turns b (s .part .now) (s .out .now) (s .from) (s .s) (l .loop .out) held (l .loop .at) (l .loop .i) h (e .before .before .loop-test .taken)
     (l .loop .out) held (l .loop .at) (line-full held _ (h .sound) (e .if1 .left) (c .if2 .taken)) none (omega arith) (h .sound)
 
@@ -113,7 +114,8 @@ loop-again-3 c = let e = c .before in
     let held = heldAt l in
     let h = l .loop .inv in
     let k : l .loop .len < 16 = omega (arith, c .if2 .left) in
-    let none = put-none b _ (kept held) _ (l .loop .out) (l .loop .at) (e .if1 .left) (omega (arith, h .most, h .within, h .put .same, l .before .before .before .before .before .before .before .pre .1 .0)) in
+    let none = put-none b _ (kept held) _ (l .loop .out) (l .loop .at) (e .if1 .left)
+    (omega (arith, h .most, h .within, h .put .same, l .before .before .before .before .before .before .before .pre .1 .0)) in
     byte-turns b (s .part .now) (s .out .now) (s .from) (s .s) (l .loop .out) held (l .loop .at) (l .loop .i) h (e .before .before .loop-test .taken)
     (l .loop .out) _ (l .loop .at) (line-grows held _ (h .sound) (e .if1 .left) k) none (omega arith) (sound-grows held _ (h .sound) k)
 

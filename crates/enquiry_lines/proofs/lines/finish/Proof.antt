@@ -7,7 +7,7 @@ use lib.Seq.{length-take-le}
 use borrow.Author.Tests.{eq-eqb, ne-eqb}
 use Rattle.history.specs.History.{basisWith}
 use Rattle.reply_text.proofs.Puts.{nothing}
-use Rattle.enquiry_lines.specs.Inner.State.{kept}
+use Rattle.enquiry_lines.specs.State.{kept}
 use Rattle.enquiry_lines.proofs.Parting.{no-replies, reply-alone}
 use borrow.Author.Needs.{needs}
 use Rattle.enquiry_lines.proofs.lines.finish.Statement.{statement}

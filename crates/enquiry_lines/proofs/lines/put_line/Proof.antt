@@ -13,8 +13,8 @@ parse-line-requires c κs = search needs
 enum-known-q : tie.Need-enum-known-q
 enum-known-q c = search needs
 
-point-at-requires : tie.Need-point-at-requires
-point-at-requires c κs = search needs
+swept-point-requires : tie.Need-swept-point-requires
+swept-point-requires c κs = search needs
 
 put-reply-requires : tie.Need-put-reply-requires
 put-reply-requires c κs = search needs
@@ -34,7 +34,7 @@ returns c = let q = c .before .before .before .before .before .before in
     let s = read .before .before .before .before .before .before .args in
     let asked = sym (read .parse-line .ensures (s .number)) ∙ ap (lineMeaning (s .number)) (q .q .given .1) in
     let e = ap (replyTo (basisWith (s .run .now) (s .history .now))) asked in
-    rw (e, ← c .before .before .before .before .point-at .ensures) (c .before .before .put-reply .ensures)
+    rw (e, ← c .before .before .before .before .swept-point .ensures) (c .before .before .put-reply .ensures)
 
 same-length-2 : tie.Need-same-length-2
 same-length-2 c = search needs
@@ -53,7 +53,7 @@ put-line-spec =
     (tie.spec
     parse-line-requires
     enum-known-q
-    point-at-requires
+    swept-point-requires
     put-reply-requires
     enum-told
     put-refusal-requires

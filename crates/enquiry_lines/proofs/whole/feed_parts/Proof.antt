@@ -1,5 +1,5 @@
 -- What is fed so far is the text's first i bytes, whatever the parts are; the last part is the rest.
-use mathlib.Core.List.{[]}
+use mathlib.Core.List.{List, []}
 use mathlib.Core.Path.{_≡_, refl, _∙_}
 use Prim.Native.Nat.{ℕ, _+_, _*_, _-_, _≤_, _<_}
 use native.Mathlib.Omega.{arith}
@@ -29,24 +29,28 @@ loop-holds c = let s = c .before .before .before .before .before .before .before
     rw (c .begin .ensures ∙ nothing-read)
     (begins (basisWith (s .args .run .now) (s .args .history .now)) (s .args .text .now) (s .args .out .now) (s .args .from) nothingRead (sound-empty 0) (omega arith))
 
+-- the text that is fed in parts
+abbrev fed-text : tie.At-loop Inv-loop μ-loop → List ℕ
+fed-text l = l .before .before .before .before .before .before .before .before .args .text .now
+
 -- a line is complete for each byte at the most
 counted : (l : tie.At-loop Inv-loop μ-loop) → l .loop .pending .complete ≤ l .loop .i
 counted l =
-    let text = l .before .before .before .before .before .before .before .before .args .text .now in
+    let text = fed-text l in
     omega (arith, l .loop .inv .left .complete, ended-few [] (take (l .loop .i) text), length-take-le (l .loop .i) text (l .loop .inv .within))
 
 -- the next n bytes: how many they are, that their replies fit, and that their lines can be counted
-module _ (l : tie.At-loop Inv-loop μ-loop) (n m : ℕ) (e : m ≡ n) (le : l .loop .i + n ≤ length (l .before .before .before .before .before .before .before .before .args .text .now)) where
-  size : length (take m (drop (l .loop .i) (l .before .before .before .before .before .before .before .before .args .text .now))) ≡ n
+module _ (l : tie.At-loop Inv-loop μ-loop) (n m : ℕ) (e : m ≡ n) (le : l .loop .i + n ≤ length (fed-text l)) where
+  size : length (take m (drop (l .loop .i) (fed-text l))) ≡ n
   size =
       let s = l .before .before .before .before .before .before .before .before .args in
       part-length (basisWith (s .run .now) (s .history .now)) (s .text .now) (s .out .now) (s .from) nothingRead
       (l .loop .out) (l .loop .pending) (l .loop .at) (l .loop .i) (l .loop .inv) n m e le
 
-  fits : l .loop .at + 192 * length (take m (drop (l .loop .i) (l .before .before .before .before .before .before .before .before .args .text .now))) ≤ length (l .loop .out)
+  fits : l .loop .at + 192 * length (take m (drop (l .loop .i) (fed-text l))) ≤ length (l .loop .out)
   fits = omega (arith, size, l .loop .inv .most, l .loop .inv .put .same, l .before .before .before .before .before .before .before .before .pre .1 .0)
 
-  countable : l .loop .pending .complete + length (take m (drop (l .loop .i) (l .before .before .before .before .before .before .before .before .args .text .now))) < 18446744073709551616
+  countable : l .loop .pending .complete + length (take m (drop (l .loop .i) (fed-text l))) < 18446744073709551616
   countable = omega (arith, size, counted l, l .before .before .before .before .before .before .before .before .pre .1 .1 .0)
 
 mul-least : tie.Need-mul-least Inv-loop μ-loop
@@ -76,12 +80,13 @@ part-feed-end c = search needs
 feed-requires : tie.Need-feed-requires Inv-loop μ-loop
 feed-requires c κs = let l = c .before .before .before .before .before in
     let n = c .before .before .least .result in
-    let le : l .loop .i + n ≤ length (l .before .before .before .before .before .before .before .before .args .text .now) = omega (arith, l .loop .inv .within, c .before .before .least .ensures .1) in
+    let le : l .loop .i + n ≤ length (fed-text l) = omega (arith, l .loop .inv .within, c .before .before .least .ensures .1) in
     let m : l .loop .i + n - l .loop .i ≡ n = omega arith in
     (l .before .before .before .before .before .before .before .before .pre .0, (fits l n _ m le, (l .loop .inv .sound, countable l n _ m le)))
 
 add-k : tie.Need-add-k Inv-loop μ-loop
-add-k c = omega (arith, c .before .before .before .before .before .before .before .before .loop-test .taken, c .before .before .before .before .before .before .before .before .before .before .before .before .before .before .before .before .before .pre .1 .1 .1)
+add-k c = let test = c .before .before .before .before .before .before .before .before in
+    omega (arith, test .loop-test .taken, test .before .before .before .before .before .before .before .before .before .pre .1 .1 .1)
 
 loop-less : tie.Need-loop-less Inv-loop μ-loop
 loop-less c = search needs
@@ -92,7 +97,7 @@ loop-again c = let f = c .before .before .before in
     let s = l .before .before .before .before .before .before .before .before .args in
     let n = f .before .before .before .least .result in
     let m : l .loop .i + n - l .loop .i ≡ n = omega arith in
-    let le : l .loop .i + n ≤ length (l .before .before .before .before .before .before .before .before .args .text .now) = omega (arith, l .loop .inv .within, f .before .before .before .least .ensures .1) in
+    let le : l .loop .i + n ≤ length (fed-text l) = omega (arith, l .loop .inv .within, f .before .before .before .least .ensures .1) in
     part-turns (basisWith (s .run .now) (s .history .now)) (s .text .now) (s .out .now) (s .from) nothingRead
     (l .loop .out) (l .loop .pending) (l .loop .at) (l .loop .i) (l .loop .inv) n _ m le
     (f .feed .last .1 .1 .1 .1 .1 .0) (f .feed .result .pending) (f .feed .result .at) (f .feed .ensures .0) (f .feed .ensures .1 .0) (f .feed .ensures .1 .1)
@@ -108,7 +113,7 @@ part-feed-end-2 c = search needs
 
 feed-requires-2 : tie.Need-feed-requires-2 Inv-loop μ-loop
 feed-requires-2 c κs = let l = c .before .before .before in
-    let le : l .loop .i + (length (l .before .before .before .before .before .before .before .before .args .text .now) - l .loop .i) ≤ length (l .before .before .before .before .before .before .before .before .args .text .now) = omega (arith, l .loop .inv .within) in
+    let le : l .loop .i + (length (fed-text l) - l .loop .i) ≤ length (fed-text l) = omega (arith, l .loop .inv .within) in
     (l .before .before .before .before .before .before .before .before .pre .0, (fits l _ _ refl le, (l .loop .inv .sound, countable l _ _ refl le)))
 
 -- all of the text
@@ -118,7 +123,7 @@ whole : (f : tie.After-feed2 Inv-loop μ-loop) → let l = f .before .before .be
 whole f =
     let l = f .before .before .before .before in
     let s = l .before .before .before .before .before .before .before .before .args in
-    let le : l .loop .i + (length (l .before .before .before .before .before .before .before .before .args .text .now) - l .loop .i) ≤ length (l .before .before .before .before .before .before .before .before .args .text .now) = omega (arith, l .loop .inv .within) in
+    let le : l .loop .i + (length (fed-text l) - l .loop .i) ≤ length (fed-text l) = omega (arith, l .loop .inv .within) in
     part-turns (basisWith (s .run .now) (s .history .now)) (s .text .now) (s .out .now) (s .from) nothingRead
     (l .loop .out) (l .loop .pending) (l .loop .at) (l .loop .i) (l .loop .inv) _ _ refl le
     (f .feed2 .last .1 .1 .1 .1 .1 .0) (f .feed2 .result .pending) (f .feed2 .result .at) (f .feed2 .ensures .0) (f .feed2 .ensures .1 .0) (f .feed2 .ensures .1 .1)

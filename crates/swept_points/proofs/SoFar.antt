@@ -1,4 +1,4 @@
--- A life's passage through the years: what its loop knows after some of them, and what it answers from that. Assumes nothing.
+-- The values of a life: what their loop knows after some years, and what it answers from that. Assumes nothing.
 use mathlib.Core.Path.{_≡_, _∙_, ap, sym, refl}
 use Prim.Native.Nat.{ℕ, suc, _+_, _*_, _-_, _≤_, _<_}
 use native.Mathlib.Omega.{arith}
@@ -16,31 +16,31 @@ use Rattle.survivorship.proofs.Survivors.{survivors-next, survivors-refused}
 use Rattle.valuation.specs.Valuation.{discountAfter, payment, paymentAfter, expectationOf, annuityOf}
 use Rattle.valuation.proofs.Lives.{Living, living-first, living-next, lived-refused, lived-last}
 use Rattle.valuation.proofs.Payments.{payment-value, paid-refused, refused-before, paid-last}
-use Rattle.swept_points.specs.Inner.Due.{dueAfter}
+use Rattle.swept_points.specs.Inner.DeferredPayment.{deferredPayment}
 
--- ---- what is due in a year
-pub due-none : (b : Basis) (from j : ℕ) (s : ℤ) → j < from → pos 0 ≡ dueAfter b from j s
-unfolding dueAfter
-due-none b from j s l = rw (lt-ltb j from l) refl
+-- ---- the payment of a year
+pub payment-not-yet : (b : Basis) (from j : ℕ) (s : ℤ) → j < from → pos 0 ≡ deferredPayment b from j s
+unfolding deferredPayment
+payment-not-yet b from j s l = rw (lt-ltb j from l) refl
 
-pub due-paid : (b : Basis) (from j : ℕ) (s : ℤ) → from ≤ j → payment (discountAfter b j) s ≡ dueAfter b from j s
-unfolding dueAfter
-due-paid b from j s l = rw (le-ltb j from l) refl
+pub payment-made : (b : Basis) (from j : ℕ) (s : ℤ) → from ≤ j → payment (discountAfter b j) s ≡ deferredPayment b from j s
+unfolding deferredPayment
+payment-made b from j s l = rw (le-ltb j from l) refl
 
--- ---- the passage
+-- ---- all years
 module _ (b : Basis) (kind : Kind) (age from year : ℕ) where
   -- the first n payments come to a total
   abbrev Made : ℕ → ℕ → Type 0
   Made n total = sumOf (λ k. paymentAfter b kind age (from + k) year) n ≡ value (pos total)
 
-  -- with what is due after j years
-  made-next : (j total s p : ℕ) → Made (j - from) total → survivorsOf b kind age j year ≡ value (pos s) → pos p ≡ dueAfter b from j (pos s) → Made (suc j - from) (total + p)
+  -- with the payment after j years
+  made-next : (j total s p : ℕ) → Made (j - from) total → survivorsOf b kind age j year ≡ value (pos s) → pos p ≡ deferredPayment b from j (pos s) → Made (suc j - from) (total + p)
   made-next j total s p m h d = by (decLt j from)
     where
       by : Dec (j < from) → Made (suc j - from) (total + p)
       by (yes l) =
           let e : suc j - from ≡ j - from = omega arith in
-          let z : pos p ≡ pos 0 = d ∙ sym (due-none b from j (pos s) l) in
+          let z : pos p ≡ pos 0 = d ∙ sym (payment-not-yet b from j (pos s) l) in
           let q : p ≡ 0 = cc in
           let f : total + p ≡ total = omega arith in
           rw (e, f) m
@@ -48,20 +48,20 @@ module _ (b : Basis) (kind : Kind) (age from year : ℕ) where
           let e : suc j - from ≡ suc (j - from) = omega arith in
           let f : from + (j - from) ≡ j = omega arith in
           let paid = payment-value b kind age from year j (pos s) (discountAfter b j) h refl in
-          let due = d ∙ sym (due-paid b from j (pos s) (omega arith)) in
+          let last = d ∙ sym (payment-made b from j (pos s) (omega arith)) in
           rw e
           (sum-next (λ k. paymentAfter b kind age (from + k) year) (j - from) (pos total) (pos p) m
-          (ap (λ j. paymentAfter b kind age j year) f ∙ paid ∙ ap value (sym due)))
+          (ap (λ j. paymentAfter b kind age j year) f ∙ paid ∙ ap value (sym last)))
 
 -- the survivors after j years, their sum, and the payments so far
-pub record Passing (b : Basis) (kind : Kind) (age from year j s lives payments : ℕ) : Type 0 where
+pub record SoFar (b : Basis) (kind : Kind) (age from year j s lives payments : ℕ) : Type 0 where
   pub living : Living b kind age year j s lives
   pub sum : payments ≤ 4 * U * (j + 1)
   pub made : Made b kind age from year (suc j - from) payments
 
 module _ (b : Basis) (kind : Kind) (age from year : ℕ) where
-  pub passing-first : (p : ℕ) → (pos p ≡ dueAfter b from 0 (pos U)) × (p ≤ 4 * U) → Passing b kind age from year 0 U 0 p
-  passing-first p d =
+  pub so-far-first : (p : ℕ) → (pos p ≡ deferredPayment b from 0 (pos U)) × (p ≤ 4 * U) → SoFar b kind age from year 0 U 0 p
+  so-far-first p d =
       let living = living-first b kind age year in
       let z : 0 - from ≡ 0 = omega arith in
       let e : 0 + p ≡ p = omega arith in
@@ -71,10 +71,10 @@ module _ (b : Basis) (kind : Kind) (age from year : ℕ) where
         made = rw e at (made-next b kind age from year 0 0 U p (rw z (sum-none _)) (living .survivors) (d .0));
       }
 
-  pub passing-next : (j s lives payments x p : ℕ) {at : ℕ} → Passing b kind age from year j s lives payments → at ≡ yearOn kind j year
+  pub so-far-next : (j s lives payments x p : ℕ) {at : ℕ} → SoFar b kind age from year j s lives payments → at ≡ yearOn kind j year
       → value (pos x) ≡ survivorsAfterYear b (age + j) at (pos s) →
-      (pos p ≡ dueAfter b from (j + 1) (pos x)) × (p ≤ 4 * U) → Passing b kind age from year (j + 1) x (lives + x) (payments + p)
-  passing-next j s lives payments x p i e g d =
+      (pos p ≡ deferredPayment b from (j + 1) (pos x)) × (p ≤ 4 * U) → SoFar b kind age from year (j + 1) x (lives + x) (payments + p)
+  so-far-next j s lives payments x p i e g d =
       let living = living-next b kind age year j s lives x (i .living) e g in
       let f : suc j ≡ j + 1 = omega arith in
       record {
@@ -84,7 +84,7 @@ module _ (b : Basis) (kind : Kind) (age from year : ℕ) where
       }
 
   -- a rate that is refused refuses both sums
-  module _ (j s lives payments : ℕ) (r : Refusal) {at : ℕ} (i : Passing b kind age from year j s lives payments) (l : j < 150 - age) (e : at ≡ yearOn kind j year)
+  module _ (j s lives payments : ℕ) (r : Refusal) {at : ℕ} (i : SoFar b kind age from year j s lives payments) (l : j < 150 - age) (e : at ≡ yearOn kind j year)
       (g : refused r ≡ survivorsAfterYear b (age + j) at (pos s)) where
     after : survivorsOf b kind age (suc j) year ≡ refused r
     after = survivors-next b kind age j year (pos s) (refused r) e (i .living .survivors) g
@@ -102,11 +102,11 @@ module _ (b : Basis) (kind : Kind) (age from year : ℕ) where
             paid-refused b kind age from year j (pos payments) r (omega arith) l (rw f at (i .made)) after
 
   -- at age 150 both sums are whole
-  pub expectation-last : (j s lives payments : ℕ) → j ≡ 150 - age → Passing b kind age from year j s lives payments
+  pub expectation-last : (j s lives payments : ℕ) → j ≡ 150 - age → SoFar b kind age from year j s lives payments
       → value (pos (500_000_000 + lives)) ≡ expectationOf b kind age 0 year
   expectation-last j s lives payments e i = lived-last b kind age 0 year j s lives (omega arith) (omega arith) (omega arith) (i .living)
 
-  pub annuity-last : (j s lives payments : ℕ) → j ≡ 150 - age → from ≤ 150 - age → Passing b kind age from year j s lives payments
+  pub annuity-last : (j s lives payments : ℕ) → j ≡ 150 - age → from ≤ 150 - age → SoFar b kind age from year j s lives payments
       → value (pos payments) ≡ annuityOf b kind age from year
   annuity-last j s lives payments e m i =
       let f : suc j - from ≡ suc (j - from) = omega arith in

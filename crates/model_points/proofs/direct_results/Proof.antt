@@ -1,8 +1,8 @@
 -- The four answers stand for the four results of the definition, in its order.
 use borrow.Author.Needs.{needs}
 use Rattle.model_points.specs.Point.{resultsOf}
-use Rattle.model_points.proofs.results_at.Statement.{statement}
-use Rattle.model_points.proofs.results_at.Tie as tie
+use Rattle.model_points.proofs.direct_results.Statement.{statement}
+use Rattle.model_points.proofs.direct_results.Tie as tie
 
 expectation-at-requires : tie.Need-expectation-at-requires
 expectation-at-requires c κs = search needs
@@ -16,8 +16,8 @@ annuity-at-requires c κs = search needs
 annuity-at-requires-2 : tie.Need-annuity-at-requires-2
 annuity-at-requires-2 c κs = search needs
 
-four-requires : tie.Need-four-requires
-four-requires c κs = search needs
+four-results-requires : tie.Need-four-results-requires
+four-results-requires c κs = search needs
 
 returns : tie.Need-returns
 unfolding resultsOf
@@ -25,15 +25,15 @@ returns c =
     let cohort = c .before in
     let period = cohort .before in
     let ages = period .before in
-    simp (c .four .ensures, ages .before .expectation-at .ensures, ages .expectation-at2 .ensures, period .annuity-at .ensures, cohort .annuity-at2 .ensures)
+    simp (c .four-results .ensures, ages .before .expectation-at .ensures, ages .expectation-at2 .ensures, period .annuity-at .ensures, cohort .annuity-at2 .ensures)
 
-pub results-at-spec : {M : Type 1} → statement M
-results-at-spec =
+pub direct-results-spec : {M : Type 1} → statement M
+direct-results-spec =
     tie.close
     (tie.spec
     expectation-at-requires
     expectation-at-requires-2
     annuity-at-requires
     annuity-at-requires-2
-    four-requires
+    four-results-requires
     returns)

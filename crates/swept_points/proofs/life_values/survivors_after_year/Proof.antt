@@ -7,8 +7,8 @@ use Rattle.history.specs.History.{basisWith}
 use Rattle.projection.specs.Projection.{rateOf}
 use Rattle.projection.proofs.Years.{factor-bounded, rate-by-factor, rate-bounded}
 use Rattle.survivorship.proofs.Survivors.{survivors-by-rate}
-use Rattle.swept_points.proofs.passage.survivors_after_year.Statement.{statement}
-use Rattle.swept_points.proofs.passage.survivors_after_year.Tie as tie
+use Rattle.swept_points.proofs.life_values.survivors_after_year.Statement.{statement}
+use Rattle.swept_points.proofs.life_values.survivors_after_year.Tie as tie
 
 factor-requires : tie.Need-factor-requires
 factor-requires c κs = search needs

@@ -7,5 +7,5 @@ use Rattle.basis.specs.Basis.{Basis}
 use Rattle.valuation.specs.Valuation.{discountAfter, payment}
 
 -- nothing before the deferment's end, then the payment
-unfoldable pub dueAfter : Basis → ℕ → ℕ → ℤ → ℤ
-dueAfter b deferment j s = cond (ltb j deferment) (pos 0) (payment (discountAfter b j) s)
+unfoldable pub deferredPayment : Basis → ℕ → ℕ → ℤ → ℤ
+deferredPayment b deferment j s = cond (ltb j deferment) (pos 0) (payment (discountAfter b j) s)

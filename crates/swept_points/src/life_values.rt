@@ -1,4 +1,4 @@
-// One walk along the rates of a life, which serves expectation and annuity.
+// The values of a life: one loop along its rates gives expectation and annuity.
 ghost use mathlib.Core.Path.{_≡_};
 ghost use Prim.Native.Nat.{_+_, _≤_};
 ghost use lib.IntN.{pos};
@@ -8,8 +8,8 @@ ghost use Rattle.history.specs.History.{basisWith, Workable};
 ghost use Rattle.survivorship.specs.Survivorship.{survivorsAfterYear};
 ghost use Rattle.valuation.specs.Valuation.{expectationOf, annuityOf};
 ghost use Rattle.factor_table.specs.FactorTable.{FactorTable};
-ghost use Rattle.swept_points.specs.Passage.{expectationIn, annuityIn};
-ghost use Rattle.swept_points.specs.Inner.Due.{dueAfter};
+ghost use Rattle.swept_points.specs.LifeValues.{lifeExpectation, lifeAnnuity};
+ghost use Rattle.swept_points.specs.Inner.DeferredPayment.{deferredPayment};
 use arithmetic::HALF_UNIT;
 use arithmetic::UNIT;
 use outcome::Answer;
@@ -17,7 +17,7 @@ use outcome::Refusal;
 use survivorship::Kind;
 
 // The expectation from the age itself, and the annuity; or the first refusal, which is that of both.
-pub enum Passage {
+pub enum LifeValues {
     Values(u64, u64),
     Refused(Refusal),
 }
@@ -39,9 +39,16 @@ fn survivors_after_year(
 }
 
 // The payment after j years to the survivors: none before the deferment's end.
-fn due(run: &[u8], history: &[u8], table: &[u32], deferment: u32, j: u32, s: u64) -> u64
+fn deferred_payment(
+    run: &[u8],
+    history: &[u8],
+    table: &[u32],
+    deferment: u32,
+    j: u32,
+    s: u64,
+) -> u64
     requires { ⌜ Workable (now run) (now history) × FactorTable (basisWith (now run) (now history)) (now table) × (j ≤ 130) × (s ≤ 1_000_000_000) ⌝ }
-    ensures { λ r. ⌜ (pos r ≡ dueAfter (basisWith (now (run .entry)) (now (history .entry))) deferment j (pos s)) × (r ≤ 4_000_000_000) ⌝ }
+    ensures { λ r. ⌜ (pos r ≡ deferredPayment (basisWith (now (run .entry)) (now (history .entry))) deferment j (pos s)) × (r ≤ 4_000_000_000) ⌝ }
 {
     if j < deferment {
         return 0;
@@ -50,7 +57,7 @@ fn due(run: &[u8], history: &[u8], table: &[u32], deferment: u32, j: u32, s: u64
 }
 
 // From an age in a year to age 150, with an annuity whose payments begin after a deferment.
-pub fn passage_from(
+pub fn life_values_from(
     run: &[u8],
     history: &[u8],
     table: &[u32],
@@ -58,17 +65,17 @@ pub fn passage_from(
     age: u32,
     deferment: u32,
     year: u32,
-) -> Passage
+) -> LifeValues
     requires { ⌜ Workable (now run) (now history) × FactorTable (basisWith (now run) (now history)) (now table) × (20 ≤ age) × (age + deferment ≤ 150)
         × (basisWith (now run) (now history) .base ≤ year) × (year ≤ 2260) ⌝ }
-    ensures { λ r. ⌜ expectationIn r ≡ expectationOf (basisWith (now (run .entry)) (now (history .entry))) kind age 0 year ⌝ }
-    ensures { λ r. ⌜ annuityIn r ≡ annuityOf (basisWith (now (run .entry)) (now (history .entry))) kind age deferment year ⌝ }
+    ensures { λ r. ⌜ lifeExpectation r ≡ expectationOf (basisWith (now (run .entry)) (now (history .entry))) kind age 0 year ⌝ }
+    ensures { λ r. ⌜ lifeAnnuity r ≡ annuityOf (basisWith (now (run .entry)) (now (history .entry))) kind age deferment year ⌝ }
 {
     let last = 150 - age;
     let mut s: u64 = UNIT;
     let mut j: u32 = 0;
     let mut lives: u64 = 0;
-    let mut payments = due(run, history, table, deferment, 0, UNIT);
+    let mut payments = deferred_payment(run, history, table, deferment, 0, UNIT);
     while j < last {
         match survivors_after_year(
             run,
@@ -81,11 +88,11 @@ pub fn passage_from(
             Answer::Value(x) => {
                 s = x;
             }
-            Answer::Refused(r) => return Passage::Refused(r),
+            Answer::Refused(r) => return LifeValues::Refused(r),
         }
         j += 1;
         lives += s;
-        payments += due(run, history, table, deferment, j, s);
+        payments += deferred_payment(run, history, table, deferment, j, s);
     }
-    Passage::Values(HALF_UNIT + lives, payments)
+    LifeValues::Values(HALF_UNIT + lives, payments)
 }

@@ -7,14 +7,14 @@ use Rattle.history.specs.History.{basisWith}
 use Rattle.history.proofs.With.{limits-with}
 use Rattle.valuation.specs.Valuation.{discountAfter, payment}
 use Rattle.valuation.proofs.Discount.{discount-small}
-use Rattle.swept_points.proofs.Passing.{due-none, due-paid}
-use Rattle.swept_points.proofs.passage.due.Statement.{statement}
-use Rattle.swept_points.proofs.passage.due.Tie as tie
+use Rattle.swept_points.proofs.SoFar.{payment-not-yet, payment-made}
+use Rattle.swept_points.proofs.life_values.deferred_payment.Statement.{statement}
+use Rattle.swept_points.proofs.life_values.deferred_payment.Tie as tie
 
 returns : tie.Need-returns
 returns c =
     let a = c .before .before .before .before .args in
-    (due-none (basisWith (a .run .now) (a .history .now)) (a .deferment) (a .j) (pos (a .s)) (omega arith), omega arith)
+    (payment-not-yet (basisWith (a .run .now) (a .history .now)) (a .deferment) (a .j) (pos (a .s)) (omega arith), omega arith)
 
 discount-requires : tie.Need-discount-requires
 discount-requires c κs = search needs
@@ -39,9 +39,9 @@ returns-2 c =
     let d = c .before in
     let a = d .before .before .before .before .before .args in
     let b = basisWith (a .run .now) (a .history .now) in (
-      c .payment .ensures .0 ∙ ap (λ v. payment v (pos (a .s))) (worth d) ∙ due-paid b (a .deferment) (a .j) (pos (a .s)) (omega arith),
+      c .payment .ensures .0 ∙ ap (λ v. payment v (pos (a .s))) (worth d) ∙ payment-made b (a .deferment) (a .j) (pos (a .s)) (omega arith),
       c .payment .ensures .1,
     )
 
-pub due-spec : {M : Type 1} → statement M
-due-spec = tie.close (tie.spec returns discount-requires payment-requires returns-2)
+pub deferred-payment-spec : {M : Type 1} → statement M
+deferred-payment-spec = tie.close (tie.spec returns discount-requires payment-requires returns-2)

@@ -1,4 +1,4 @@
--- After j turns of the loop the survivors and both sums are those of `Passing`; at age 150 the sums are whole.
+-- After j turns of the loop the survivors and both sums are those of `SoFar`; at age 150 the sums are whole.
 use mathlib.Core.Path.{_∙_, ap, sym}
 use Prim.Native.Nat.{_+_, _-_, _≤_}
 use native.Mathlib.Omega.{arith}
@@ -6,13 +6,13 @@ use borrow.Author.Needs.{needs}
 use Rattle.outcome.specs.Outcome.{meaning}
 use Rattle.history.specs.History.{basisWith}
 use Rattle.survivorship.proofs.Survivors.{year-small, cell-on}
-use Rattle.swept_points.proofs.Passing.{Passing, passing-first, passing-next, expectation-refused, annuity-refused, expectation-last, annuity-last}
-use Rattle.swept_points.proofs.passage.passage_from.Statement.{statement}
-use Rattle.swept_points.proofs.passage.passage_from.Tie as tie
+use Rattle.swept_points.proofs.SoFar.{SoFar, so-far-first, so-far-next, expectation-refused, annuity-refused, expectation-last, annuity-last}
+use Rattle.swept_points.proofs.life_values.life_values_from.Statement.{statement}
+use Rattle.swept_points.proofs.life_values.life_values_from.Tie as tie
 
 abbrev Inv-loop : tie.InvT-loop
 Inv-loop run history table kind age deferment year last s₀ j₀ lives₀ payments₀ s j lives payments =
-    (j ≤ last) × Passing (basisWith run history) kind age deferment year j s lives payments
+    (j ≤ last) × SoFar (basisWith run history) kind age deferment year j s lives payments
 
 abbrev μ-loop : tie.MeasureT-loop
 μ-loop run history table kind age deferment year last s₀ j₀ lives₀ payments₀ s j lives payments = last - j
@@ -20,13 +20,13 @@ abbrev μ-loop : tie.MeasureT-loop
 sub-last : tie.Need-sub-last Inv-loop μ-loop
 sub-last c = search needs
 
-due-requires : tie.Need-due-requires Inv-loop μ-loop
-due-requires c κs = search needs
+deferred-payment-requires : tie.Need-deferred-payment-requires Inv-loop μ-loop
+deferred-payment-requires c κs = search needs
 
 loop-holds : tie.Need-loop-holds Inv-loop μ-loop
 loop-holds c =
     let a = c .before .before .before .before .args in
-    (omega arith, passing-first (basisWith (a .run .now) (a .history .now)) (a .kind) (a .age) (a .deferment) (a .year) (c .due .result) (c .due .ensures))
+    (omega arith, so-far-first (basisWith (a .run .now) (a .history .now)) (a .kind) (a .age) (a .deferment) (a .year) (c .deferred-payment .result) (c .deferred-payment .ensures))
 
 add-survivors-after-year : tie.Need-add-survivors-after-year Inv-loop μ-loop
 add-survivors-after-year c = search needs
@@ -78,8 +78,8 @@ add-lives c =
     let small = year-small b (a .age + l .loop .j) (y .before .year-on .result) (l .loop .s) x (l .loop .inv .1 .living .people) (sym g) in
     omega (arith, l .loop .inv .1 .living .sum, small)
 
-due-requires-2 : tie.Need-due-requires-2 Inv-loop μ-loop
-due-requires-2 c κs =
+deferred-payment-requires-2 : tie.Need-deferred-payment-requires-2 Inv-loop μ-loop
+deferred-payment-requires-2 c κs =
     let y = c .before .before .before in
     let l = y .before .before .before in
     let s = l .before .before .before .before .before in
@@ -93,7 +93,7 @@ due-requires-2 c κs =
 add-payments : tie.Need-add-payments Inv-loop μ-loop
 add-payments c =
     let l = c .before .before .before .before .before .before .before in
-    omega (arith, l .loop .inv .1 .sum, c .due2 .ensures .1)
+    omega (arith, l .loop .inv .1 .sum, c .deferred-payment2 .ensures .1)
 
 loop-less : tie.Need-loop-less Inv-loop μ-loop
 loop-less c = search needs
@@ -106,8 +106,8 @@ loop-again c =
     let a = l .before .before .before .before .before .args in
     let g = sym (ap meaning (t .x .given .1)) ∙ y .survivors-after-year .ensures in (
       omega arith,
-      passing-next (basisWith (a .run .now) (a .history .now)) (a .kind) (a .age) (a .deferment) (a .year) (l .loop .j) (l .loop .s) (l .loop .lives) (l .loop .payments)
-          (t .x .given .0 .0) (c .due2 .result) (l .loop .inv .1) (y .before .year-on .ensures) g (c .due2 .ensures),
+      so-far-next (basisWith (a .run .now) (a .history .now)) (a .kind) (a .age) (a .deferment) (a .year) (l .loop .j) (l .loop .s) (l .loop .lives) (l .loop .payments)
+          (t .x .given .0 .0) (c .deferred-payment2 .result) (l .loop .inv .1) (y .before .year-on .ensures) g (c .deferred-payment2 .ensures),
     )
 
 add-t20 : tie.Need-add-t20 Inv-loop μ-loop
@@ -124,14 +124,14 @@ returns-2 c =
           (omega (arith, s .pre .3)) (l .loop .inv .1),
     )
 
-pub passage-from-spec : {M : Type 1} → statement M
-passage-from-spec =
+pub life-values-from-spec : {M : Type 1} → statement M
+life-values-from-spec =
     tie.close
     (tie.spec
     Inv-loop
     μ-loop
     sub-last
-    due-requires
+    deferred-payment-requires
     loop-holds
     add-survivors-after-year
     year-on-requires
@@ -141,7 +141,7 @@ passage-from-spec =
     returns
     add-j
     add-lives
-    due-requires-2
+    deferred-payment-requires-2
     add-payments
     loop-less
     loop-again

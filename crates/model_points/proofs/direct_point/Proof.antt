@@ -1,13 +1,13 @@
 -- The checks decide first; what they let pass is all that the work asks for.
-use mathlib.Core.Path.{_∙_, sym, ap}
+use mathlib.Core.Path.{_∙_}
 use borrow.Author.Needs.{needs}
 use Rattle.basis.specs.Basis.{ratedFrom}
 use Rattle.history.specs.History.{basisWith}
-use Rattle.outcome.proofs.Outcome.{found, checked-passed, checked-refused}
-use Rattle.model_points.specs.Point.{pointAnswerOf, pointOf}
+use Rattle.outcome.proofs.Outcome.{found}
+use Rattle.model_points.proofs.Points.{point-passed, point-refused}
 use Rattle.question.proofs.Passed.{question-passed}
-use Rattle.model_points.proofs.point_at.Statement.{statement}
-use Rattle.model_points.proofs.point_at.Tie as tie
+use Rattle.model_points.proofs.direct_point.Statement.{statement}
+use Rattle.model_points.proofs.direct_point.Tie as tie
 
 check-question-requires : tie.Need-check-question-requires
 check-question-requires c κs = search needs
@@ -15,9 +15,9 @@ check-question-requires c κs = search needs
 enum-told : tie.Need-enum-told
 enum-told c = search needs
 
-results-at-requires : tie.Need-results-at-requires
+direct-results-requires : tie.Need-direct-results-requires
 unfolding ratedFrom
-results-at-requires c κs =
+direct-results-requires c κs =
     let s = c .before .before .before .before .before in
     let q = s .args .q in
     let passed = found (c .before .before .check-question .ensures) (c .enum-told .given .1) in
@@ -30,25 +30,24 @@ refused-point-requires : tie.Need-refused-point-requires
 refused-point-requires c κs = search needs
 
 returns : tie.Need-returns
-unfolding pointOf ratedFrom
+unfolding ratedFrom
 returns c =
     let told = c .before in
-    c .results-at .ensures
-    ∙ sym (ap pointAnswerOf (checked-passed _ _ (found (told .before .before .check-question .ensures) (told .enum-told .given .1))))
+    c .direct-results .ensures ∙ point-passed _ _ (found (told .before .before .check-question .ensures) (told .enum-told .given .1))
 
 returns-2 : tie.Need-returns-2
-unfolding pointOf ratedFrom
+unfolding ratedFrom
 returns-2 c =
     let r = c .before .before in
-    c .refused-point .ensures ∙ sym (ap pointAnswerOf (checked-refused _ _ _ (found (r .before .before .check-question .ensures) (r .r .given .1))))
+    c .refused-point .ensures ∙ point-refused _ _ _ (found (r .before .before .check-question .ensures) (r .r .given .1))
 
-pub point-at-spec : {M : Type 1} → statement M
-point-at-spec =
+pub direct-point-spec : {M : Type 1} → statement M
+direct-point-spec =
     tie.close
     (tie.spec
     check-question-requires
     enum-told
-    results-at-requires
+    direct-results-requires
     enum-known-r
     refused-point-requires
     returns

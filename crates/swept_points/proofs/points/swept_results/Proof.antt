@@ -1,0 +1,55 @@
+-- The four answers stand for the four results of the definition, in its order.
+use mathlib.Core.Path.{_∙_}
+use Rattle.model_points.specs.Point.{resultsOf}
+use borrow.Author.Needs.{needs}
+use Rattle.swept_points.proofs.points.swept_results.Statement.{statement}
+use Rattle.swept_points.proofs.points.swept_results.Tie as tie
+
+life-values-from-requires : tie.Need-life-values-from-requires
+life-values-from-requires c κs = search needs
+
+life-values-from-requires-2 : tie.Need-life-values-from-requires-2
+life-values-from-requires-2 c κs = search needs
+
+expectation-requires : tie.Need-expectation-requires
+expectation-requires c κs = search needs
+
+expectation-requires-2 : tie.Need-expectation-requires-2
+expectation-requires-2 c κs = search needs
+
+life-annuity-requires : tie.Need-life-annuity-requires
+life-annuity-requires c κs = search needs
+
+life-annuity-requires-2 : tie.Need-life-annuity-requires-2
+life-annuity-requires-2 c κs = search needs
+
+four-results-requires : tie.Need-four-results-requires
+four-results-requires c κs = search needs
+
+returns : tie.Need-returns
+unfolding resultsOf
+returns c =
+    let cohort = c .before in
+    let period = cohort .before in
+    let later = period .before in
+    let walks = later .before .before in
+    simp (
+      c .four-results .ensures,
+      later .before .expectation .ensures,
+      later .expectation2 .ensures,
+      period .life-annuity .ensures ∙ walks .before .life-values-from .ensures .1,
+      cohort .life-annuity2 .ensures ∙ walks .life-values-from2 .ensures .1,
+    )
+
+pub swept-results-spec : {M : Type 1} → statement M
+swept-results-spec =
+    tie.close
+    (tie.spec
+    life-values-from-requires
+    life-values-from-requires-2
+    expectation-requires
+    expectation-requires-2
+    life-annuity-requires
+    life-annuity-requires-2
+    four-results-requires
+    returns)
