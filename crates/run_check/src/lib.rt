@@ -22,22 +22,8 @@ pub fn check_run(run: &[u8]) -> Check
     let mark = rows::check_mark(run);
     let single = rows::check_single_fields(run);
     let base_rates = rows::check_base_rates(run);
-    let ages = rows::check_terms(
-        run,
-        layout::AGE_INITIAL_RATES_AT,
-        layout::AGE_LONG_TERM_RATES_AT,
-        layout::AGE_PERIODS_AT,
-        layout::AGE_PROPORTIONS_AT,
-        layout::AGES,
-    );
-    let births = rows::check_terms(
-        run,
-        layout::BIRTH_YEAR_INITIAL_RATES_AT,
-        layout::BIRTH_YEAR_LONG_TERM_RATES_AT,
-        layout::BIRTH_YEAR_PERIODS_AT,
-        layout::BIRTH_YEAR_PROPORTIONS_AT,
-        layout::BIRTH_YEARS,
-    );
+    let ages = rows::check_age_terms(run);
+    let births = rows::check_birth_year_terms(run);
     first_of(
         mark,
         first_of(single, first_of(base_rates, first_of(ages, births))),

@@ -8,7 +8,7 @@ ghost use lib.ListN.{length};
 ghost use Rattle.layout.specs.Layout.{mpb1, runLength, widthOf};
 ghost use Rattle.outcome.specs.Outcome.{finding};
 ghost use Rattle.field_check.specs.Field.{field, fieldCheck, fieldsCheck};
-ghost use Rattle.run_check.specs.Run.{exactly, markFields, singleFields, baseRates, rates, periods, proportions, termFields};
+ghost use Rattle.run_check.specs.Run.{exactly, markFields, singleFields, baseRates, rates, periods, proportions, ageFields, birthYearFields};
 use field_check::Field;
 use field_check::all_within;
 use field_check::check_field;
@@ -186,25 +186,45 @@ fn check_proportions(run: &[u8], offset: usize, count: usize) -> Check
     check_field(run, f)
 }
 
-// The four tables of the terms of improvement, by age or by birth year (5).
-pub(crate) fn check_terms(
-    run: &[u8],
-    initial: usize,
-    long: usize,
-    period: usize,
-    remaining: usize,
-    count: usize,
-) -> Check
-    requires { ⌜ initial + count * 4 ≤ length (now run) ⌝ }
-    requires { ⌜ long + count * 4 ≤ length (now run) ⌝ }
-    requires { ⌜ period + count ≤ length (now run) ⌝ }
-    requires { ⌜ remaining + count ≤ length (now run) ⌝ }
-    ensures { λ r. ⌜ finding r ≡ fieldsCheck (now (run .entry)) (termFields mpb1 initial long period remaining count) ⌝ }
+// The terms of improvement by age (5). Every count is known here too, which the loops are faster by.
+pub(crate) fn check_age_terms(run: &[u8]) -> Check
+    requires { ⌜ length (now run) ≡ runLength mpb1 ⌝ }
+    ensures { λ r. ⌜ finding r ≡ fieldsCheck (now (run .entry)) (ageFields mpb1) ⌝ }
 {
-    let initials = check_rates(run, initial, count);
-    let longs = check_rates(run, long, count);
-    let periods = check_periods(run, period, count);
-    let proportions = check_proportions(run, remaining, count);
+    let initials = check_rates(run, layout::AGE_INITIAL_RATES_AT, layout::AGES);
+    let longs = check_rates(run, layout::AGE_LONG_TERM_RATES_AT, layout::AGES);
+    let periods = check_periods(run, layout::AGE_PERIODS_AT, layout::AGES);
+    let proportions = check_proportions(run, layout::AGE_PROPORTIONS_AT, layout::AGES);
+    first_of(
+        initials,
+        first_of(
+            longs,
+            first_of(periods, first_of(proportions, Check::Passed)),
+        ),
+    )
+}
+
+// The same by birth year (5).
+pub(crate) fn check_birth_year_terms(run: &[u8]) -> Check
+    requires { ⌜ length (now run) ≡ runLength mpb1 ⌝ }
+    ensures { λ r. ⌜ finding r ≡ fieldsCheck (now (run .entry)) (birthYearFields mpb1) ⌝ }
+{
+    let initials = check_rates(
+        run,
+        layout::BIRTH_YEAR_INITIAL_RATES_AT,
+        layout::BIRTH_YEARS,
+    );
+    let longs = check_rates(
+        run,
+        layout::BIRTH_YEAR_LONG_TERM_RATES_AT,
+        layout::BIRTH_YEARS,
+    );
+    let periods = check_periods(run, layout::BIRTH_YEAR_PERIODS_AT, layout::BIRTH_YEARS);
+    let proportions = check_proportions(
+        run,
+        layout::BIRTH_YEAR_PROPORTIONS_AT,
+        layout::BIRTH_YEARS,
+    );
     first_of(
         initials,
         first_of(

@@ -19,11 +19,11 @@ check-single-fields-requires c κs = search needs
 check-base-rates-requires : tie.Need-check-base-rates-requires
 check-base-rates-requires c κs = search needs
 
-check-terms-requires : tie.Need-check-terms-requires
-check-terms-requires c κs = search needs
+check-age-terms-requires : tie.Need-check-age-terms-requires
+check-age-terms-requires c κs = search needs
 
-check-terms-requires-2 : tie.Need-check-terms-requires-2
-check-terms-requires-2 c κs = search needs
+check-birth-year-terms-requires : tie.Need-check-birth-year-terms-requires
+check-birth-year-terms-requires c κs = search needs
 
 first-of-requires : tie.Need-first-of-requires
 first-of-requires c κs = search needs
@@ -51,8 +51,8 @@ check-run-spec =
     check-mark-requires
     check-single-fields-requires
     check-base-rates-requires
-    check-terms-requires
-    check-terms-requires-2
+    check-age-terms-requires
+    check-birth-year-terms-requires
     first-of-requires
     first-of-requires-2
     first-of-requires-3

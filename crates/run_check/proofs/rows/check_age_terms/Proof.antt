@@ -1,8 +1,8 @@
 -- What is found first among the rows is what their table finds first.
 use Rattle.field_check.specs.Field.{fieldsCheck}
 use borrow.Author.Needs.{needs}
-use Rattle.run_check.proofs.rows.check_terms.Statement.{statement}
-use Rattle.run_check.proofs.rows.check_terms.Tie as tie
+use Rattle.run_check.proofs.rows.check_age_terms.Statement.{statement}
+use Rattle.run_check.proofs.rows.check_age_terms.Tie as tie
 
 check-rates-requires : tie.Need-check-rates-requires
 check-rates-requires c κs = search needs
@@ -32,8 +32,8 @@ returns : tie.Need-returns
 unfolding fieldsCheck
 returns c = cc
 
-pub check-terms-spec : {M : Type 1} → statement M
-check-terms-spec =
+pub check-age-terms-spec : {M : Type 1} → statement M
+check-age-terms-spec =
     tie.close
     (tie.spec
     check-rates-requires
