@@ -23,7 +23,8 @@ fn check_from_first(run: &[u8], history: &[u8], age: u32, year: u32) -> Check
 
 // The same with the year from B on.
 fn check_from_base(run: &[u8], history: &[u8], age: u32, year: u32) -> Check
-    ensures { λ r. ⌜ finding r ≡ firstOf (runAndHistoryCheck (now (run .entry)) (now (history .entry))) (cellCheck (basisWith (now (run .entry)) (now (history .entry)) .base) age year) ⌝ }
+    ensures { λ r. ⌜ finding r
+        ≡ firstOf (runAndHistoryCheck (now (run .entry)) (now (history .entry))) (cellCheck (basisWith (now (run .entry)) (now (history .entry)) .base) age year) ⌝ }
 {
     match history::check::check_run_and_history(run, history) {
         Check::Passed => question::check_cell(basis::fields::base_year(run), age, year),
@@ -33,7 +34,8 @@ fn check_from_base(run: &[u8], history: &[u8], age: u32, year: u32) -> Check
 
 // The same with the year from the first that has a rate.
 fn check_from_rated(run: &[u8], history: &[u8], age: u32, year: u32) -> Check
-    ensures { λ r. ⌜ finding r ≡ firstOf (runAndHistoryCheck (now (run .entry)) (now (history .entry))) (cellCheck (ratedFrom (basisWith (now (run .entry)) (now (history .entry)))) age year) ⌝ }
+    ensures { λ r. ⌜ finding r
+        ≡ firstOf (runAndHistoryCheck (now (run .entry)) (now (history .entry))) (cellCheck (ratedFrom (basisWith (now (run .entry)) (now (history .entry)))) age year) ⌝ }
 {
     match history::check::check_run_and_history(run, history) {
         Check::Passed => question::check_cell(basis::fields::rated_from(run), age, year),

@@ -12,6 +12,7 @@ ghost use Rattle.enquiry_lines.specs.State.{pendingOf};
 use crate::Fed;
 use crate::lines;
 use crate::open_basis;
+use factor_table::TABLE_LENGTH;
 use outcome::Check;
 
 fn least(a: usize, b: usize) -> usize
@@ -61,7 +62,7 @@ pub fn output(file: &[u8], history: &[u8], text: &[u8], lengths: &[usize], out: 
     ensures { λ r. ⌜ Put (now (out .entry)) 0 (outputOf (now (file .entry)) (now (history .entry)) (now (text .entry))) (now (out .exit)) r ⌝ }
 {
     let mut run = [0u8; layout::RUN_LENGTH];
-    let mut table = [0u32; 18340];
+    let mut table = [0u32; TABLE_LENGTH];
     let o = open_basis::open_files(file, history, &mut run, out);
     let at = o.at;
     let check = o.check;

@@ -30,6 +30,7 @@ use denote.Slice.{sliceTy, sliceVal, Room, finally}
 use denote.Lend.{Held, slice-back}
 use denote.Steps.{owned}
 use denote.Index.{row, whole-in, whole-out}
+use Rattle.factor_table.specs.FactorTable.{tableLength}
 
 -- the machine value of a slice
 abbrev pub val : {X : Type 0} → RefT (List X) → Val
@@ -51,7 +52,7 @@ abbrev pub Row : List ℕ → ℕ → Fml
 Row l b = arr-parts (shares u32) (length l) .part fullShare l b 0
 
 -- 18,340 numbers have room in memory
-pub enough : (l : List ℕ) → length l ≡ 18340 → Room u32 (length l)
+pub enough : (l : List ℕ) → length l ≡ tableLength → Room u32 (length l)
 enough l long = subst (Room u32) (sym long) (lit< tt, lit< tt)
 
 -- ---- n zeros

@@ -4,8 +4,9 @@ ghost use Prim.Native.Nat.{_≤_, _<_};
 ghost use lib.ListN.{length};
 ghost use Rattle.outcome.specs.Outcome.{finding};
 ghost use Rattle.history.specs.History.{basisWith};
-ghost use Rattle.factor_table.specs.FactorTable.{Tabled};
+ghost use Rattle.factor_table.specs.FactorTable.{tableLength, Tabled};
 ghost use Rattle.grid.specs.Grid.{gridCheck, gridStart, gridStartMeaning, answers, gridOf};
+use factor_table::TABLE_LENGTH;
 use grid_record::Point;
 use outcome::Check;
 
@@ -43,7 +44,7 @@ pub fn start_grid(run: &[u8], history: &[u8], count: usize) -> GridStart
 
 // The same, and the sweep of the factors where the grid is not refused.
 fn begin_grid(run: &[u8], history: &[u8], count: usize, table: &mut [u32]) -> GridStart
-    requires { ⌜ length (now table) ≡ 18340 ⌝ }
+    requires { ⌜ length (now table) ≡ tableLength ⌝ }
     ensures { λ r. ⌜ gridStartMeaning r ≡ gridStart (gridCheck (now (run .entry)) (now (history .entry)) count) ⌝ }
     ensures { λ r. ⌜ (0 < r .records → Tabled (now (run .entry)) (now (history .entry)) (now (table .exit))) ⌝ }
 {
@@ -72,7 +73,7 @@ pub fn fill(run: &[u8], history: &[u8], points: &mut [Point]) -> Check
     ensures { λ r. ⌜ finding r ≡ gridCheck (now (run .entry)) (now (history .entry)) (length (now (points .entry))) ⌝ }
     ensures { λ _. ⌜ now (points .exit) ≡ gridOf (now (run .entry)) (now (history .entry)) (now (points .entry)) ⌝ }
 {
-    let mut table: [u32; 18340] = [0; 18340];
+    let mut table: [u32; TABLE_LENGTH] = [0; TABLE_LENGTH];
     let start = begin_grid(run, history, points.len(), &mut table);
     fill_records(run, history, &table, start.records, points);
     start.check

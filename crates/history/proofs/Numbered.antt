@@ -16,7 +16,8 @@ use Rattle.history.specs.History.{actualYears, lengthNeeded, historyData
 use Rattle.history.specs.History.{youngerAges, olderAges, firstRemaining, secondRemaining}
 use Rattle.history.proofs.Ways.{fields-parts}
 
-yearly-numbered : (s : List ℕ) (first second : Field) (at n : ℕ) → Listed numbers (first .number) → Listed numbers (second .number) → RefusesBy numbers (fieldsCheck s (yearlyFields first second at n))
+yearly-numbered : (s : List ℕ) (first second : Field) (at n : ℕ) → Listed numbers (first .number) → Listed numbers (second .number)
+    → RefusesBy numbers (fieldsCheck s (yearlyFields first second at n))
 unfolding fieldsCheck yearlyFields
 yearly-numbered s first second at zero p q = passed-by
 yearly-numbered s first second at (suc n) p q =
@@ -31,7 +32,8 @@ fields-numbered s years =
 pub history-numbered : (b : Basis) (history : List ℕ) → RefusesBy numbers (historyCheck b history)
 unfolding historyCheck numbers isListed
 history-numbered b history =
-    first-by (unless-by (eqb (length history) (lengthNeeded b)) _ refl) (first-by (blocks-numbered 0 (2 * actualYears b) history) (fields-numbered (historyData b history) (actualYears b)))
+    first-by (unless-by (eqb (length history) (lengthNeeded b)) _ refl)
+    (first-by (blocks-numbered 0 (2 * actualYears b) history) (fields-numbered (historyData b history) (actualYears b)))
 
 pub basis-numbered : (run history : List ℕ) → RefusesBy numbers (runAndHistoryCheck run history)
 unfolding runAndHistoryCheck

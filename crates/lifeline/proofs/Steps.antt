@@ -44,7 +44,9 @@ step-passed run history p h =
     let s = both-passed (stepYearCheck first (p .age) (p .year)) (survivorsCheck (length run) (p .survivors)) (q .1) in
     let a = age-passed (p .age) (q .0) in
     let y = step-year-passed first (p .age) (p .year) (s .0) in
-    let cell : Cell run history (p .age) (p .year) = record { usable = accepted-workable run history (c .0); age-low = a .0; age-high = a .1; year-low = omega (arith, y .0, rated-late (basisWith run history)) } in
+    let late = rated-late (basisWith run history) in
+    let cell : Cell run history (p .age) (p .year) =
+    record { usable = accepted-workable run history (c .0); age-low = a .0; age-high = a .1; year-low = omega (arith, y .0, late) } in
     (cell, y .1, survivors-passed (length run) (p .survivors) (s .1))
 
 -- ---- the start

@@ -5,12 +5,13 @@ ghost use Prim.Native.Nat.{_+_, _*_, _≤_};
 ghost use lib.ListN.{length};
 ghost use Rattle.layout.specs.Layout.{mpb1, runLength, fileLength};
 ghost use Rattle.history.specs.History.{Workable};
-ghost use Rattle.factor_table.specs.FactorTable.{Tabled};
+ghost use Rattle.factor_table.specs.FactorTable.{tableLength, Tabled};
 ghost use Rattle.io.specs.Counts.{Counts};
 ghost use Rattle.enquiry_lines.specs.State.{Sound};
 use enquiry_lines::Pending;
 use enquiry_lines::lines;
 use enquiry_lines::open_basis;
+use factor_table::TABLE_LENGTH;
 use libc::ENOENT;
 use libc::STDIN_FILENO;
 use libc::STDOUT_FILENO;
@@ -61,10 +62,10 @@ fn reply_room() -> [u8; 196608]
 }
 
 // Room for the factors of all ages and years, and the discounts.
-fn table_room() -> [u32; 18340]
-    ensures { λ r. ⌜ 18340 ≡ length r ⌝ }
+fn table_room() -> [u32; TABLE_LENGTH]
+    ensures { λ r. ⌜ tableLength ≡ length r ⌝ }
 {
-    [0; 18340]
+    [0; TABLE_LENGTH]
 }
 
 // Whether a file has been read to its end. A read that fails is told on standard error.
@@ -174,7 +175,7 @@ fn answer_blocks(run: &[u8], history: &[u8], table: &[u32], part: &mut [u8], out
 // All of standard input: its blocks, then a last line that lacks its byte 10. The basis stays the same, so that the factors
 // of all ages and years are worked out once, before the first line.
 fn answer_input(run: &[u8], history: &[u8], table: &mut [u32], part: &mut [u8], out: &mut [u8])
-    requires { ⌜ Workable (now run) (now history) × (length (now table) ≡ 18340) ⌝ }
+    requires { ⌜ Workable (now run) (now history) × (length (now table) ≡ tableLength) ⌝ }
     requires { ⌜ (length (now part) ≤ 1024) × (196608 ≤ length (now out)) ⌝ }
 {
     factor_table::fill_table(run, history, table);

@@ -55,7 +55,8 @@ module _ (run history : List ℕ) where
   cell-checked first age year = first-by (basis-numbered run history) (check-among record-numbers (cell-numbered first age year))
 
   valuation-checked : (age deferment year : ℕ) → RefusesBy numbers (valuationCheck run history age deferment year)
-  valuation-checked age deferment year = first-by (basis-numbered run history) (check-among record-numbers (question-numbered (ratedFrom (basisWith run history)) age deferment year))
+  valuation-checked age deferment year =
+      first-by (basis-numbered run history) (check-among record-numbers (question-numbered (ratedFrom (basisWith run history)) age deferment year))
 
   -- ---- a lifeline
   start-numbered : (age year : ℕ) → RefusesBy numbers (startAt run history age year .check)

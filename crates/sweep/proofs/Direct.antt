@@ -54,7 +54,8 @@ module _ (b : Basis) where
   start-after numbers h = h
 
   -- a step from what holds the state after k steps holds that after one more
-  pub step-after : (numbers next : List ℕ) (k : ℕ) → Encodes numbers (sweepAfter b k) → Encodes next (sweepStep b (b .base + k) (stateIn numbers)) → Encodes next (sweepAfter b (suc k))
+  pub step-after : (numbers next : List ℕ) (k : ℕ) → Encodes numbers (sweepAfter b k) → Encodes next (sweepStep b (b .base + k) (stateIn numbers))
+      → Encodes next (sweepAfter b (suc k))
   unfolding sweepAfter
   step-after numbers next k h g = record { size = g .size; each = λ i l. g .each i l ∙ ap (advancedFactor b (20 + i) (b .base + k)) (back i l) }
     where

@@ -50,7 +50,7 @@ use Rattle.walk.proofs.Statements.{number, copies, number-typed, slice-typed, s
 use Rattle.walk.proofs.Calls.{calls-told}
 use Rattle.walk.proofs.Meets.{meets-by}
 use Rattle.history.specs.History.{basisWith}
-use Rattle.factor_table.specs.FactorTable.{Tabled}
+use Rattle.factor_table.specs.FactorTable.{tableLength, Tabled}
 use Rattle.grid_record.specs.declared.Point.{Point}
 use Rattle.grid.specs.declared.GridStart.{GridStart}
 use Rattle.grid.specs.Grid.{gridCheck, gridStart, gridStartMeaning, answers, gridOf}
@@ -91,7 +91,7 @@ abbrev list-ty : Ty
 list-ty = sliceTy (tyRef (named 2) mut (pointee (P.the-row .written)))
 
 abbrev array-ty : Ty
-array-ty = array-of 18340
+array-ty = array-of tableLength
 
 abbrev list-ptr : Ty
 list-ptr = tyRef erased mut (pointee (P.the-row .written))
@@ -178,7 +178,7 @@ module _ {M : Type 1} (𝓤 : URA M) (H : Heap 𝓤) (A : Atoms 𝓤) (W : Given
     abbrev to-begin : Begin 𝓤 H A at-mem run .Ghost
     to-begin = (((κ₀, (κ₁, (ν ∷ [], tt))), (q₀, (q₁, (fullShare, tt))), tt, (s₀, (s₁, (length xs, (y, tt)))), begin-vals), tt)
 
-    goes-begin : length xs < 2 ^ 64 → length l ≡ 18340
+    goes-begin : length xs < 2 ^ 64 → length l ≡ tableLength
         → ent 𝓤 (⋆ 𝓤 H A ((‵ (Mine ν) ⊛ ‵ (MutSlice (named 2) (ν ∷ []) u32 .own y (val y ∷ []))) ∷ Two ∷ Owned ∷ []))
         (⋆ 𝓤 H A (raw (Begin 𝓤 H A at-mem run .pre to-begin) ∷ Owned ∷ []))
     goes-begin fits long =
@@ -253,13 +253,13 @@ module _ {M : Type 1} (𝓤 : URA M) (H : Heap 𝓤) (A : Atoms 𝓤) (W : Given
           fsplit ! $ drop ! $ fsplit ! $ drop ! $ fsplit ! $ drop ! $ fsplit ! $ drop ! $ fsplit ! $ fsplit ! $ move ! (1 ∷ []) $ feqL ! (λ same.
           show ! (λ (r : List Point). guard 𝓤 (Filled r) (sem 𝓤 H A (finally P.the-row γ r))) (zs .1 .1 .1 .1 .0) $ check ! (same, e) $ keep ! (0 ∷ []) $ done !)))
 
-      records-back : length l ≡ 18340 → ent 𝓤 (⋆ 𝓤 H A (Tokens (‵ (Mine ν) ⊛ Last) ∷ ‵ (flent (ν ∷ []) (Row l c)) ∷ []))
+      records-back : length l ≡ tableLength → ent 𝓤 (⋆ 𝓤 H A (Tokens (‵ (Mine ν) ⊛ Last) ∷ ‵ (flent (ν ∷ []) (Row l c)) ∷ []))
           (H .⇛ (⋆ 𝓤 H A (Tokens Last ∷ ‵ (froom array-ty c 0) ∷ [])))
       records-back long =
           qed W (Tokens (‵ (Mine ν) ⊛ Last) ∷ ‵ (flent (ν ∷ []) (Row l c)) ∷ []) ∵ updating ! $ split ! $ move ! (1 ∷ []) $ split ! $ move ! (1 ∷ []) $ split ! $
           -- [ν's token; the list's and true; the history's; the run's; the lender's part]
           lft-end ! tt $ move ! (2 ∷ 1 ∷ []) $ join ! $ move ! (2 ∷ 0 ∷ []) $ join ! $ move ! (1 ∷ 2 ∷ []) $ lent-back ! tt $
-          use1 W (‵ (froom array-ty c 0)) (row-room 𝓤 H A W 18340 l c long) $ at-once ! $ move ! (1 ∷ 0 ∷ []) $ done !
+          use1 W (‵ (froom array-ty c 0)) (row-room 𝓤 H A W tableLength l c long) $ at-once ! $ move ! (1 ∷ 0 ∷ []) $ done !
 
   -- ---- the exit
   exits : (r : Check) (w : Val) (zs : List Point) → Is F.the-row r (w ∷ []) → finding r ≡ gridCheck (now s₀) (now s₁) (length xs)
@@ -297,7 +297,7 @@ module _ {M : Type 1} (𝓤 : URA M) (H : Heap 𝓤) (A : Atoms 𝓤) (W : Given
           by ! (exits (f .check) _ zs known (ap (λ (p : Finding × ℕ). p .0) f-is) e same)
 
       -- ---- `fill_records`, once `begin_grid` has left the row r
-      fills : Triple 𝓤 (C #grid·fill-records) (Records 𝓤 H A at-mem run) → Room P.the-row (length xs) → (r : List ℕ) → length r ≡ 18340
+      fills : Triple 𝓤 (C #grid·fill-records) (Records 𝓤 H A at-mem run) → Room P.the-row (length xs) → (r : List ℕ) → length r ≡ tableLength
           → (0 < f .records → Tabled (now s₀) (now s₁) r)
           → ent 𝓤 (⋆ 𝓤 H A (‵ (Row r (l 4)) ∷ Listed ∷ Two ∷ Owned ∷ Locals (holds (start-val f)))) (Wp 𝓤 H C Λ En parts.t-6 (atReturn 𝓤 H En Post))
       fills known room r long ready =
@@ -335,7 +335,8 @@ module _ {M : Type 1} (𝓤 : URA M) (H : Heap 𝓤) (A : Atoms 𝓤) (W : Given
 
     -- ---- `begin_grid`, with the row r
     begins : Triple 𝓤 (C #grid·begin-grid) (Begin 𝓤 H A at-mem run) → Triple 𝓤 (C #grid·fill-records) (Records 𝓤 H A at-mem run) → Room P.the-row (length xs)
-        → (r : List ℕ) → length r ≡ 18340 → ent 𝓤 (⋆ 𝓤 H A (‵ (cells (mem u32) r (l 4) 0) ∷ Listed ∷ Two ∷ Owned ∷ Locals empty)) (Wp 𝓤 H C Λ En parts.t-2 (atReturn 𝓤 H En Post))
+        → (r : List ℕ) → length r ≡ tableLength
+        → ent 𝓤 (⋆ 𝓤 H A (‵ (cells (mem u32) r (l 4) 0) ∷ Listed ∷ Two ∷ Owned ∷ Locals empty)) (Wp 𝓤 H C Λ En parts.t-2 (atReturn 𝓤 H En Post))
     begins known known-records room r long =
         qed W (‵ (cells (mem u32) r (l 4) 0) ∷ Listed ∷ Two ∷ Owned ∷ Locals empty) ∵ exec ! C Λ En parts.t-2 (atRet En Post) $
         sets ! 4 (of-opd ! (field ! 4 refl (sub ! 1 refl (whole !)))) refl (tt, number-typed (room .0)) $
@@ -380,9 +381,9 @@ module _ {M : Type 1} (𝓤 : URA M) (H : Heap 𝓤) (A : Atoms 𝓤) (W : Given
       -- [the list; the slices' tokens; what the slices own]
       enters ! C Λ function (val s₀ ∷ val s₁ ∷ val x ∷ []) _
       ((tt, slice-typed (s₀ .ptr) (room₀ .0)), ((tt, slice-typed (s₁ .ptr) (room₁ .0)), ((tt, slice-typed (b, o) (room .0)), tt))) (λ l.
-      sets ! 0 (rep ! 18340 (lit ! tt)) refl (zeros-typed 𝓤 H A W 18340) $
-      takes ! (spot 𝓤 H A (blocks 𝓤 H A (function .locals) l) 0 4) $ use1 W (‵ (cells (mem u32) (replicate 18340 0) (l 4) 0)) (zeros-lie 𝓤 H A W 18340 (l 4)) $
-      move ! (0 ∷ 29 ∷ 30 ∷ 31 ∷ []) $ by ! (begins C Λ fm l known-begin known-records room (replicate 18340 0) (length-replicate {0} {A = ℕ} 18340 0)))
+      sets ! 0 (rep ! tableLength (lit ! tt)) refl (zeros-typed 𝓤 H A W tableLength) $
+      takes ! (spot 𝓤 H A (blocks 𝓤 H A (function .locals) l) 0 4) $ use1 W (‵ (cells (mem u32) (replicate tableLength 0) (l 4) 0)) (zeros-lie 𝓤 H A W tableLength (l 4)) $
+      move ! (0 ∷ 29 ∷ 30 ∷ 31 ∷ []) $ by ! (begins C Λ fm l known-begin known-records room (replicate tableLength 0) (length-replicate {0} {A = ℕ} tableLength 0)))
 
 module _ {M : Type 1} (𝓤 : URA M) (H : Heap 𝓤) (A : Atoms 𝓤) (W : Given 𝓤 H A) (mem : Memory → SProp 𝓤) (run : Routine → Fun 𝓤) (𝓣 : Tables 𝓤 H) where
   fill-meets : Triple 𝓤 (𝓣 .C #grid·begin-grid) (Begin 𝓤 H A mem run) → Triple 𝓤 (𝓣 .C #grid·fill-records) (Records 𝓤 H A mem run)

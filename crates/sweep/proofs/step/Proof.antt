@@ -56,8 +56,8 @@ loop-again c =
     let a = l .before .before .before .before .args in (
       omega arith,
       omega arith,
-      advanced-next (basisWith (a .run .now) (a .history .now)) (a .year) (a .state .now) (l .loop .state) (l .loop .age) (c .advanced-factor .result) (l .loop .inv .0) (omega arith)
-          (l .loop .inv .2) (c .advanced-factor .ensures),
+      advanced-next (basisWith (a .run .now) (a .history .now)) (a .year) (a .state .now) (l .loop .state) (l .loop .age) (c .advanced-factor .result)
+          (l .loop .inv .0) (omega arith) (l .loop .inv .2) (c .advanced-factor .ensures),
     )
 
 same-length : tie.Need-same-length Inv-loop μ-loop

@@ -4,6 +4,7 @@ use mathlib.Core.List.{[], _++_}
 use Prim.Native.Nat.{ℕ}
 use native.Mathlib.Omega.{arith}
 use lib.ListN.{replicate, length-replicate}
+use Rattle.factor_table.specs.FactorTable.{tableLength}
 use Rattle.layout.specs.Layout.{mpb1, runLength}
 use Rattle.basis_file.specs.File.{runIn}
 use Rattle.outcome.specs.Outcome.{passed, finding}
@@ -64,7 +65,7 @@ slice-aggregate-fill-table-2 c = search needs
 fill-table-requires : tie.Need-fill-table-requires
 fill-table-requires c κs = let t = c .before .before in
     let o = t .before .before .before .before .before in
-    (accepted o (ap finding (t .enum-told .given .1)), length-replicate {A = ℕ} 18340 0)
+    (accepted o (ap finding (t .enum-told .given .1)), length-replicate {A = ℕ} tableLength 0)
 
 slice-aggregate-feed-parts : tie.Need-slice-aggregate-feed-parts
 slice-aggregate-feed-parts c = search needs

@@ -48,7 +48,9 @@ year-on-requires c κs = search needs
 
 survivors-after-year-requires : tie.Need-survivors-after-year-requires Inv-loop μ-loop
 survivors-after-year-requires c κs = let l = c .before .before in let s = l .before .before .before .before .before .before in
-    (cell-on (s .args .age) (s .args .year) (s .args .kind) (l .loop .j) (s .pre .0 .usable) (s .pre .0 .age-low) (omega arith) (s .pre .0 .year-low) (c .year-on .ensures), l .loop .inv .people)
+    let life = s .pre .0 in
+    let cell = cell-on (s .args .age) (s .args .year) (s .args .kind) (l .loop .j) (life .usable) (life .age-low) (omega arith) (life .year-low) (c .year-on .ensures) in
+    (cell, l .loop .inv .people)
 
 enum-known-x : tie.Need-enum-known-x Inv-loop μ-loop
 enum-known-x c = search needs

@@ -37,7 +37,11 @@ year-on-requires c κs = search needs
 
 survivors-after-year-requires : tie.Need-survivors-after-year-requires Inv-loop μ-loop
 survivors-after-year-requires c κs = let l = c .before .before in let s = l .before .before .before in let a = s .args in
-    (cell-on (a .age + a .deferment) (a .year + a .deferment) (a .kind) (l .loop .j) (s .pre .usable) (omega (arith, s .pre .age-low)) (omega arith) (omega (arith, s .pre .year-low)) (c .year-on .ensures), l .loop .inv .1 .people)
+    let life = s .pre in
+    let cell =
+    cell-on (a .age + a .deferment) (a .year + a .deferment) (a .kind) (l .loop .j) (life .usable)
+    (omega (arith, life .age-low)) (omega arith) (omega (arith, life .year-low)) (c .year-on .ensures) in
+    (cell, l .loop .inv .1 .people)
 
 enum-known-x : tie.Need-enum-known-x Inv-loop μ-loop
 enum-known-x c = search needs
