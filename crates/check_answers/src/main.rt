@@ -11,6 +11,7 @@ ghost use lib.ListN.{length};
 ghost use lib.IntN.{natAbs};
 ghost use Rattle.layout.specs.Layout.{mpb1, runLength};
 use case_io::MOST_CASES;
+use libc::STDIN_FILENO;
 use outcome::Answer;
 use outcome::Refusal;
 use outcome::SignedAnswer;
@@ -36,7 +37,7 @@ fn history_room() -> [u8; 262144]
 // Reads the number of bases and gives the bytes of as many, at most those there is room for.
 fn read_length() -> u32 {
     let mut bytes = [0u8; 2];
-    case_io::read_bytes(&mut bytes);
+    io::read_full(STDIN_FILENO, &mut bytes);
     let bases = little_endian::read_u16(&bytes, 0);
     if bases < 64 {
         layout::RUN_LENGTH as u32 * bases
@@ -48,7 +49,7 @@ fn read_length() -> u32 {
 // Reads the number of bytes of the histories, at most those there is room for.
 fn read_history_length() -> u32 {
     let mut bytes = [0u8; 4];
-    case_io::read_bytes(&mut bytes);
+    io::read_full(STDIN_FILENO, &mut bytes);
     let length = little_endian::read_u32(&bytes, 0);
     if length < 262144 { length } else { 262144 }
 }
@@ -77,8 +78,12 @@ fn run_at(runs: &[u8], place: u8) -> &[u8] {
 // ---- a case
 fn print_answer(a: Answer) {
     match a {
-        Answer::Value(n) => case_io::print_named(b"value ", n),
-        Answer::Refused(r) => case_io::print_refused(r),
+        Answer::Value(n) => {
+            case_io::print_named(b"value ", n);
+        }
+        Answer::Refused(r) => {
+            case_io::print_refused(r);
+        }
     }
 }
 
@@ -100,7 +105,9 @@ fn print_signed(n: i64) {
 fn print_signed_answer(a: SignedAnswer) {
     match a {
         SignedAnswer::Value(n) => print_signed(n),
-        SignedAnswer::Refused(r) => case_io::print_refused(r),
+        SignedAnswer::Refused(r) => {
+            case_io::print_refused(r);
+        }
     }
 }
 
@@ -140,7 +147,7 @@ fn run_case(run: &[u8], history: &[u8], kind: u8, age: u32, deferment: u32, year
 // Reads a case and works it; false at the end of the input.
 fn next_case(runs: &[u8], histories: &[u8]) -> bool {
     let mut asked = [0u8; 22];
-    if !case_io::read_bytes(&mut asked) {
+    if io::read_full(STDIN_FILENO, &mut asked) < 22 {
         return false;
     }
     let age = little_endian::read_u32(&asked, 2);
@@ -163,12 +170,12 @@ fn run_cases(runs: &[u8], histories: &[u8]) -> u64 {
 }
 
 fn answer_cases(runs: &[u8], histories: &mut [u8]) {
-    case_io::read_bytes(histories);
+    io::read_full(STDIN_FILENO, histories);
     case_io::print_named(b"cases ", run_cases(runs, histories));
 }
 
 fn work(runs: &mut [u8]) {
-    case_io::read_bytes(runs);
+    io::read_full(STDIN_FILENO, runs);
     let mut space = history_room();
     let length = io::count(read_history_length() as isize, &space);
     answer_cases(runs, &mut space[..length]);

@@ -13,6 +13,7 @@ ghost use Rattle.layout.specs.Layout.{mpb1, fileLength};
 use basis_file::read;
 use basis_file::write;
 use case_io::MOST_CASES;
+use libc::STDIN_FILENO;
 use outcome::Check;
 
 // ---- the input and the output of a case
@@ -54,7 +55,7 @@ fn lay_base(file: &[u8], kind: u8, input: &mut [u8])
 // One patch of standard input.
 fn patch(input: &mut [u8]) {
     let mut read = [0u8; 3];
-    case_io::read_bytes(&mut read);
+    io::read_full(STDIN_FILENO, &mut read);
     let at = little_endian::read_u16(&read, 0) as usize;
     if at < input.len() {
         input[at] = read[2];
@@ -93,10 +94,12 @@ fn sum_of(output: &[u8]) -> u32
 // The refusal's number and places, or zeros, and the sum.
 fn print_answer(c: Check, sum: u32) {
     match c {
-        Check::Passed => case_io::print_numbers(&[0, 0, 0, sum as u64]),
-        Check::Refused(r) => case_io::print_numbers(
-            &[r.number as u64, r.first, r.second, sum as u64],
-        ),
+        Check::Passed => {
+            case_io::print_numbers(&[0, 0, 0, sum as u64]);
+        }
+        Check::Refused(r) => {
+            case_io::print_numbers(&[r.number as u64, r.first, r.second, sum as u64]);
+        }
     }
 }
 
@@ -134,7 +137,7 @@ fn run_case(file: &[u8], header: &[u8])
 // Reads a case and works it; false at the end of the input.
 fn next_case(file: &[u8]) -> bool {
     let mut header = [0u8; 11];
-    if !case_io::read_bytes(&mut header) {
+    if io::read_full(STDIN_FILENO, &mut header) < 11 {
         return false;
     }
     run_case(file, &header);
@@ -151,6 +154,6 @@ fn run_cases(file: &[u8]) -> u64 {
 
 fn main() {
     let mut file = file_room();
-    case_io::read_bytes(&mut file);
+    io::read_full(STDIN_FILENO, &mut file);
     case_io::print_named(b"cases ", run_cases(&file));
 }

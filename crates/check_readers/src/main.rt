@@ -8,6 +8,7 @@
 ghost use mathlib.Core.Path.{_≡_};
 ghost use lib.ListN.{length};
 use case_io::MOST_CASES;
+use libc::STDIN_FILENO;
 use tables::Table;
 
 // Room for a data run that is too long.
@@ -57,7 +58,7 @@ fn print_tables(run: &[u8]) {
 // One lifeline of standard input, n steps from its start.
 fn follow(run: &[u8], history: &[u8]) {
     let mut asked = [0u8; 12];
-    case_io::read_bytes(&mut asked);
+    io::read_full(STDIN_FILENO, &mut asked);
     let age = little_endian::read_u32(&asked, 0);
     let year = little_endian::read_u32(&asked, 4);
     let steps = little_endian::read_u32(&asked, 8);
@@ -67,7 +68,7 @@ fn follow(run: &[u8], history: &[u8]) {
 
 fn follow_all(run: &[u8], history: &[u8]) {
     let mut number = [0u8; 2];
-    case_io::read_bytes(&mut number);
+    io::read_full(STDIN_FILENO, &mut number);
     for _ in 0..little_endian::read_u16(&number, 0) {
         follow(run, history);
     }
@@ -75,8 +76,8 @@ fn follow_all(run: &[u8], history: &[u8]) {
 
 // ---- the cases
 fn run_case(run: &mut [u8], history: &mut [u8]) {
-    case_io::read_bytes(run);
-    case_io::read_bytes(history);
+    io::read_full(STDIN_FILENO, run);
+    io::read_full(STDIN_FILENO, history);
     print_tables(run);
     follow_all(run, history);
 }
@@ -84,7 +85,7 @@ fn run_case(run: &mut [u8], history: &mut [u8]) {
 // Reads a case and works it; false at the end of the input.
 fn next_case() -> bool {
     let mut head = [0u8; 8];
-    if !case_io::read_bytes(&mut head) {
+    if io::read_full(STDIN_FILENO, &mut head) < 8 {
         return false;
     }
     let mut run = run_room();

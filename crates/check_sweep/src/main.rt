@@ -9,6 +9,7 @@ ghost use Prim.Native.Nat.{_≤_};
 ghost use lib.ListN.{length};
 ghost use Rattle.history.specs.History.{Workable};
 use case_io::MOST_CASES;
+use libc::STDIN_FILENO;
 use outcome::Check;
 
 fn wide(n: u32) -> u64
@@ -60,18 +61,20 @@ fn sweep_years(run: &[u8], history: &[u8])
 fn sweep_case(run: &[u8], history: &[u8]) {
     match history::check::check_run_and_history(run, history) {
         Check::Passed => sweep_years(run, history),
-        Check::Refused(r) => case_io::print_refused(r),
+        Check::Refused(r) => {
+            case_io::print_refused(r);
+        }
     }
 }
 
 // Reads a case and works it; false at the end of the input.
 fn next_case() -> bool {
     let mut head = [0u8; 4];
-    if !case_io::read_bytes(&mut head) {
+    if io::read_full(STDIN_FILENO, &mut head) < 4 {
         return false;
     }
     let mut run = [0u8; layout::RUN_LENGTH];
-    case_io::read_bytes(&mut run);
+    io::read_full(STDIN_FILENO, &mut run);
     let mut space = case_io::history_room();
     let length = io::count(little_endian::read_u32(&head, 0) as isize, &space);
     read_history(&run, &mut space[..length]);
@@ -79,7 +82,7 @@ fn next_case() -> bool {
 }
 
 fn read_history(run: &[u8], history: &mut [u8]) {
-    case_io::read_bytes(history);
+    io::read_full(STDIN_FILENO, history);
     sweep_case(run, history);
 }
 

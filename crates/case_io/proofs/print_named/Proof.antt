@@ -1,10 +1,20 @@
 -- What was put ends within the line, so that much of it is written.
-use mathlib.Core.Path.{sym}
+use mathlib.Core.Path.{refl, sym}
+use Prim.Native.Nat.{ℕ}
+use mathlib.Core.List.{List, [], _∷_, _++_, append-assoc}
 use native.Mathlib.Omega.{arith}
 use lib.Seq.{length-take-le}
 use borrow.Author.Needs.{needs}
+use Rattle.reply_text.specs.Decimal.{digitsOf}
+use Rattle.reply_text.specs.Put.{Put}
+use Rattle.reply_text.proofs.Puts.{then, being, in-zeros}
+use Rattle.case_io.specs.Lines.{byValue, namedLine}
 use Rattle.case_io.proofs.print_named.Statement.{statement}
 use Rattle.case_io.proofs.print_named.Tie as tie
+
+named : (word : List ℕ) (n : ℕ) {out line after : List ℕ} {at r : ℕ} → Put out 0 word line at → Put line at (digitsOf n ++ 10 ∷ []) after r → Put out 0 (namedLine word n) after r
+unfolding namedLine
+named word n p q = being (simp append-assoc) refl (then p q)
 
 slice-aggregate-put-text : tie.Need-slice-aggregate-put-text
 slice-aggregate-put-text c = search needs
@@ -30,7 +40,10 @@ write-all-requires : tie.Need-write-all-requires
 write-all-requires c κs = search needs
 
 returns : tie.Need-returns
-returns c = search needs
+unfolding byValue
+returns c =
+    let p = c .before .before .before in
+    in-zeros 192 (named _ _ (p .before .before .before .put-text .ensures) (p .put-number .ensures .0))
 
 pub print-named-spec : {M : Type 1} → statement M
 print-named-spec =

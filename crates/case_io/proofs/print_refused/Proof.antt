@@ -3,6 +3,8 @@ use mathlib.Core.Path.{sym}
 use native.Mathlib.Omega.{arith}
 use lib.Seq.{length-take-le}
 use borrow.Author.Needs.{needs}
+use Rattle.reply_text.proofs.Puts.{in-zeros}
+use Rattle.case_io.specs.Lines.{byValue}
 use Rattle.case_io.proofs.print_refused.Statement.{statement}
 use Rattle.case_io.proofs.print_refused.Tie as tie
 
@@ -24,7 +26,8 @@ write-all-requires : tie.Need-write-all-requires
 write-all-requires c κs = search needs
 
 returns : tie.Need-returns
-returns c = search needs
+unfolding byValue
+returns c = in-zeros 192 (c .before .before .before .put-refusal .ensures .0)
 
 pub print-refused-spec : {M : Type 1} → statement M
 print-refused-spec =
