@@ -22,19 +22,25 @@ pub fn history_room() -> [u8; 90112]
 }
 
 // ---- lines
-// Each prints a line and answers the line that it has printed.
-//
+// Each prints a line and answers it by value, so that its bytes are promised.
+fn print(bytes: [u8; 192], length: usize) -> ReplyText
+    requires { ⌜ length ≤ 192 ⌝ }
+    ensures { λ r. ⌜ r ≡ record { bytes = bytes; len = length } ⌝ }
+{
+    io::write_all(STDOUT_FILENO, &bytes[..length]);
+    ReplyText {
+        bytes: bytes,
+        len: length,
+    }
+}
+
 // `refused`, the refusal's number and its places.
 pub fn print_refused(x: Refusal) -> ReplyText
     ensures { λ r. ⌜ r ≡ byValue (refusalLine x) ⌝ }
 {
     let mut line = [0u8; 192];
     let end = reply::put_refusal(&mut line, 0, x);
-    io::write_all(STDOUT_FILENO, &line[..end]);
-    ReplyText {
-        bytes: line,
-        len: end,
-    }
+    print(line, end)
 }
 
 // A number behind a word.
@@ -45,11 +51,7 @@ pub fn print_named(word: &[u8], n: u64) -> ReplyText
     let mut line = [0u8; 192];
     let at = digits::put_text(&mut line, 0, word);
     let end = digits::put_number(&mut line, at, n, b'\n');
-    io::write_all(STDOUT_FILENO, &line[..end]);
-    ReplyText {
-        bytes: line,
-        len: end,
-    }
+    print(line, end)
 }
 
 // What follows a number: a space, or byte 10 after the last.
@@ -69,9 +71,5 @@ pub fn print_numbers(numbers: &[u64]) -> ReplyText
     for i in 0..numbers.len() {
         at = digits::put_number(&mut line, at, numbers[i], separator(i + 1 == numbers.len()));
     }
-    io::write_all(STDOUT_FILENO, &line[..at]);
-    ReplyText {
-        bytes: line,
-        len: at,
-    }
+    print(line, at)
 }

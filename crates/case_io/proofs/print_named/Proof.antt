@@ -1,9 +1,8 @@
 -- What was put ends within the line, so that much of it is written.
-use mathlib.Core.Path.{refl, sym}
+use mathlib.Core.Path.{refl, _∙_}
 use Prim.Native.Nat.{ℕ}
 use mathlib.Core.List.{List, [], _∷_, _++_, append-assoc}
 use native.Mathlib.Omega.{arith}
-use lib.Seq.{length-take-le}
 use borrow.Author.Needs.{needs}
 use Rattle.reply_text.specs.Decimal.{digitsOf}
 use Rattle.reply_text.specs.Put.{Put}
@@ -28,22 +27,14 @@ slice-aggregate-put-number c = search needs
 put-number-requires : tie.Need-put-number-requires
 put-number-requires c κs = search needs
 
-array-share-prefix-line : tie.Need-array-share-prefix-line
-array-share-prefix-line c = search needs
-
-slice-aggregate-write-all : tie.Need-slice-aggregate-write-all
-slice-aggregate-write-all c =
-    let p = c .before .before .put-number in
-    sym (length-take-le (p .result) (p .last .0) (omega (arith, p .ensures .0 .next, p .ensures .0 .fits, p .ensures .0 .same)))
-
-write-all-requires : tie.Need-write-all-requires
-write-all-requires c κs = search needs
+print-requires : tie.Need-print-requires
+print-requires c κs = search needs
 
 returns : tie.Need-returns
 unfolding byValue
 returns c =
-    let p = c .before .before .before in
-    in-zeros 192 (named _ _ (p .before .before .before .put-text .ensures) (p .put-number .ensures .0))
+    let p = c .before .before in
+    c .print .ensures ∙ in-zeros 192 (named _ _ (p .before .before .before .put-text .ensures) (p .put-number .ensures .0))
 
 pub print-named-spec : {M : Type 1} → statement M
 print-named-spec =
@@ -53,7 +44,5 @@ print-named-spec =
     put-text-requires
     slice-aggregate-put-number
     put-number-requires
-    array-share-prefix-line
-    slice-aggregate-write-all
-    write-all-requires
+    print-requires
     returns)

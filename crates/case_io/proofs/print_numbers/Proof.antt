@@ -1,12 +1,11 @@
 -- After i numbers the line starts with the text of the first i. Each takes at most 21 bytes, so all of them fit.
-use mathlib.Core.Path.{_≡_, refl, ap, sym, _∙_}
+use mathlib.Core.Path.{_≡_, refl, ap, _∙_}
 use mathlib.Core.Bool.{Bool, true, false, cond}
 use mathlib.Core.List.{List, [], _∷_, _++_, append-assoc}
 use Prim.Native.Nat.{ℕ, suc, _+_, _*_, _-_, _≤_}
 use native.Mathlib.Omega.{arith}
 use lib.Dec.{eqb}
 use lib.ListN.{length, getD, replicate}
-use lib.Seq.{length-take-le}
 use borrow.Author.Needs.{needs}
 use Rattle.reply_text.specs.Ascii.{ascii}
 use Rattle.reply_text.specs.Decimal.{digitsOf}
@@ -77,18 +76,12 @@ loop-again c =
     let l = p .before .before .before .before .before .loop in
     (omega arith, omega arith, omega arith, omega arith, turn _ _ _ (p .before .separator .ensures) (l .inv .4) (p .put-number .ensures .0))
 
-array-share-prefix-line : tie.Need-array-share-prefix-line Inv-loop μ-loop
-array-share-prefix-line c = omega arith
-
-slice-aggregate-write-all : tie.Need-slice-aggregate-write-all Inv-loop μ-loop
-slice-aggregate-write-all c = let l = c .before .before .loop in sym (length-take-le (l .at) (l .line) (omega arith))
-
-write-all-requires : tie.Need-write-all-requires Inv-loop μ-loop
-write-all-requires c κs = search needs
+print-requires : tie.Need-print-requires Inv-loop μ-loop
+print-requires c κs = search needs
 
 returns : tie.Need-returns Inv-loop μ-loop
 unfolding byValue numbersLine
-returns c = let l = c .before .before .before .loop in in-zeros 192 (being (ap (firstNumbers _) (omega arith)) refl (l .inv .4))
+returns c = let l = c .before .before .loop in c .print .ensures ∙ in-zeros 192 (being (ap (firstNumbers _) (omega arith)) refl (l .inv .4))
 
 pub print-numbers-spec : {M : Type 1} → statement M
 print-numbers-spec =
@@ -106,7 +99,5 @@ print-numbers-spec =
     add-i
     loop-less
     loop-again
-    array-share-prefix-line
-    slice-aggregate-write-all
-    write-all-requires
+    print-requires
     returns)
