@@ -12,7 +12,7 @@ use Rattle.layout.specs.Layout.{entryAt, Form, formOf, runLength, markOf}
 use Rattle.layout.specs.Layout.{foundationAt, baseAt, additionAt, discountAt, zerosAt, baseRatesAt}
 use Rattle.layout.specs.Layout.{ageInitialRatesAt, ageLongTermRatesAt, agePeriodsAt, ageProportionsAt}
 use Rattle.layout.specs.Layout.{birthYearInitialRatesAt, birthYearLongTermRatesAt, birthYearPeriodsAt, birthYearProportionsAt}
-use Rattle.layout.specs.Layout.{firstYear, lastFoundationYear, lastBaseYear, additionLimit, leastDiscount, greatestDiscount}
+use Rattle.layout.specs.Layout.{earliestYear, lastFoundationYear, lastBaseYear, additionLimit, leastDiscount, greatestDiscount}
 use Rattle.layout.specs.Layout.{rateLimit, longestPeriod, greatestProportion}
 use Rattle.basis.specs.declared.Convergence.{Convergence}
 
@@ -78,9 +78,9 @@ pub record ConvergenceLimits (c : Convergence) : Type 0 where
   pub remaining : c .remaining ≤ greatestProportion
 
 pub record Limited (b : Basis) : Type 0 where
-  pub foundation-low : firstYear ≤ b .foundation
+  pub foundation-low : earliestYear ≤ b .foundation
   pub foundation-high : b .foundation ≤ lastFoundationYear
-  pub base-low : firstYear ≤ b .base
+  pub base-low : earliestYear ≤ b .base
   pub base-high : b .base ≤ lastBaseYear
   pub addition : natAbs (b .addition) ≤ additionLimit
   pub discount-low : leastDiscount ≤ℤ b .discount

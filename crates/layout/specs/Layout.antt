@@ -103,8 +103,8 @@ birthYearProportionsAt form = birthYearPeriodsAt form + birthYears
 
 -- ---- the limits
 -- F from 1992 to 2080, B to 2130 (02, change 2)
-abbrev pub firstYear : ℕ
-firstYear = 1992
+abbrev pub earliestYear : ℕ
+earliestYear = 1992
 
 abbrev pub lastFoundationYear : ℕ
 lastFoundationYear = 2080

@@ -66,7 +66,7 @@ pub const BIRTH_YEAR_PROPORTIONS_AT: usize = BIRTH_YEAR_PERIODS_AT + BIRTH_YEARS
 pub const ZEROS: usize = BASE_RATES_AT - ZEROS_AT;
 
 // The limits.
-pub const FIRST_YEAR: i64 = 1992;
+pub const EARLIEST_YEAR: i64 = 1992;
 
 pub const LAST_FOUNDATION_YEAR: i64 = 2080;
 

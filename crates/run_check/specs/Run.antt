@@ -12,7 +12,7 @@ use Rattle.layout.specs.Layout.{Form, formOf, runLength, ages, birthYears}
 use Rattle.layout.specs.Layout.{foundationAt, baseAt, additionAt, discountAt, zerosAt, baseRatesAt}
 use Rattle.layout.specs.Layout.{ageInitialRatesAt, ageLongTermRatesAt, agePeriodsAt, ageProportionsAt}
 use Rattle.layout.specs.Layout.{birthYearInitialRatesAt, birthYearLongTermRatesAt, birthYearPeriodsAt, birthYearProportionsAt}
-use Rattle.layout.specs.Layout.{firstYear, lastFoundationYear, lastBaseYear, additionLimit, leastDiscount, greatestDiscount}
+use Rattle.layout.specs.Layout.{earliestYear, lastFoundationYear, lastBaseYear, additionLimit, leastDiscount, greatestDiscount}
 use Rattle.layout.specs.Layout.{rateLimit, longestPeriod, greatestProportion}
 use Rattle.field_check.specs.declared.Field.{Field}
 use Rattle.field_check.specs.Field.{field, fieldsCheck}
@@ -35,8 +35,8 @@ markFields form =
 -- F, B, the constant addition and the rate of discount
 abbrev pub singleFields : List Field
 singleFields =
-    field 5 Half (pos firstYear) (pos lastFoundationYear) foundationAt 1
-    ∷ field 5 Half (pos firstYear) (pos lastBaseYear) baseAt 1
+    field 5 Half (pos earliestYear) (pos lastFoundationYear) foundationAt 1
+    ∷ field 5 Half (pos earliestYear) (pos lastBaseYear) baseAt 1
     ∷ field 5 SignedWord (negℤ (pos additionLimit)) (pos additionLimit) additionAt 1
     ∷ field 5 SignedWord leastDiscount greatestDiscount discountAt 1
     ∷ []

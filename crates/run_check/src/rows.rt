@@ -79,14 +79,14 @@ pub(crate) fn check_single_fields(run: &[u8]) -> Check
     let foundation = check_number(
         run,
         Number::Half,
-        layout::FIRST_YEAR,
+        layout::EARLIEST_YEAR,
         layout::LAST_FOUNDATION_YEAR,
         layout::FOUNDATION_AT,
     );
     let base = check_number(
         run,
         Number::Half,
-        layout::FIRST_YEAR,
+        layout::EARLIEST_YEAR,
         layout::LAST_BASE_YEAR,
         layout::BASE_AT,
     );
