@@ -10,11 +10,11 @@ Inv-loop run history counter₀ end counter = counter ≤ end
 abbrev μ-loop : tie.MeasureT-loop
 μ-loop run history counter₀ end counter = end - counter
 
-slice-aggregate-read-bytes : tie.Need-slice-aggregate-read-bytes Inv-loop μ-loop
-slice-aggregate-read-bytes c = search needs
+slice-aggregate-read-full : tie.Need-slice-aggregate-read-full Inv-loop μ-loop
+slice-aggregate-read-full c = search needs
 
-read-bytes-requires : tie.Need-read-bytes-requires Inv-loop μ-loop
-read-bytes-requires c κs = search needs
+read-full-requires : tie.Need-read-full-requires Inv-loop μ-loop
+read-full-requires c κs = search needs
 
 slice-aggregate-read-u16 : tie.Need-slice-aggregate-read-u16 Inv-loop μ-loop
 slice-aggregate-read-u16 c = search needs
@@ -46,8 +46,8 @@ follow-all-spec =
     (tie.spec
     Inv-loop
     μ-loop
-    slice-aggregate-read-bytes
-    read-bytes-requires
+    slice-aggregate-read-full
+    read-full-requires
     slice-aggregate-read-u16
     read-u16-requires
     loop-holds
