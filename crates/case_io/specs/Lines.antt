@@ -1,4 +1,4 @@
--- The lines that the programs print which run the cases of the reference model.
+-- The lines printed by the programs that run the cases of the reference model.
 use Prim.Native.Nat.{ℕ, zero, suc, _-_}
 use mathlib.Core.Bool.{cond}
 use mathlib.Core.List.{List, [], _++_}
