@@ -19,13 +19,13 @@ use Rattle.valuation.proofs.Payments.{payment-value, paid-refused, refused-befo
 use Rattle.swept_points.specs.Inner.DeferredPayment.{deferredPayment}
 
 -- ---- the payment of a year
-pub payment-not-yet : (b : Basis) (from j : ℕ) (s : ℤ) → j < from → pos 0 ≡ deferredPayment b from j s
+pub payment-not-yet : (v : ℤ) (from j : ℕ) (s : ℤ) → j < from → pos 0 ≡ deferredPayment v from j s
 unfolding deferredPayment
-payment-not-yet b from j s l = rw (lt-ltb j from l) refl
+payment-not-yet v from j s l = rw (lt-ltb j from l) refl
 
-pub payment-made : (b : Basis) (from j : ℕ) (s : ℤ) → from ≤ j → payment (discountAfter b j) s ≡ deferredPayment b from j s
+pub payment-made : (v : ℤ) (from j : ℕ) (s : ℤ) → from ≤ j → payment v s ≡ deferredPayment v from j s
 unfolding deferredPayment
-payment-made b from j s l = rw (le-ltb j from l) refl
+payment-made v from j s l = rw (le-ltb j from l) refl
 
 -- ---- all years
 module _ (b : Basis) (kind : Kind) (age from year : ℕ) where
@@ -34,13 +34,13 @@ module _ (b : Basis) (kind : Kind) (age from year : ℕ) where
   Made n total = sumOf (λ k. paymentAfter b kind age (from + k) year) n ≡ value (pos total)
 
   -- with the payment after j years
-  made-next : (j total s p : ℕ) → Made (j - from) total → survivorsOf b kind age j year ≡ value (pos s) → pos p ≡ deferredPayment b from j (pos s) → Made (suc j - from) (total + p)
+  made-next : (j total s p : ℕ) → Made (j - from) total → survivorsOf b kind age j year ≡ value (pos s) → pos p ≡ deferredPayment (discountAfter b j) from j (pos s) → Made (suc j - from) (total + p)
   made-next j total s p m h d = by (decLt j from)
     where
       by : Dec (j < from) → Made (suc j - from) (total + p)
       by (yes l) =
           let e : suc j - from ≡ j - from = omega arith in
-          let z : pos p ≡ pos 0 = d ∙ sym (payment-not-yet b from j (pos s) l) in
+          let z : pos p ≡ pos 0 = d ∙ sym (payment-not-yet (discountAfter b j) from j (pos s) l) in
           let q : p ≡ 0 = cc in
           let f : total + p ≡ total = omega arith in
           rw (e, f) m
@@ -48,7 +48,7 @@ module _ (b : Basis) (kind : Kind) (age from year : ℕ) where
           let e : suc j - from ≡ suc (j - from) = omega arith in
           let f : from + (j - from) ≡ j = omega arith in
           let paid = payment-value b kind age from year j (pos s) (discountAfter b j) h refl in
-          let last = d ∙ sym (payment-made b from j (pos s) (omega arith)) in
+          let last = d ∙ sym (payment-made (discountAfter b j) from j (pos s) (omega arith)) in
           rw e
           (sum-next (λ k. paymentAfter b kind age (from + k) year) (j - from) (pos total) (pos p) m
           (ap (λ j. paymentAfter b kind age j year) f ∙ paid ∙ ap value (sym last)))
@@ -60,7 +60,7 @@ pub record SoFar (b : Basis) (kind : Kind) (age from year j s lives payments : �
   pub made : Made b kind age from year (suc j - from) payments
 
 module _ (b : Basis) (kind : Kind) (age from year : ℕ) where
-  pub so-far-first : (p : ℕ) → (pos p ≡ deferredPayment b from 0 (pos U)) × (p ≤ 4 * U) → SoFar b kind age from year 0 U 0 p
+  pub so-far-first : (p : ℕ) → (pos p ≡ deferredPayment (discountAfter b 0) from 0 (pos U)) × (p ≤ 4 * U) → SoFar b kind age from year 0 U 0 p
   so-far-first p d =
       let living = living-first b kind age year in
       let z : 0 - from ≡ 0 = omega arith in
@@ -73,7 +73,7 @@ module _ (b : Basis) (kind : Kind) (age from year : ℕ) where
 
   pub so-far-next : (j s lives payments x p : ℕ) {at : ℕ} → SoFar b kind age from year j s lives payments → at ≡ yearOn kind j year
       → value (pos x) ≡ survivorsAfterYear b (age + j) at (pos s) →
-      (pos p ≡ deferredPayment b from (j + 1) (pos x)) × (p ≤ 4 * U) → SoFar b kind age from year (j + 1) x (lives + x) (payments + p)
+      (pos p ≡ deferredPayment (discountAfter b (j + 1)) from (j + 1) (pos x)) × (p ≤ 4 * U) → SoFar b kind age from year (j + 1) x (lives + x) (payments + p)
   so-far-next j s lives payments x p i e g d =
       let living = living-next b kind age year j s lives x (i .living) e g in
       let f : suc j ≡ j + 1 = omega arith in

@@ -38,22 +38,15 @@ fn survivors_after_year(
     survivorship::survivors_by(projection::rate::rate_by(run, age, factor), s)
 }
 
-// The payment after j years to the survivors: none before the deferment's end.
-fn deferred_payment(
-    run: &[u8],
-    history: &[u8],
-    table: &[u32],
-    deferment: u32,
-    j: u32,
-    s: u64,
-) -> u64
-    requires { ⌜ Workable (now run) (now history) × FactorTable (basisWith (now run) (now history)) (now table) × (j ≤ 130) × (s ≤ 1_000_000_000) ⌝ }
-    ensures { λ r. ⌜ (pos r ≡ deferredPayment (basisWith (now (run .entry)) (now (history .entry))) deferment j (pos s)) × (r ≤ 4_000_000_000) ⌝ }
+// The payment after j years to the survivors, by the discount of these years: none before the deferment's end.
+fn deferred_payment(discount: u64, deferment: u32, j: u32, s: u64) -> u64
+    requires { ⌜ (discount ≤ 4_000_000_000) × (s ≤ 1_000_000_000) ⌝ }
+    ensures { λ r. ⌜ (pos r ≡ deferredPayment (pos discount) deferment j (pos s)) × (r ≤ 4_000_000_000) ⌝ }
 {
     if j < deferment {
         return 0;
     }
-    valuation::annuity::payment(factor_table::discounts::discount(table, j), s)
+    valuation::annuity::payment(discount, s)
 }
 
 // From an age in a year to age 150, with an annuity whose payments begin after a deferment.
@@ -75,7 +68,7 @@ pub fn life_values_from(
     let mut s: u64 = UNIT;
     let mut j: u32 = 0;
     let mut lives: u64 = 0;
-    let mut payments = deferred_payment(run, history, table, deferment, 0, UNIT);
+    let mut payments = deferred_payment(factor_table::discounts::discount(table, 0), deferment, 0, UNIT);
     while j < last {
         match survivors_after_year(
             run,
@@ -92,7 +85,7 @@ pub fn life_values_from(
         }
         j += 1;
         lives += s;
-        payments += deferred_payment(run, history, table, deferment, j, s);
+        payments += deferred_payment(factor_table::discounts::discount(table, j), deferment, j, s);
     }
     LifeValues::Values(HALF_UNIT + lives, payments)
 }

@@ -3,9 +3,8 @@ use Prim.Native.Nat.{ℕ}
 use mathlib.Core.Bool.{cond}
 use lib.Dec.{ltb}
 use lib.IntN.{ℤ, pos}
-use Rattle.basis.specs.Basis.{Basis}
-use Rattle.valuation.specs.Valuation.{discountAfter, payment}
+use Rattle.valuation.specs.Valuation.{payment}
 
--- nothing before the deferment's end, then the payment
-unfoldable pub deferredPayment : Basis → ℕ → ℕ → ℤ → ℤ
-deferredPayment b deferment j s = cond (ltb j deferment) (pos 0) (payment (discountAfter b j) s)
+-- by the discount of j years: nothing before the deferment's end, then the payment
+unfoldable pub deferredPayment : ℤ → ℕ → ℕ → ℤ → ℤ
+deferredPayment discount deferment j s = cond (ltb j deferment) (pos 0) (payment discount s)
