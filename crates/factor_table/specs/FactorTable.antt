@@ -2,10 +2,12 @@
 use mathlib.Core.Path.{_≡_}
 use mathlib.Core.List.{List}
 use Prim.Native.Nat.{ℕ, _+_, _*_, _-_, _≤_, _<_}
-use lib.IntN.{pos}
+use lib.IntN.{ℤ, pos}
 use lib.ListN.{length, getD}
 use Rattle.basis.specs.Basis.{Basis}
 use Rattle.history.specs.History.{basisWith, Workable}
+use Rattle.outcome.specs.Outcome.{Outcome}
+use Rattle.projection.specs.Projection.{yearsTo}
 use Rattle.sweep.specs.Sweep.{sweepAfter}
 use Rattle.sweep.specs.Encoding.{decoded}
 use Rattle.valuation.specs.Valuation.{discountAfter}
@@ -28,6 +30,10 @@ YearsStored b numbers n = (k i : ℕ) → k < n → i < 131 → decoded (20 + i)
 -- with B after 1992 there are fewer years than have room: 0 in the rest of it
 abbrev pub RestIsZero : Basis → List ℕ → Type 0
 RestIsZero b numbers = (i : ℕ) → 131 * tableYears b ≤ i → i < factorsLength → getD numbers i 0 ≡ 0
+
+-- what stands in the table for an age in a year from B on
+abbrev pub storedFactor : Basis → List ℕ → ℕ → ℕ → Outcome ℤ
+storedFactor b numbers age year = decoded age (getD numbers (131 * yearsTo b year + (age - 20)) 0)
 
 -- what stands behind the factors, by the years of discount
 abbrev pub storedDiscount : List ℕ → ℕ → ℕ

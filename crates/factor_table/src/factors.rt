@@ -3,11 +3,10 @@ ghost use mathlib.Core.Path.{_≡_};
 ghost use Prim.Native.Nat.{_+_, _*_, _≤_};
 ghost use lib.ListN.{length};
 ghost use Rattle.outcome.specs.Outcome.{meaning};
-ghost use Rattle.history.specs.Checked.{Cell};
+ghost use Rattle.basis.specs.Basis.{basisOf, Accepted};
 ghost use Rattle.history.specs.History.{basisWith, Workable};
-ghost use Rattle.projection.specs.Projection.{factorOf};
 ghost use Rattle.factor_table.specs.Inner.Storing.{StandsAt, KeptBefore};
-ghost use Rattle.factor_table.specs.FactorTable.{tableYears, tableLength, YearsStored, RestIsZero, FactorTable};
+ghost use Rattle.factor_table.specs.FactorTable.{tableYears, tableLength, storedFactor, YearsStored, RestIsZero};
 use crate::FACTORS_LENGTH;
 use outcome::Answer;
 
@@ -57,10 +56,10 @@ pub(crate) fn clear_rest(run: &[u8], history: &[u8], numbers: &mut [u32])
     }
 }
 
-// The factor at an age in a year from B on.
-pub fn factor(run: &[u8], history: &[u8], numbers: &[u32], age: u32, year: u32) -> Answer
-    requires { ⌜ Cell (now run) (now history) age year × FactorTable (basisWith (now run) (now history)) (now numbers) ⌝ }
-    ensures { λ r. ⌜ meaning r ≡ factorOf (basisWith (now (run .entry)) (now (history .entry))) age year ⌝ }
+// What stands in the table for an age in a year from B on.
+pub fn factor(run: &[u8], numbers: &[u32], age: u32, year: u32) -> Answer
+    requires { ⌜ Accepted (now run) × (20 ≤ age) × (age ≤ 150) × (basisOf (now run) .base ≤ year) × (length (now numbers) ≡ tableLength) ⌝ }
+    ensures { λ r. ⌜ meaning r ≡ storedFactor (basisOf (now (run .entry))) (now (numbers .entry)) age year ⌝ }
 {
     let k = projection::factor::held_year(year) - basis::fields::base_year(run);
     let at = (131 * k + (age - 20)) as usize;

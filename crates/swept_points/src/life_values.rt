@@ -34,7 +34,7 @@ fn survivors_after_year(
     requires { ⌜ Cell (now run) (now history) age year × FactorTable (basisWith (now run) (now history)) (now table) × (s ≤ 1_000_000_000) ⌝ }
     ensures { λ r. ⌜ meaning r ≡ survivorsAfterYear (basisWith (now (run .entry)) (now (history .entry))) age year (pos s) ⌝ }
 {
-    let factor = factor_table::factors::factor(run, history, table, age, year);
+    let factor = factor_table::factors::factor(run, table, age, year);
     survivorship::survivors_by(projection::rate::rate_by(run, age, factor), s)
 }
 
@@ -68,7 +68,12 @@ pub fn life_values_from(
     let mut s: u64 = UNIT;
     let mut j: u32 = 0;
     let mut lives: u64 = 0;
-    let mut payments = deferred_payment(factor_table::discounts::discount(table, 0), deferment, 0, UNIT);
+    let mut payments = deferred_payment(
+        factor_table::discounts::discount(table, 0),
+        deferment,
+        0,
+        UNIT,
+    );
     while j < last {
         match survivors_after_year(
             run,

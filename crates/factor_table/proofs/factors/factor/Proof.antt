@@ -1,10 +1,16 @@
--- The number at the held year and the age is that of the sweep, and so the direct engine's factor.
-use mathlib.Core.Path.{_∙_}
-use Prim.Native.Nat.{_+_, _*_, _-_, _≤_, _<_}
+-- The number at the held year and the age is read: the place of the definition.
+use mathlib.Core.Path.{_∙_, ap}
+use Prim.Native.Nat.{ℕ, _+_, _*_, _-_, _≤_, _<_}
+use lib.IntN.{ℤ}
+use lib.ListN.{getD}
 use native.Mathlib.Omega.{arith}
 use borrow.Author.Needs.{needs}
 use Rattle.factor_table.specs.FactorTable.{factorsLength}
-use Rattle.factor_table.proofs.Reading.{within, stored-factor}
+use Rattle.basis.specs.Basis.{basisOf}
+use Rattle.outcome.specs.Outcome.{Outcome}
+use Rattle.projection.specs.Projection.{heldYear}
+use Rattle.sweep.specs.Encoding.{decoded}
+use Rattle.factor_table.proofs.Reading.{within}
 use Rattle.factor_table.proofs.factors.factor.Statement.{statement}
 use Rattle.factor_table.proofs.factors.factor.Tie as tie
 
@@ -18,12 +24,12 @@ base-year-requires c κs = search needs
 place : (c : tie.After-base-year) →
     let n = c .before .held-year .result in
     let base = c .base-year .result in
-    let age = c .before .before .before .before .before .args .age in
+    let age = c .before .before .before .before .args .age in
     (base ≤ n) × (n ≤ 2130) × (131 * (n - base) + (age - 20) < factorsLength)
 place c =
-    let s = c .before .before .before .before .before in
+    let s = c .before .before .before .before in
     let a = s .args in
-    within (a .run .now) (a .history .now) (a .numbers .now) (a .age) (a .year) (s .pre .0) (s .pre .1) _ _ (c .before .held-year .ensures) (c .base-year .ensures)
+    within (basisOf (a .run .now)) (s .pre .0 .limits) (a .age) (a .year) (s .pre .2) (s .pre .3) _ _ (c .before .held-year .ensures) (c .base-year .ensures)
 
 sub-k : tie.Need-sub-k
 sub-k c = place c .0
@@ -44,7 +50,7 @@ mul-decoded : tie.Need-mul-decoded
 mul-decoded c = search needs
 
 shared-slice-read-decoded : tie.Need-shared-slice-read-decoded
-shared-slice-read-decoded c = omega (arith, place (c .before) .2, c .before .before .before .before .before .before .pre .1 .size)
+shared-slice-read-decoded c = omega (arith, place (c .before) .2, c .before .before .before .before .before .pre .4)
 
 decoded-requires : tie.Need-decoded-requires
 decoded-requires c κs = search needs
@@ -52,10 +58,10 @@ decoded-requires c κs = search needs
 returns : tie.Need-returns
 returns c =
     let y = c .before .before in
-    let s = y .before .before .before .before .before in
+    let s = y .before .before .before .before in
     let a = s .args in
-    c .decoded .ensures
-    ∙ stored-factor (a .run .now) (a .history .now) (a .numbers .now) (a .age) (a .year) (s .pre .0) (s .pre .1) _ _ (y .before .held-year .ensures) (y .base-year .ensures)
+    let at : ℕ → ℕ → Outcome ℤ = λ n base. decoded (a .age) (getD (a .numbers .now) (131 * (n - base) + (a .age - 20)) 0) in
+    c .decoded .ensures ∙ ap (λ (n : ℕ). at n (y .base-year .result)) (y .before .held-year .ensures) ∙ ap (at (heldYear (a .year))) (y .base-year .ensures)
 
 pub factor-spec : {M : Type 1} → statement M
 factor-spec =
