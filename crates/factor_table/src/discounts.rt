@@ -2,15 +2,15 @@
 ghost use mathlib.Core.Path.{_≡_};
 ghost use Prim.Native.Nat.{_≤_};
 ghost use lib.ListN.{length};
-ghost use Rattle.history.specs.History.{basisWith, Workable};
+ghost use Rattle.basis.specs.Basis.{basisOf, Accepted};
 ghost use Rattle.factor_table.specs.Inner.Storing.{KeptBefore};
 ghost use Rattle.factor_table.specs.FactorTable.{factorsLength, tableLength, storedDiscount, DiscountsStored};
 use crate::FACTORS_LENGTH;
 use arithmetic::UNIT;
 
-pub(crate) fn store_discounts(run: &[u8], history: &[u8], numbers: &mut [u32])
-    requires { ⌜ Workable (now run) (now history) × (length (now numbers) ≡ tableLength) ⌝ }
-    ensures { λ _. ⌜ DiscountsStored (basisWith (now (run .entry)) (now (history .entry))) (now (numbers .exit)) 131 ⌝ }
+pub(crate) fn store_discounts(run: &[u8], numbers: &mut [u32])
+    requires { ⌜ Accepted (now run) × (length (now numbers) ≡ tableLength) ⌝ }
+    ensures { λ _. ⌜ DiscountsStored (basisOf (now (run .entry))) (now (numbers .exit)) 131 ⌝ }
     ensures { λ _. ⌜ KeptBefore factorsLength (now (numbers .entry)) (now (numbers .exit)) ⌝ }
 {
     let accumulation = basis::fields::accumulation(run);

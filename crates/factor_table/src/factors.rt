@@ -43,10 +43,10 @@ pub(crate) fn store_years(run: &[u8], history: &[u8], numbers: &mut [u32])
 }
 
 // The room that no year takes.
-pub(crate) fn clear_rest(run: &[u8], history: &[u8], numbers: &mut [u32])
-    requires { ⌜ Workable (now run) (now history) × (length (now numbers) ≡ tableLength) ⌝ }
-    ensures { λ _. ⌜ RestIsZero (basisWith (now (run .entry)) (now (history .entry))) (now (numbers .exit)) ⌝ }
-    ensures { λ _. ⌜ KeptBefore (131 * (tableYears (basisWith (now (run .entry)) (now (history .entry))))) (now (numbers .entry)) (now (numbers .exit)) ⌝ }
+pub(crate) fn clear_rest(run: &[u8], numbers: &mut [u32])
+    requires { ⌜ Accepted (now run) × (length (now numbers) ≡ tableLength) ⌝ }
+    ensures { λ _. ⌜ RestIsZero (basisOf (now (run .entry))) (now (numbers .exit)) ⌝ }
+    ensures { λ _. ⌜ KeptBefore (131 * (tableYears (basisOf (now (run .entry))))) (now (numbers .entry)) (now (numbers .exit)) ⌝ }
 {
     let years = AFTER_LAST_YEAR - basis::fields::base_year(run);
     let mut at: usize = 131 * years as usize;

@@ -20,6 +20,6 @@ pub fn fill_table(run: &[u8], history: &[u8], numbers: &mut [u32])
     ensures { λ _. ⌜ FactorTable (basisWith (now (run .entry)) (now (history .entry))) (now (numbers .exit)) ⌝ }
 {
     factors::store_years(run, history, numbers);
-    factors::clear_rest(run, history, numbers);
-    discounts::store_discounts(run, history, numbers);
+    factors::clear_rest(run, numbers);
+    discounts::store_discounts(run, numbers);
 }

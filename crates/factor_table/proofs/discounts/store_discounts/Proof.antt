@@ -1,9 +1,8 @@
 -- After j turns the first j discounts are stored, and v is the next one.
-use mathlib.Core.Path.{_≡_, _∙_}
+use mathlib.Core.Path.{_≡_}
 use Prim.Native.Nat.{_-_, _≤_}
 use native.Mathlib.Omega.{arith}
-use Rattle.history.specs.History.{basisWith}
-use Rattle.history.proofs.With.{accumulation-with, limits-with}
+use Rattle.basis.specs.Basis.{basisOf}
 use Rattle.valuation.proofs.Discount.{discount-ranges}
 use Rattle.factor_table.proofs.Discounting.{Discounted, discounted-none, discounted-next}
 use borrow.Author.Needs.{needs}
@@ -11,24 +10,24 @@ use Rattle.factor_table.proofs.discounts.store_discounts.Statement.{sta
 use Rattle.factor_table.proofs.discounts.store_discounts.Tie as tie
 
 abbrev Inv-loop : tie.InvT-loop
-Inv-loop run history numbers₀ accumulation v₀ j₀ numbers v j = (j ≤ 131) × Discounted (basisWith run history) numbers₀ numbers j v
+Inv-loop run numbers₀ accumulation v₀ j₀ numbers v j = (j ≤ 131) × Discounted (basisOf run) numbers₀ numbers j v
 
 abbrev μ-loop : tie.MeasureT-loop
-μ-loop run history numbers₀ accumulation v₀ j₀ numbers v j = 131 - j
+μ-loop run numbers₀ accumulation v₀ j₀ numbers v j = 131 - j
 
 accumulation-requires : tie.Need-accumulation-requires Inv-loop μ-loop
 accumulation-requires c κs = search needs
 
 loop-holds : tie.Need-loop-holds Inv-loop μ-loop
-loop-holds c = let a = c .before .before .before .before .args in (omega arith, discounted-none (basisWith (a .run .now) (a .history .now)) (a .numbers .now))
+loop-holds c = let a = c .before .before .before .args in (omega arith, discounted-none (basisOf (a .run .now)) (a .numbers .now))
 
 cast-numbers : tie.Need-cast-numbers Inv-loop μ-loop
 cast-numbers c =
     let l = c .before in
-    let s = l .before .before .before .before .before in
-    let b = basisWith (s .args .run .now) (s .args .history .now) in
-    let e = l .before .accumulation .ensures ∙ accumulation-with (s .args .run .now) (s .args .history .now) in
-    let ranges = discount-ranges b (limits-with (s .pre .0)) (l .loop .j) (l .loop .v) (omega arith) (l .loop .inv .1 .next) e in
+    let s = l .before .before .before .before in
+    let b = basisOf (s .args .run .now) in
+    let e = l .before .accumulation .ensures in
+    let ranges = discount-ranges b (s .pre .0 .limits) (l .loop .j) (l .loop .v) (omega arith) (l .loop .inv .1 .next) e in
     record { fits = omega (arith, ranges .0) }
 
 add-numbers : tie.Need-add-numbers Inv-loop μ-loop
@@ -43,10 +42,10 @@ slice-write-numbers c = search needs
 discount-next-requires : tie.Need-discount-next-requires Inv-loop μ-loop
 discount-next-requires c κs =
     let l = c .before in
-    let s = l .before .before .before .before .before in
-    let b = basisWith (s .args .run .now) (s .args .history .now) in
-    let e = l .before .accumulation .ensures ∙ accumulation-with (s .args .run .now) (s .args .history .now) in
-    let ranges = discount-ranges b (limits-with (s .pre .0)) (l .loop .j) (l .loop .v) (omega arith) (l .loop .inv .1 .next) e in
+    let s = l .before .before .before .before in
+    let b = basisOf (s .args .run .now) in
+    let e = l .before .accumulation .ensures in
+    let ranges = discount-ranges b (s .pre .0 .limits) (l .loop .j) (l .loop .v) (omega arith) (l .loop .inv .1 .next) e in
     ranges
 
 add-j : tie.Need-add-j Inv-loop μ-loop
@@ -58,9 +57,9 @@ loop-less c = search needs
 loop-again : tie.Need-loop-again Inv-loop μ-loop
 loop-again c =
     let l = c .before .before in
-    let s = l .before .before .before .before .before in
-    let b = basisWith (s .args .run .now) (s .args .history .now) in
-    let e = l .before .accumulation .ensures ∙ accumulation-with (s .args .run .now) (s .args .history .now) in (
+    let s = l .before .before .before .before in
+    let b = basisOf (s .args .run .now) in
+    let e = l .before .accumulation .ensures in (
       omega arith,
       discounted-next b (s .args .numbers .now) (l .loop .numbers) (l .loop .j) (l .loop .v) (c .discount-next .result)
           (omega (arith, s .pre .1)) e (l .loop .inv .1) (c .discount-next .ensures),

@@ -3,24 +3,24 @@ use mathlib.Core.Path.{_≡_}
 use Prim.Native.Nat.{_*_, _-_, _≤_}
 use native.Mathlib.Omega.{arith}
 use borrow.Author.Needs.{needs}
-use Rattle.history.specs.History.{basisWith}
+use Rattle.basis.specs.Basis.{basisOf}
 use Rattle.factor_table.specs.FactorTable.{tableYears, factorsLength}
 use Rattle.factor_table.proofs.Clearing.{Cleared, cleared-none, cleared-next}
 use Rattle.factor_table.proofs.factors.clear_rest.Statement.{statement}
 use Rattle.factor_table.proofs.factors.clear_rest.Tie as tie
 
 abbrev Inv-loop : tie.InvT-loop
-Inv-loop run history numbers₀ years at₀ numbers at =
-    (131 * tableYears (basisWith run history) ≤ at) × (at ≤ factorsLength) × Cleared (131 * tableYears (basisWith run history)) numbers₀ numbers at
+Inv-loop run numbers₀ years at₀ numbers at =
+    (131 * tableYears (basisOf run) ≤ at) × (at ≤ factorsLength) × Cleared (131 * tableYears (basisOf run)) numbers₀ numbers at
 
 abbrev μ-loop : tie.MeasureT-loop
-μ-loop run history numbers₀ years at₀ numbers at = factorsLength - at
+μ-loop run numbers₀ years at₀ numbers at = factorsLength - at
 
 base-year-requires : tie.Need-base-year-requires Inv-loop μ-loop
 base-year-requires c κs = search needs
 
 sub-years : tie.Need-sub-years Inv-loop μ-loop
-sub-years c = omega (arith, c .base-year .ensures, c .before .before .before .before .pre .0 .basis .limits .base-high)
+sub-years c = omega (arith, c .base-year .ensures, c .before .before .before .pre .0 .limits .base-high)
 
 cast-at : tie.Need-cast-at Inv-loop μ-loop
 cast-at c = search needs
@@ -30,16 +30,16 @@ mul-at c = search needs
 
 loop-holds : tie.Need-loop-holds Inv-loop μ-loop
 loop-holds c =
-    let s = c .before .before .before .before in
-    let b = basisWith (s .args .run .now) (s .args .history .now) in
+    let s = c .before .before .before in
+    let b = basisOf (s .args .run .now) in
     let e : 131 * (2131 - c .base-year .result) ≡ 131 * tableYears b = omega (arith, c .base-year .ensures) in
-    rw e (omega arith, omega (arith, s .pre .0 .basis .limits .base-low), cleared-none (131 * tableYears b) (s .args .numbers .now))
+    rw e (omega arith, omega (arith, s .pre .0 .limits .base-low), cleared-none (131 * tableYears b) (s .args .numbers .now))
 
 mul-numbers : tie.Need-mul-numbers Inv-loop μ-loop
 mul-numbers c = search needs
 
 slice-write-numbers : tie.Need-slice-write-numbers Inv-loop μ-loop
-slice-write-numbers c = omega (arith, c .before .loop .inv .2 .same, c .before .before .before .before .before .before .pre .1)
+slice-write-numbers c = omega (arith, c .before .loop .inv .2 .same, c .before .before .before .before .before .pre .1)
 
 add-at : tie.Need-add-at Inv-loop μ-loop
 add-at c = search needs
@@ -50,8 +50,8 @@ loop-less c = search needs
 loop-again : tie.Need-loop-again Inv-loop μ-loop
 loop-again c =
     let l = c .before in
-    let s = l .before .before .before .before .before in
-    let b = basisWith (s .args .run .now) (s .args .history .now) in (
+    let s = l .before .before .before .before in
+    let b = basisOf (s .args .run .now) in (
       omega arith,
       omega arith,
       cleared-next (131 * tableYears b) (s .args .numbers .now) (l .loop .numbers) (l .loop .at) (l .loop .inv .0)
