@@ -23,6 +23,7 @@ use Rattle.enquiry.specs.Enquiry.{valuationCheck, improvementEnquiry, factorEnq
 use Rattle.enquiry.proofs.Passed.{cell-passed, improved-passed, valuation-passed}
 use Rattle.exact.specs.Model.{exactAnnuity}
 use Rattle.exact.specs.Distance.{ImprovingOver, largestYears, rateDistance, annuityDistance, WithinQuarters, Demand3}
+use Rattle.exact.proofs.LimitedLife.{of-cell, of-life}
 use Rattle.exact.proofs.Improvement.{improvement-within}
 use Rattle.exact.proofs.Factor.{factor-within, rate-within}
 use Rattle.exact.proofs.Survivors.{survived}
@@ -47,7 +48,7 @@ annuity-answered run history w once worth kind age deferment year a answered imp
     let N = 150 - age in
     let h = checked-value (valuationCheck run history age deferment year) (annuityOf b kind age deferment year) a answered in
     let p = valuation-passed run history age deferment year (h .0) in
-    annuity-within b kind age deferment year (rateDistance b (largestYears b kind N year)) (limits-with (p .usable)) (p .age-low) (p .age-high) improving
+    annuity-within b kind age deferment year (rateDistance b (largestYears b kind N year)) (of-life p) improving
     (largest-distance b kind year N) w once (worth (limits-with (p .usable))) a (h .1)
 
 pub demand-3 : (run history : List ℕ) → Demand3 run history
@@ -67,22 +68,22 @@ demand-3 run history =
       factor = λ age year f answered improving.
           let h = checked-value (firstOf (runAndHistoryCheck run history) (cellCheck (b .base) age year)) (factorOf b age year) f answered in
           let p = cell-passed run history (b .base) age year (omega arith) (h .0) in
-          within-more (factor-within b age year (limits-with (p .usable)) (p .age-low) (p .age-high) improving f (h .1)) (omega arith);
+          within-more (factor-within b age year (of-cell p) improving f (h .1)) (omega arith);
       rate = λ age year q answered improving.
           let h = checked-value (firstOf (runAndHistoryCheck run history) (cellCheck (ratedFrom b) age year)) (rateOf b age year) q answered in
           let p = cell-passed run history (ratedFrom b) age year (rated-late b) (h .0) in
-          within-more (rate-within b age year (limits-with (p .usable)) (p .age-low) (p .age-high) improving q (h .1)) (omega arith);
+          within-more (rate-within b age year (of-cell p) improving q (h .1)) (omega arith);
       survivorship = λ kind age n year s answered improving.
           let h = checked-value (valuationCheck run history age n year) (survivorsOf b kind age n year) s answered in
           let p = valuation-passed run history age n year (h .0) in
           let r = rateDistance b (largestYears b kind n year) in
-          within-more (survived b kind age year r n (limits-with (p .usable)) (p .age-low) (p .age-high) improving (largest-distance b kind year n) s (h .1) .near) (omega arith);
+          within-more (survived b kind age year r n (of-life p) improving (largest-distance b kind year n) s (h .1) .near) (omega arith);
       expectation = λ kind age deferment year e answered improving.
           let h = checked-value (valuationCheck run history age deferment year) (expectationOf b kind age deferment year) e answered in
           let p = valuation-passed run history age deferment year (h .0) in
           let N = 150 - age - deferment in
           quarters-more
-          (expectation-within b kind age deferment year (rateDistance b (largestYears b kind N (year + deferment))) (limits-with (p .usable)) (p .age-low) (p .age-high) improving
+          (expectation-within b kind age deferment year (rateDistance b (largestYears b kind N (year + deferment))) (of-life p) improving
           (largest-distance b kind (year + deferment) N) e (h .1))
           (omega arith);
       annuity = λ sign kind age deferment year a answered improving.

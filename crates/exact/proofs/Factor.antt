@@ -8,7 +8,7 @@ use Rattle.arithmetic.specs.Fraction.{Within, U}
 use Rattle.arithmetic.proofs.Distance.{within-whole, within-more, within-difference, within-product, within-lesser}
 use Rattle.arithmetic.proofs.UnitRange.{InUnit, unit-whole, unit-abs, unit-mul, unit-rest, unit-lesser}
 use Rattle.arithmetic.proofs.Chain.{Chained, chained-first, chained-next}
-use Rattle.basis.specs.Basis.{Basis, ConvergenceLimits, Limited}
+use Rattle.basis.specs.Basis.{Basis, ConvergenceLimits}
 use Rattle.outcome.specs.Outcome.{value}
 use Rattle.outcome.proofs.Outcome.{along, came}
 use Rattle.improvement.specs.Improvement.{improvementOf}
@@ -17,6 +17,7 @@ use Rattle.projection.proofs.Cases.{year-value, held-late}
 use Rattle.improvement.proofs.Cases.{usable-abs}
 use Rattle.exact.specs.Model.{exactImprovement, exactFactorAfter, exactFactor, exactRate}
 use Rattle.exact.specs.Distance.{NotBelowZero, Improving, rateDistance}
+use Rattle.exact.proofs.LimitedLife.{LimitedLife}
 use Rattle.exact.proofs.Improvement.{improvement-within, improvement-natural, rest-small, unit-near}
 
 -- what is known of a factor k years after B
@@ -36,7 +37,10 @@ module _ (b : Basis) (age k : ℕ) (f : ℤ) (byAge : ConvergenceLimits (b .byAg
       chained-next c (rest-small i U i⁺ (omega arith)) (unit-rest (unit-near i (exactImprovement b age year) (omega arith) premise near))
       (within-difference (within-whole (pos U)) near)
 
-module _ (b : Basis) (age year : ℕ) (limits : Limited b) (low : 20 ≤ age) (high : age ≤ 150) (improving : Improving b age year) where
+module _ (b : Basis) (age year : ℕ) (life : LimitedLife b age 0) (improving : Improving b age year) where
+  high : age ≤ 150
+  high = omega (arith, life .age-high)
+
   factored : (f : ℤ) → factorOf b age year ≡ value f → Factored b age (yearsTo b year) f
   unfolding factorOf exactFactorAfter
   factored f h =
@@ -46,8 +50,8 @@ module _ (b : Basis) (age year : ℕ) (limits : Limited b) (low : 20 ≤ age) (h
       let y = year-value age t (improvementOf b age t) a g q in
       let late = held-late year in
       rw (y .1)
-      (factored-next b age k a (limits .byAge age low high)
-      (limits .byBirthYear (t - age) (omega (arith, limits .base-low)) (omega arith))
+      (factored-next b age k a (life .limits .byAge age (life .age-low) high)
+      (life .limits .byBirthYear (t - age) (omega (arith, life .limits .base-low, high)) (omega (arith, life .age-low, late)))
       (improving t (omega arith) (omega arith)) (usable-abs (improvementOf b age t) (y .0)) c))
       f h
 
@@ -65,11 +69,11 @@ module _ (b : Basis) (age year : ℕ) (limits : Limited b) (low : 20 ≤ age) (h
       let e : rateFrom b age (w .0) ≡ q = cc in
       rw (← e)
       (within-lesser (within-more (within-whole (pos U)) (omega arith))
-      (within-more (within-product U (omega arith) (within-whole (pos (b .baseRate age))) (c .near) (limits .baseRate age low high) (unit-abs (c .unit))) (omega arith)))
+      (within-more (within-product U (omega arith) (within-whole (pos (b .baseRate age))) (c .near) (life .limits .baseRate age (life .age-low) high) (unit-abs (c .unit))) (omega arith)))
 
   -- an exact rate lies from 0 to U
   pub rate-unit : (q : ℤ) → rateOf b age year ≡ value q → InUnit (exactRate b age year)
   unfolding rateOf exactRate exactFactor
   rate-unit q h =
       let w = came (factorOf b age year) (λ f. value (rateFrom b age f)) q h in
-      unit-lesser (unit-whole U (omega arith)) (unit-mul (unit-whole (b .baseRate age) (limits .baseRate age low high)) (factored (w .0) (w .1) .unit))
+      unit-lesser (unit-whole U (omega arith)) (unit-mul (unit-whole (b .baseRate age) (life .limits .baseRate age (life .age-low) high)) (factored (w .0) (w .1) .unit))

@@ -1,3 +1,4 @@
+pub mod LimitedLife
 pub mod Improvement
 pub mod Factor
 pub mod Survivors

@@ -10,7 +10,7 @@ use Rattle.arithmetic.specs.Fraction.{Fraction, Within, sumᶠ, U}
 use Rattle.arithmetic.proofs.Distance.{within-whole, within-more, within-sum, within-product-times}
 use Rattle.arithmetic.proofs.UnitRange.{unit-abs}
 use Rattle.arithmetic.proofs.Sums.{sumℕ, total-first, total-next, sum-linear, sum-tail}
-use Rattle.basis.specs.Basis.{Basis, Limited}
+use Rattle.basis.specs.Basis.{Basis}
 use Rattle.outcome.specs.Outcome.{Outcome, value, sumOf, addTo}
 use Rattle.outcome.proofs.Outcome.{along, came}
 use Rattle.projection.specs.Projection.{yearsTo}
@@ -19,6 +19,7 @@ use Rattle.valuation.specs.Valuation.{curtateOf, expectationOf, discountAfter, 
 use Rattle.survivorship.specs.declared.Kind.{Kind}
 use Rattle.exact.specs.Model.{exactSurvivors, exactExpectation, exactPayment, exactAnnuity}
 use Rattle.exact.specs.Distance.{ImprovingOver, rateDistance, expectationDistance, annuityDistance, WithinQuarters}
+use Rattle.exact.proofs.LimitedLife.{LimitedLife, later}
 use Rattle.exact.proofs.Survivors.{survived}
 use Rattle.exact.proofs.Discount.{Discounted}
 
@@ -42,7 +43,7 @@ total-within term exact m n near total h =
     total h
 
 -- ---- the expectation; j years of survivorship are j(r + 1) halves
-module _ (b : Basis) (kind : Kind) (age deferment year r : ℕ) (limits : Limited b) (low : 20 ≤ age) (high : age + deferment ≤ 150)
+module _ (b : Basis) (kind : Kind) (age deferment year r : ℕ) (life : LimitedLife b age deferment)
     (improving : ImprovingOver b kind (age + deferment) (150 - age - deferment) (year + deferment))
     (most : (j : ℕ) → j < 150 - age - deferment → rateDistance b (yearsTo b (yearOn kind j (year + deferment))) ≤ r) where
   pub expectation-within : (a : ℤ) → expectationOf b kind age deferment year ≡ value a →
@@ -56,7 +57,7 @@ module _ (b : Basis) (kind : Kind) (age deferment year r : ℕ) (limits : Limite
       let lives = total-within (λ k. survivorsOf b kind from (suc k) start) (λ k. exactSurvivors b kind from (suc k) start) (λ k. m (1 + k)) n
       (λ k t l q.
       within-more
-      (survived b kind from start r (suc k) limits (omega arith) (omega arith) (λ i less. improving i (omega arith)) (λ i less. most i (omega arith)) t q .near)
+      (survived b kind from start r (suc k) (later life deferment (suc k) (omega (arith, life .age-high))) (λ i less. improving i (omega arith)) (λ i less. most i (omega arith)) t q .near)
       (omega arith))
       (w .0) (w .1) in
       let e : pos (U / 2) +ℤ w .0 ≡ a = cc in
@@ -67,14 +68,17 @@ module _ (b : Basis) (kind : Kind) (age deferment year r : ℕ) (limits : Limite
       one-more = omega arith
 
 -- ---- the annuity, w times the distances
-module _ (b : Basis) (kind : Kind) (age deferment year r : ℕ) (limits : Limited b) (low : 20 ≤ age) (high : age + deferment ≤ 150)
+module _ (b : Basis) (kind : Kind) (age deferment year r : ℕ) (life : LimitedLife b age deferment)
     (improving : ImprovingOver b kind age (150 - age) year) (most : (j : ℕ) → j < 150 - age → rateDistance b (yearsTo b (yearOn kind j year)) ≤ r)
     (w : ℕ) (once : 1 ≤ w) (worth : (j : ℕ) → j ≤ 130 → Discounted b w j) where
+  from-start : (j : ℕ) → j ≤ 150 - age → LimitedLife b age j
+  from-start j l = record { limits = life .limits; age-low = life .age-low; age-high = omega (arith, life .age-high) }
+
   payment-within : (j : ℕ) (t : ℤ) → j ≤ 150 - age → paymentAfter b kind age j year ≡ value t → Within t (exactPayment b kind age j year) (j * (w * (r + 2)) + w)
   unfolding paymentAfter exactPayment
   payment-within j t l h =
       let c = came (survivorsOf b kind age j year) (λ s. value (payment (discountAfter b j) s)) t h in
-      let s = survived b kind age year r j limits low (omega arith) (λ i less. improving i (omega arith)) (λ i less. most i (omega arith)) (c .0) (c .1) in
+      let s = survived b kind age year r j (from-start j l) (λ i less. improving i (omega arith)) (λ i less. most i (omega arith)) (c .0) (c .1) in
       let v = worth j (omega arith) in
       let e : payment (discountAfter b j) (c .0) ≡ t = cc in
       rw (← e) (within-more (within-product-times w U (omega arith) (v .near) (s .near) (v .size) (unit-abs (s .unit))) (omega arith))
