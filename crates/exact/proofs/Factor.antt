@@ -69,7 +69,8 @@ module _ (b : Basis) (age year : ℕ) (life : LimitedLife b age 0) (improving : 
       let e : rateFrom b age (w .0) ≡ q = cc in
       rw (← e)
       (within-lesser (within-more (within-whole (pos U)) (omega arith))
-      (within-more (within-product U (omega arith) (within-whole (pos (b .baseRate age))) (c .near) (life .limits .baseRate age (life .age-low) high) (unit-abs (c .unit))) (omega arith)))
+      (within-more (within-product U (omega arith) (within-whole (pos (b .baseRate age))) (c .near)
+      (life .limits .baseRate age (life .age-low) high) (unit-abs (c .unit))) (omega arith)))
 
   -- an exact rate lies from 0 to U
   pub rate-unit : (q : ℤ) → rateOf b age year ≡ value q → InUnit (exactRate b age year)

@@ -57,7 +57,8 @@ module _ (b : Basis) (kind : Kind) (age deferment year r : ℕ) (life : LimitedL
       let lives = total-within (λ k. survivorsOf b kind from (suc k) start) (λ k. exactSurvivors b kind from (suc k) start) (λ k. m (1 + k)) n
       (λ k t l q.
       within-more
-      (survived b kind from start r (suc k) (later life deferment (suc k) (omega (arith, life .age-high))) (λ i less. improving i (omega arith)) (λ i less. most i (omega arith)) t q .near)
+      (survived b kind from start r (suc k) (later life deferment (suc k) (omega (arith, life .age-high)))
+      (λ i less. improving i (omega arith)) (λ i less. most i (omega arith)) t q .near)
       (omega arith))
       (w .0) (w .1) in
       let e : pos (U / 2) +ℤ w .0 ≡ a = cc in

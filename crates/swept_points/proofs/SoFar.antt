@@ -34,7 +34,8 @@ module _ (b : Basis) (kind : Kind) (age from year : ℕ) where
   Made n total = sumOf (λ k. paymentAfter b kind age (from + k) year) n ≡ value (pos total)
 
   -- with the payment after j years
-  made-next : (j total s p : ℕ) → Made (j - from) total → survivorsOf b kind age j year ≡ value (pos s) → pos p ≡ deferredPayment (discountAfter b j) from j (pos s) → Made (suc j - from) (total + p)
+  made-next : (j total s p : ℕ) → Made (j - from) total → survivorsOf b kind age j year ≡ value (pos s)
+      → pos p ≡ deferredPayment (discountAfter b j) from j (pos s) → Made (suc j - from) (total + p)
   made-next j total s p m h d = by (decLt j from)
     where
       by : Dec (j < from) → Made (suc j - from) (total + p)

@@ -139,7 +139,8 @@ loop-again c =
     let g = sym (ap meaning (t .x .given .1)) ∙ y .survivors-after-year .ensures in (
       omega arith,
       so-far-next (basisWith (a .run .now) (a .history .now)) (a .kind) (a .age) (a .deferment) (a .year) (l .loop .j) (l .loop .s) (l .loop .lives) (l .loop .payments)
-          (t .x .given .0 .0) (c .deferred-payment2 .result) (l .loop .inv .1) (y .before .year-on .ensures) g (paid .0 ∙ ap (λ v. deferredPayment v (a .deferment) (l .loop .j + 1) (pos (t .x .given .0 .0))) (worth (c .before)), paid .1),
+          (t .x .given .0 .0) (c .deferred-payment2 .result) (l .loop .inv .1) (y .before .year-on .ensures) g
+          (paid .0 ∙ ap (λ v. deferredPayment v (a .deferment) (l .loop .j + 1) (pos (t .x .given .0 .0))) (worth (c .before)), paid .1),
     )
 
 add-t15 : tie.Need-add-t15 Inv-loop μ-loop
