@@ -276,24 +276,24 @@ impl From<Question> for sets::Question {
 }
 
 impl Lifeline {
-    pub fn of_start(outcome: Result<lifeline::Stand, EngineRefusal>) -> Self {
+    pub fn of_start(outcome: Result<lifeline::Position, EngineRefusal>) -> Self {
         match outcome {
-            Ok(stand) => Self::standing(Refusal::default(), stand, 0),
-            Err(refusal) => Self::standing(refusal.into(), lifeline::Stand { age: 0, year: 0, survivors: 0 }, 0),
+            Ok(position) => Self::at(Refusal::default(), position, 0),
+            Err(refusal) => Self::at(refusal.into(), lifeline::Position { age: 0, year: 0, survivors: 0 }, 0),
         }
     }
 
-    /// Where a step from `stand` leads: refused or ended, it leads nowhere.
-    pub fn of_step(stand: lifeline::Stand, outcome: Result<lifeline::Step, EngineRefusal>) -> Self {
+    /// Where a step from `position` leads: refused or ended, it leads nowhere.
+    pub fn of_step(position: lifeline::Position, outcome: Result<lifeline::Step, EngineRefusal>) -> Self {
         match outcome {
-            Ok(lifeline::Step::Moved(next)) => Self::standing(Refusal::default(), next, 0),
-            Ok(lifeline::Step::Ended) => Self::standing(Refusal::default(), stand, 1),
-            Err(refusal) => Self::standing(refusal.into(), stand, 0),
+            Ok(lifeline::Step::On(next)) => Self::at(Refusal::default(), next, 0),
+            Ok(lifeline::Step::Ended) => Self::at(Refusal::default(), position, 1),
+            Err(refusal) => Self::at(refusal.into(), position, 0),
         }
     }
 
-    fn standing(refusal: Refusal, stand: lifeline::Stand, ended: u32) -> Self {
-        let lifeline::Stand { age, year, survivors } = stand;
+    fn at(refusal: Refusal, position: lifeline::Position, ended: u32) -> Self {
+        let lifeline::Position { age, year, survivors } = position;
         Lifeline { refusal, survivors, age, year, ended }
     }
 }

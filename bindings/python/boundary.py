@@ -193,5 +193,5 @@ def opened(e, year):
     return numbers
 
 
-def stand(line):
+def position(line):
     return (line.age, line.year, line.survivors, line.ended)

@@ -11,7 +11,7 @@ from pathlib import Path
 
 import boundary
 from boundary import (FILE, FURTHER, GRID, KEPT, LAYOUTS, ROLL, RUN, UNIT, Engine, Point, Question, Questions,
-                      answers_of_grid, asked_of_grid, beyond, file_of, lent, opened, places, same, sample, stand, worsening)
+                      answers_of_grid, asked_of_grid, beyond, file_of, lent, opened, places, position, same, sample, worsening)
 from check_histories import check_histories
 
 
@@ -189,7 +189,7 @@ def check_grids(e):
 def check_starts(e):
     def start(run, question, where, refusal=(0, 0, 0)):
         line = e.lifeline_start(run, *question)
-        same(f"lifeline_start {question}", (stand(line), places(line.refusal)), (where, refusal))
+        same(f"lifeline_start {question}", (position(line), places(line.refusal)), (where, refusal))
 
     run, nowhere = sample(), (0, 0, 0, 0)
     start(run, (148, 2010), (148, 2010, UNIT, 0))
@@ -204,7 +204,7 @@ def check_starts(e):
 def check_steps(e):
     def step(run, given, where, refusal=(0, 0, 0)):
         line = e.lifeline_step(run, *given)
-        same(f"lifeline_step {given}", (stand(line), places(line.refusal)), (where, refusal))
+        same(f"lifeline_step {given}", (position(line), places(line.refusal)), (where, refusal))
 
     def stays(run, given, refusal):
         step(run, given, given + (0,), refusal)
@@ -238,7 +238,7 @@ def check_whole_lives(e):
     run = run[:30] + struct.pack("<131i", *[1_000_000 * (i + 1) for i in range(131)]) + run[554:]
     line = e.lifeline_start(run, 20, 2130)
     for n in range(131):
-        same(f"a life after {n} years", stand(line), (20 + n, 2130 + n, e.cohort_survivorship(run, 20, n, 2130).value, 0))
+        same(f"a life after {n} years", position(line), (20 + n, 2130 + n, e.cohort_survivorship(run, 20, n, 2130).value, 0))
         line = e.lifeline_step(run, line.age, line.year, line.survivors)
     same("a life's end", (line.age, line.year, line.ended), (150, 2260, 1))
 

@@ -3,7 +3,7 @@ The numbers are worked by hand; check_boundary.py runs these checks with its own
 import struct
 
 from boundary import (GRID, OF_A_BASIS, ROLL, UNIT, Question, Questions, answers_of_grid, asked_of_grid, file_of, opened,
-                      places, same, sample, stand)
+                      places, position, same, sample)
 
 
 def history_data(*years):
@@ -61,13 +61,13 @@ def check_sets_with_a_history(e):
     same("its answers", answers_of_grid(records, GRID), [answer] * GRID)
 
     line = e.lifeline_start(basis, 148, 2005)
-    same("a lifeline with a history", (stand(line), places(line.refusal)), ((148, 2005, UNIT, 0), (0, 0, 0)))
+    same("a lifeline with a history", (position(line), places(line.refusal)), ((148, 2005, UNIT, 0), (0, 0, 0)))
     line = e.lifeline_step(basis, 149, 2006, 900_000_000)
-    same("its step in F", (stand(line), places(line.refusal)), ((150, 2007, 810_900_000, 0), (0, 0, 0)))
+    same("its step in F", (position(line), places(line.refusal)), ((150, 2007, 810_900_000, 0), (0, 0, 0)))
     # Another history of the same length, lent to the same step.
     other = basis[0], file_of(history_data(-10_000_000))
     line = e.lifeline_step(other, 149, 2006, 900_000_000)
-    same("its step by another", (stand(line), places(line.refusal)), ((150, 2007, 809_100_000, 0), (0, 0, 0)))
+    same("its step by another", (position(line), places(line.refusal)), ((150, 2007, 809_100_000, 0), (0, 0, 0)))
 
 
 def refused_histories():
@@ -113,7 +113,7 @@ def check_refused_histories(e):
         join = e.roll_join(basis, roll, ROLL, 7, 151, 0)
         same("a join with it", (join.value, places(join.refusal), bytes(roll)), (0, refusal, before))
         step = e.lifeline_step(basis, 151, 2003, UNIT + 1)
-        same("a step with it", (stand(step), places(step.refusal)), ((151, 2003, UNIT + 1, 0), refusal))
+        same("a step with it", (position(step), places(step.refusal)), ((151, 2003, UNIT + 1, 0), refusal))
 
 
 def check_histories(e):

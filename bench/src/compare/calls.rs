@@ -4,7 +4,7 @@ use super::report::{Difference, FUNCTIONS, Function, Tally};
 use crate::bases::{damaged, files};
 use crate::engine::basis::Basis;
 use crate::engine::layout::{FILE_LENGTH, RUN_LENGTH};
-use crate::engine::lifeline::{self, Stand};
+use crate::engine::lifeline::{self, Position};
 use crate::engine::sets::{self, GRID, Record};
 use crate::engine::valuation::Kind;
 use crate::engine::{Refusal as EngineRefusal, enquiries, file, short_form};
@@ -267,10 +267,10 @@ impl Calls {
             0 => 2110u32.wrapping_add(age).wrapping_add(random.below(3) as u32).wrapping_sub(1),
             _ => inputs::year(random, run),
         };
-        let stand = Stand { age, year, survivors: inputs::survivors(random) };
-        let proved = ffi::lifeline_step(run, history, age, year, stand.survivors);
-        let rust = Lifeline::of_step(stand, lifeline::step(run, history, stand));
-        self.same(Function::LifelineStep, rust.refusal.number, &|| format!("{stand:?}"), &rust, &proved)
+        let position = Position { age, year, survivors: inputs::survivors(random) };
+        let proved = ffi::lifeline_step(run, history, age, year, position.survivors);
+        let rust = Lifeline::of_step(position, lifeline::step(run, history, position));
+        self.same(Function::LifelineStep, rust.refusal.number, &|| format!("{position:?}"), &rust, &proved)
     }
 }
 

@@ -2,7 +2,7 @@
 use super::basis::Basis;
 use super::enquiries::*;
 use super::layout::*;
-use super::lifeline::{self, Stand, Step};
+use super::lifeline::{self, Position, Step};
 use super::refusal::Refusal;
 use super::sets::{GRID, Question, Record, grid, point, small_set};
 use super::units::UNIT;
@@ -222,8 +222,8 @@ fn the_run_comes_first_and_the_question_last() {
             assert_eq!(ask(&run, history, Kind::Cohort, 19, 200, 0), Err(refusal));
         }
         assert_eq!(lifeline::start(&run, history, 19, 0), Err(refusal));
-        let stand = Stand { age: 0, year: 0, survivors: u64::MAX };
-        assert_eq!(lifeline::step(&run, history, stand), Err(refusal));
+        let position = Position { age: 0, year: 0, survivors: u64::MAX };
+        assert_eq!(lifeline::step(&run, history, position), Err(refusal));
     }
     run[4553] = 151;
     assert_eq!(improvement(&run, short, 19, 0), Err(Refusal::field(4553)));
@@ -249,15 +249,18 @@ fn a_refused_history_refuses_a_set_as_a_whole() {
 #[test]
 fn a_lifeline_is_lent_a_history_at_each_step() {
     let run = older().run;
-    let stand = lifeline::start(&run, &level(), 60, 2004).unwrap();
-    assert_eq!(stand, Stand { age: 60, year: 2004, survivors: UNIT });
-    let stand = Stand { age: 61, year: 2005, survivors: 900_000_000 };
-    assert_eq!(lifeline::step(&run, &level(), Stand { age: 60, year: 2004, survivors: UNIT }), Ok(Step::Moved(stand)));
+    let position = lifeline::start(&run, &level(), 60, 2004).unwrap();
+    assert_eq!(position, Position { age: 60, year: 2004, survivors: UNIT });
+    let position = Position { age: 61, year: 2005, survivors: 900_000_000 };
+    assert_eq!(
+        lifeline::step(&run, &level(), Position { age: 60, year: 2004, survivors: UNIT }),
+        Ok(Step::On(position))
+    );
     // 0.901 of them by the one history, 0.9 by another
-    let after = |survivors| Ok(Step::Moved(Stand { age: 62, year: 2006, survivors }));
-    assert_eq!(lifeline::step(&run, &level(), stand), after(810_900_000));
-    assert_eq!(lifeline::step(&run, &history_of(2, |_, _| 0), stand), after(810_000_000));
-    assert_eq!(lifeline::step(&run, &[], stand), Err(Refusal::history_length(2048)));
-    let early = Stand { year: 2003, ..stand };
+    let after = |survivors| Ok(Step::On(Position { age: 62, year: 2006, survivors }));
+    assert_eq!(lifeline::step(&run, &level(), position), after(810_900_000));
+    assert_eq!(lifeline::step(&run, &history_of(2, |_, _| 0), position), after(810_000_000));
+    assert_eq!(lifeline::step(&run, &[], position), Err(Refusal::history_length(2048)));
+    let early = Position { year: 2003, ..position };
     assert_eq!(lifeline::step(&run, &level(), early), Err(Refusal::year(2003)));
 }

@@ -1,4 +1,4 @@
-//! The lifeline: one life's cohort survivorship, a year at a step. The caller keeps where it stands, and lends run and
+//! The lifeline: one life's cohort survivorship, a year at a step. The caller keeps its position, and lends run and
 //! history each time.
 use super::basis::Basis;
 use super::enquiries::check_question;
@@ -7,7 +7,7 @@ use super::refusal::Refusal;
 use super::units::UNIT;
 
 #[derive(Clone, Copy, Debug, PartialEq, Eq)]
-pub struct Stand {
+pub struct Position {
     pub age: u32,
     pub year: u32,
     pub survivors: u64,
@@ -15,20 +15,20 @@ pub struct Stand {
 
 #[derive(Clone, Copy, Debug, PartialEq, Eq)]
 pub enum Step {
-    Moved(Stand),
+    On(Position),
     Ended,
 }
 
-pub fn start(run: &[u8], history: &[u8], age: u32, year: u32) -> Result<Stand, Refusal> {
+pub fn start(run: &[u8], history: &[u8], age: u32, year: u32) -> Result<Position, Refusal> {
     let basis = Basis::accept(run, history)?;
     check_question(&basis, age, 0, year)?;
-    Ok(Stand { age, year, survivors: UNIT })
+    Ok(Position { age, year, survivors: UNIT })
 }
 
-/// One year on from where it stands. Refused or ended, it stands where it stood.
-pub fn step(run: &[u8], history: &[u8], stand: Stand) -> Result<Step, Refusal> {
+/// One year on. Refused or ended, the position is as it was.
+pub fn step(run: &[u8], history: &[u8], position: Position) -> Result<Step, Refusal> {
     let basis = Basis::accept(run, history)?;
-    let Stand { age, year, survivors } = stand;
+    let Position { age, year, survivors } = position;
     if !(FIRST_AGE..=LAST_AGE).contains(&age) {
         return Err(Refusal::age(age));
     }
@@ -43,5 +43,5 @@ pub fn step(run: &[u8], history: &[u8], stand: Stand) -> Result<Step, Refusal> {
         return Ok(Step::Ended);
     }
     let survivors = basis.survive(survivors, age, year)?;
-    Ok(Step::Moved(Stand { age: age + 1, year: year + 1, survivors }))
+    Ok(Step::On(Position { age: age + 1, year: year + 1, survivors }))
 }

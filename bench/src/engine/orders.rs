@@ -2,7 +2,7 @@
 use super::enquiries::*;
 use super::file::{read_basis, write_basis};
 use super::layout::*;
-use super::lifeline::{self, Stand, Step};
+use super::lifeline::{self, Position, Step};
 use super::refusal::Refusal;
 use super::sets::{GRID, Question, Record, grid, small_set};
 use super::short_form::short_form;
@@ -130,10 +130,10 @@ fn sets() {
 #[test]
 fn a_lifeline() {
     let run = Draft::plain(2006, 2006).run;
-    let stepped = |age, year, survivors| lifeline::step(&run, NONE, Stand { age, year, survivors });
-    assert_eq!(lifeline::start(&run, NONE, 20, 2130), Ok(Stand { age: 20, year: 2130, survivors: UNIT }));
+    let stepped = |age, year, survivors| lifeline::step(&run, NONE, Position { age, year, survivors });
+    assert_eq!(lifeline::start(&run, NONE, 20, 2130), Ok(Position { age: 20, year: 2130, survivors: UNIT }));
     assert_eq!(lifeline::start(&run, NONE, 20, 2131), Err(Refusal::year(2131)));
-    assert_eq!(stepped(149, 2259, 5), Ok(Step::Moved(Stand { age: 150, year: 2260, survivors: 5 })));
+    assert_eq!(stepped(149, 2259, 5), Ok(Step::On(Position { age: 150, year: 2260, survivors: 5 })));
     assert_eq!(stepped(150, 2260, UNIT), Ok(Step::Ended));
     assert_eq!(stepped(150, 2261, UNIT + 1), Err(Refusal::year(2261)));
     assert_eq!(stepped(150, 2260, UNIT + 1), Err(Refusal::field(4554)));

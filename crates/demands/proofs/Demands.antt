@@ -49,6 +49,8 @@ use Rattle.roll.proofs.Further.{further-kept}
 use Rattle.engine.specs.Enquiry.{refusalOf}
 use Rattle.refusals.proofs.Calls.{numbered-refusals, zero-is-none}
 use Rattle.exact.proofs.Demands.{demand-3}
+use Rattle.exact.proofs.Sharp.{distances-are-sharp}
+use Rattle.layout.proofs.Printed.{printed}
 use Rattle.handed_out.proofs.Distances.{handed-out}
 use Rattle.demands.proofs.HandedTotal.{handed-total}
 use Rattle.demands.specs.Demands.{RefusedThroughout, Demand1, Demand2, Demands}
@@ -128,6 +130,7 @@ module _ (run history : List ℕ) where
   unfolding improvementEnquiry factorEnquiry rateEnquiry survivorshipEnquiry expectationEnquiry annuityEnquiry liabilityOn pointOf
   demand-2 =
       record {
+        offsets = printed;
         runAccepted = accepted run;
         acceptedRun = passes run;
         improvement = λ age year h. checked-passed _ _ h;
@@ -160,4 +163,10 @@ module _ (run history : List ℕ) where
 
 pub demands-met : (run history : List ℕ) → Demands run history
 demands-met run history =
-    record { first = demand-1 run history; second = demand-2 run history; third = demand-3 run history; handedOut = handed-out run history }
+    record {
+      first = demand-1 run history;
+      second = demand-2 run history;
+      third = demand-3 run history;
+      distancesAreSharp = distances-are-sharp (basisWith run history);
+      handedOut = handed-out run history;
+    }

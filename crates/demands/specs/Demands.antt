@@ -7,6 +7,7 @@ use Prim.Native.Nat.{ℕ, _^_, _≤_, _<_}
 use lib.IntN.{ℤ, pos, natAbs}
 use lib.ListN.{length}
 use Rattle.arithmetic.specs.Rounding.{TiesGoUp}
+use Rattle.layout.specs.Printed.{Printed}
 use Rattle.lent.specs.Lent.{written}
 use Rattle.outcome.specs.declared.Refusal.{Refusal}
 use Rattle.basis.specs.Basis.{Accepted, ratedFrom}
@@ -49,6 +50,7 @@ use Rattle.figures.specs.Figures.{FiguresHold}
 use Rattle.engine.specs.Enquiry.{answerOf}
 use Rattle.refusals.specs.Numbered.{workOn, NumberedRefusals, ZeroIsNone}
 use Rattle.exact.specs.Distance.{Demand3}
+use Rattle.exact.specs.Sharp.{DistancesAreSharp}
 use Rattle.handed_out.specs.HandedOut.{HandedOut}
 
 -- ---- Demand 1
@@ -92,6 +94,8 @@ pub record Demand1 (run history : List ℕ) : Type 0 where
 
 -- ---- Demand 2
 pub record Demand2 (run history : List ℕ) : Type 0 where
+  -- the offsets and lengths of a data run and a file are those of 01's table
+  pub offsets : Printed
   -- "Outside the refusal conditions every enquiry is answered": 1, 4 and 5 refuse every run that is not accepted, and no other
   pub runAccepted : runCheck run ≡ passed → Accepted run
   pub acceptedRun : Accepted run → runCheck run ≡ passed
@@ -155,4 +159,5 @@ pub record Demands (run history : List ℕ) : Type 0 where
   pub first : Demand1 run history
   pub second : Demand2 run history
   pub third : Demand3 run history
+  pub distancesAreSharp : DistancesAreSharp (basisWith run history)
   pub handedOut : HandedOut run history

@@ -7,9 +7,10 @@ use native.Mathlib.Decide.{decLt}
 use native.Mathlib.Omega.{arith}
 use lib.Dec.{ltb}
 use borrow.Author.Tests.{lt-ltb, le-ltb}
+use Rattle.arithmetic.proofs.Distance.{halves-are-halves}
 use Rattle.basis.specs.Basis.{Basis}
 use Rattle.exact.specs.Distance.{largest}
-use Rattle.exact.specs.Sharp.{QuartersAreQuarters, LargestIsReached, DistancesByYears}
+use Rattle.exact.specs.Sharp.{QuartersAreQuarters, LargestIsReached, DistancesByYears, DistancesAreSharp}
 
 pub quarters-are-quarters : QuartersAreQuarters
 quarters-are-quarters =
@@ -56,3 +57,7 @@ distances-by-years b =
       expectation = λ N K. omega arith;
       annuity = λ N K. omega arith;
     }
+
+pub distances-are-sharp : (b : Basis) → DistancesAreSharp b
+distances-are-sharp b =
+    record { halves = halves-are-halves; quarters = quarters-are-quarters; largestYears = largest-is-reached; byYears = distances-by-years b }

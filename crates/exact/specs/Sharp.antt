@@ -3,6 +3,7 @@ use mathlib.Core.Path.{_≡_}
 use Prim.Native.Nat.{ℕ, _+_, _*_, _<_}
 use lib.IntN.{pos}
 use Rattle.arithmetic.specs.Fraction.{whole}
+use Rattle.arithmetic.specs.Rounding.{HalvesAreHalves}
 use Rattle.basis.specs.Basis.{Basis}
 use Rattle.exact.specs.Distance.{largest, rateDistance, survivorsDistance, expectationDistance, annuityDistance, WithinQuarters}
 
@@ -22,3 +23,10 @@ pub record DistancesByYears (b : Basis) : Type 0 where
   pub survivorship : (n K : ℕ) → survivorsDistance n (rateDistance b K) ≡ 2 * n * (K + 1)
   pub expectation : (N K : ℕ) → expectationDistance N (rateDistance b K) ≡ 2 * N * (N + 1) * (K + 1)
   pub annuity : (N K : ℕ) → annuityDistance N (rateDistance b K) ≡ (N + 1) * (N * (2 * K + 3) + 2)
+
+-- ---- all of it, with halves that are halves
+pub record DistancesAreSharp (b : Basis) : Type 0 where
+  pub halves : HalvesAreHalves
+  pub quarters : QuartersAreQuarters
+  pub largestYears : (k : ℕ → ℕ) → LargestIsReached k
+  pub byYears : DistancesByYears b
