@@ -1,12 +1,11 @@
 -- Each of the 18,340 numbers is a year's at an age, one of the rest, which are 0, or a discount; and each of these is given. Assumes nothing.
 use mathlib.Core.Path.{_≡_, _∙_, ap, sym}
 use mathlib.Core.List.{List}
-use Prim.Native.Nat.{ℕ, _+_, _*_, _-_, _/_, _%_, _≤_, _<_}
+use Prim.Native.Nat.{ℕ, _+_, _*_, _-_, _/_, _%_, _<_}
 use native.Mathlib.Decide.{decLt}
-use native.Mathlib.Nat.{div-add-mod, mod-lt}
 use native.Mathlib.Omega.{arith}
-use lib.IntN.{pos, natAbs}
-use lib.ListN.{length, getD}
+use lib.IntN.{natAbs}
+use lib.ListN.{getD}
 use Rattle.basis.specs.Basis.{Basis}
 use Rattle.sweep.proofs.Fixed.{decoded-once, same-numbers}
 use Rattle.factor_table.specs.FactorTable.{tableYears, factorsLength, tableLength, FactorTable}

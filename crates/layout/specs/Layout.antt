@@ -1,5 +1,5 @@
 -- The layout of a data run (01, "The basis file"): the kinds of number in it, its form, where each field stands, and the limits of each.
-use Prim.Native.Nat.{ℕ, _+_, _*_, _-_}
+use Prim.Native.Nat.{ℕ, _+_, _*_}
 use mathlib.Core.List.{List, [], _∷_}
 use lib.IntN.{ℤ, pos, negℤ}
 use Rattle.little_endian.specs.Bytes.{byteAt, u16At, u32At, i32At}

@@ -10,7 +10,7 @@ use Rattle.layout.specs.Layout.{mpb1, runLength, ages, birthYears, rateLimit}
 use Rattle.layout.specs.Layout.{foundationAt, baseAt, additionAt, discountAt, baseRatesAt}
 use Rattle.layout.specs.Layout.{ageInitialRatesAt}
 use Rattle.little_endian.specs.Bytes.{signed32}
-use Rattle.basis.specs.Basis.{Basis, basisOf, ageTermsAt, birthYearTermsAt, ConvergenceLimits, Limited, Accepted}
+use Rattle.basis.specs.Basis.{basisOf, ageTermsAt, birthYearTermsAt, ConvergenceLimits, Limited, Accepted}
 use Rattle.basis.specs.declared.Convergence.{Convergence}
 use Rattle.run_check.proofs.Acceptance.{passes}
 use Rattle.short_form.specs.ShortForm.{everyPeriod, everyProportion, longTermOf, shortFormOf, ShortFormStands}

@@ -2,14 +2,13 @@
 -- and the remainder. Assumes nothing.
 use mathlib.Core.Path.{_≡_, _∙_, ap, sym, refl}
 use mathlib.Core.List.{List, [], _∷_}
-use Prim.Native.Nat.{ℕ, zero, suc, _+_, _*_, _-_, _/_, _%_, _<_}
+use Prim.Native.Nat.{ℕ, suc, _+_, _-_, _/_, _%_, _<_}
 use native.Mathlib.Decide.{decLt}
 use native.Mathlib.Omega.{arith}
-use lib.IntN.{ℤ, pos, natAbs}
+use lib.IntN.{ℤ, natAbs}
 use lib.ListN.{length, getD}
 use Rattle.outcome.specs.Outcome.{Outcome, value, refused}
-use Rattle.sweep.specs.Sweep.{State}
-use Rattle.sweep.specs.Encoding.{refusedNumber, decoded, Encodes}
+use Rattle.sweep.specs.Encoding.{refusedNumber, decoded}
 use Rattle.sweep.specs.Fixed.{EncodingIsFixed}
 use Rattle.sweep.proofs.Numbers.{decoded-factor, decoded-above}
 

@@ -22,27 +22,6 @@ loop-holds c =
     let a = c .before .args in
     (omega arith, ap (λ (m : ℕ). blocksCheck 0 m (a .file .now)) (omega arith))
 
-mul-from : tie.Need-mul-from Inv-loop μ-loop
-mul-from c = omega arith
-
-add-check-block : tie.Need-add-check-block Inv-loop μ-loop
-add-check-block c = omega arith
-
-sub-check-block : tie.Need-sub-check-block Inv-loop μ-loop
-sub-check-block c = omega arith
-
-part-check-block-start : tie.Need-part-check-block-start Inv-loop μ-loop
-part-check-block-start c = omega arith
-
-part-check-block-end : tie.Need-part-check-block-end Inv-loop μ-loop
-part-check-block-end c = omega arith
-
-check-block-requires : tie.Need-check-block-requires Inv-loop μ-loop
-check-block-requires c κs = omega arith
-
-enum-told : tie.Need-enum-told Inv-loop μ-loop
-enum-told c = search needs
-
 returns : tie.Need-returns Inv-loop μ-loop
 returns c =
     let l = c .before .before .before .before .before in
@@ -52,15 +31,6 @@ returns c =
     let k = c .before .before .check-block in
     let turn = check-turn f (a .n) b (finding (k .result)) (omega arith) (rw (part-is f (512 * b) 512) at (k .ensures)) in
     sym (first-stands (finding (k .result)) _ (ap finding (c .enum-told .given .1))) ∙ turn ∙ l .loop .inv .1
-
-enum-told-2 : tie.Need-enum-told-2 Inv-loop μ-loop
-enum-told-2 c = search needs
-
-add-b : tie.Need-add-b Inv-loop μ-loop
-add-b c = omega arith
-
-loop-less : tie.Need-loop-less Inv-loop μ-loop
-loop-less c = omega arith
 
 loop-again : tie.Need-loop-again Inv-loop μ-loop
 loop-again c =
@@ -82,20 +52,5 @@ returns-2 c =
 pub check-blocks-spec : {M : Type 1} → statement M
 check-blocks-spec =
     tie.close
-    (tie.spec
-    Inv-loop
-    μ-loop
-    loop-holds
-    mul-from
-    add-check-block
-    sub-check-block
-    part-check-block-start
-    part-check-block-end
-    check-block-requires
-    enum-told
-    returns
-    enum-told-2
-    add-b
-    loop-less
-    loop-again
-    returns-2)
+    (tie.spec Inv-loop μ-loop loop-holds (search needs) (search needs) (search needs) (search needs) (search needs)
+    (search needs) (search needs) returns (search needs) (search needs) (search needs) loop-again returns-2)

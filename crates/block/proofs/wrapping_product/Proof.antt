@@ -7,11 +7,5 @@ use Rattle.block.proofs.wrapping_product.Tie as tie
 mul-result : tie.Need-mul-result
 mul-result c = record { fits = below 32 (search needs) (search needs) }
 
-cast-result : tie.Need-cast-result
-cast-result c = search needs
-
-returns : tie.Need-returns
-returns c = search needs
-
 pub wrapping-product-spec : {M : Type 1} → statement M
-wrapping-product-spec = tie.close (tie.spec mul-result cast-result returns)
+wrapping-product-spec = tie.close (tie.spec mul-result (search needs) (search needs))

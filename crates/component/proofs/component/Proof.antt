@@ -6,9 +6,6 @@ use Rattle.component.specs.Component.{componentOf}
 use Rattle.component.proofs.component.Statement.{statement}
 use Rattle.component.proofs.component.Tie as tie
 
-converging-requires : tie.Need-converging-requires
-converging-requires c κs = search needs
-
 returns : tie.Need-returns
 unfolding componentOf
 returns c =
@@ -17,4 +14,4 @@ returns c =
     rw (back w32 (terms .initial) (told .0 .1), back w32 (terms .long) (told .1 .0 .1)) at (c .converging .ensures)
 
 pub component-spec : {M : Type 1} → statement M
-component-spec = tie.close (tie.spec converging-requires returns)
+component-spec = tie.close (tie.spec (λ c κs. search needs) returns)

@@ -82,15 +82,6 @@ mul-divisor-2 c = let s = c .before in record { fits = omega (arith, cube (s .ar
 mul-divisor-3 : tie.Need-mul-divisor-3
 mul-divisor-3 c = let s = c .before in record { fits = omega (arith, cube (s .args .period) (s .pre .period-high)) }
 
-excess-requires : tie.Need-excess-requires
-excess-requires c κs = search needs
-
-sub-weighted : tie.Need-sub-weighted
-sub-weighted c = search needs
-
-slope-requires : tie.Need-slope-requires
-slope-requires c κs = search needs
-
 weighted-requires : tie.Need-weighted-requires
 weighted-requires c κs =
     let s = c .before .before .before in
@@ -99,16 +90,10 @@ weighted-requires c κs =
 divide-requires : tie.Need-divide-requires
 divide-requires c κs = let s = c .before .before .before .before in divisor-proper (s .args .period) (s .pre .period-low)
 
-wide-requires : tie.Need-wide-requires
-wide-requires c κs = search needs
-
 add-whole : tie.Need-add-whole
 add-whole c =
     let s = c .before .before .before .before .before .before .before .before in
     rw (long-is c, quotient-is c) (sum-fits s (omega arith))
-
-wide-requires-2 : tie.Need-wide-requires-2
-wide-requires-2 c κs = search needs
 
 returns : tie.Need-returns
 unfolding dividend-at
@@ -133,17 +118,5 @@ returns-2 c =
 pub converging-spec : {M : Type 1} → statement M
 converging-spec =
     tie.close
-    (tie.spec
-    mul-divisor
-    mul-divisor-2
-    mul-divisor-3
-    excess-requires
-    sub-weighted
-    slope-requires
-    weighted-requires
-    divide-requires
-    wide-requires
-    add-whole
-    wide-requires-2
-    returns
-    returns-2)
+    (tie.spec mul-divisor mul-divisor-2 mul-divisor-3 (search needs) (search needs) (search needs) weighted-requires
+    divide-requires (search needs) add-whole (search needs) returns returns-2)

@@ -21,12 +21,6 @@ initial-is c = got w64 (c .before .wide .ok) (c .before .wide .ensures ∙ toZ-o
 long-is : (c : tie.After-wide2) → toZ w64 (ofZ w64 (c .wide2 .result)) ≡ c .before .before .args .long
 long-is c = got w64 (c .wide2 .ok) (c .wide2 .ensures ∙ toZ-ofZ (c .before .before .fits .long))
 
-wide-requires : tie.Need-wide-requires
-wide-requires c κs = search needs
-
-wide-requires-2 : tie.Need-wide-requires-2
-wide-requires-2 c κs = search needs
-
 sub-result : tie.Need-sub-result
 sub-result c = rw (initial-is c, long-is c) (fits _ _ (c .before .before .fits .initial) (c .before .before .fits .long))
 
@@ -34,4 +28,4 @@ returns : tie.Need-returns
 returns c = rw (initial-is c, long-is c) (toZ-ofZ (fits _ _ (c .before .before .fits .initial) (c .before .before .fits .long)))
 
 pub excess-spec : {M : Type 1} → statement M
-excess-spec = tie.close (tie.spec wide-requires wide-requires-2 sub-result returns)
+excess-spec = tie.close (tie.spec (search needs) (search needs) sub-result returns)

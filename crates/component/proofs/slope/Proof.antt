@@ -26,26 +26,14 @@ fits c =
     let a = c .args in
     sfits-abs (omega (arith, slope-abs (a .period) (a .remaining) (a .years) (c .pre .0) (c .pre .1) (c .pre .2)))
 
-mul-up : tie.Need-mul-up
-mul-up c = search needs
-
-mul-up-2 : tie.Need-mul-up-2
-mul-up-2 c = search needs
-
 mul-up-3 : tie.Need-mul-up-3
 mul-up-3 c = omega (arith, grow (c .args .remaining) (c .args .years) (c .pre .1))
 
 add-up : tie.Need-add-up
 add-up c = omega (arith, grow (c .args .remaining) (c .args .years) (c .pre .1))
 
-mul-down : tie.Need-mul-down
-mul-down c = search needs
-
 cast-result : tie.Need-cast-result
 cast-result c = record { sfits = omega (arith, grow (c .args .remaining) (c .args .years) (c .pre .1)) }
-
-cast-result-2 : tie.Need-cast-result-2
-cast-result-2 c = search needs
 
 sub-result : tie.Need-sub-result
 sub-result c = rw (difference c) (fits c)
@@ -56,4 +44,5 @@ returns c = rw (difference c) (toZ-ofZ (fits c))
 pub slope-spec : {M : Type 1} → statement M
 slope-spec =
     tie.close
-    (tie.spec mul-up mul-up-2 mul-up-3 add-up mul-down cast-result cast-result-2 sub-result returns)
+    (tie.spec (search needs) (search needs) mul-up-3 add-up (search needs) cast-result (search needs) sub-result
+    returns)

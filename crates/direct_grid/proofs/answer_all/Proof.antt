@@ -25,9 +25,6 @@ Inv-loop run history n points₀ i₀ points i = (i ≤ n) × (n ≡ recordsOf (
 abbrev μ-loop : tie.MeasureT-loop
 μ-loop run history n points₀ i₀ points i = n - i
 
-start-grid-requires : tie.Need-start-grid-requires Inv-loop μ-loop
-start-grid-requires c κs = search needs
-
 loop-holds : tie.Need-loop-holds Inv-loop μ-loop
 loop-holds c =
     let s = c .before .before .before in
@@ -66,12 +63,6 @@ array-set-from-points c =
     let a = l .before .before .before .before .args in
     omega (arith, l .loop .inv .1, records-fit (a .run .now) (a .history .now) 119)
 
-add-i : tie.Need-add-i Inv-loop μ-loop
-add-i c = search needs
-
-loop-less : tie.Need-loop-less Inv-loop μ-loop
-loop-less c = search needs
-
 loop-again : tie.Need-loop-again Inv-loop μ-loop
 loop-again c =
     let l = c .before .before .before in
@@ -101,17 +92,5 @@ returns c =
 pub answer-all-spec : {M : Type 1} → statement M
 answer-all-spec =
     tie.close
-    (tie.spec
-    Inv-loop
-    μ-loop
-    start-grid-requires
-    loop-holds
-    mul-answered
-    array-copy-out-answered
-    answered-requires
-    mul-points
-    array-set-from-points
-    add-i
-    loop-less
-    loop-again
-    returns)
+    (tie.spec Inv-loop μ-loop (search needs) loop-holds mul-answered array-copy-out-answered answered-requires
+    mul-points array-set-from-points (search needs) (search needs) loop-again returns)

@@ -3,11 +3,8 @@ use borrow.Author.Needs.{needs}
 use Rattle.direct_grid.proofs.parvusek_direct_grid.Statement.{statement}
 use Rattle.direct_grid.proofs.parvusek_direct_grid.Tie as tie
 
-answer-all-requires : tie.Need-answer-all-requires
-answer-all-requires c κs = search needs
-
 returns : tie.Need-returns
 returns c = c .answer-all .ensures
 
 pub parvusek-direct-grid-spec : {M : Type 1} → statement M
-parvusek-direct-grid-spec = tie.close (tie.spec answer-all-requires returns)
+parvusek-direct-grid-spec = tie.close (tie.spec (search needs) returns)

@@ -7,18 +7,6 @@ use Rattle.factor_table.proofs.Discounting.{stored-behind}
 use Rattle.factor_table.proofs.fill_table.Statement.{statement}
 use Rattle.factor_table.proofs.fill_table.Tie as tie
 
-store-years-requires : tie.Need-store-years-requires
-store-years-requires c κs = search needs
-
-clear-rest-requires : tie.Need-clear-rest-requires
-clear-rest-requires c κs = search needs
-
-store-discounts-requires : tie.Need-store-discounts-requires
-store-discounts-requires c κs = search needs
-
-same-length : tie.Need-same-length
-same-length c = search needs
-
 returns : tie.Need-returns
 returns c =
     let d = c .before .before in
@@ -31,4 +19,5 @@ returns c =
 
 pub fill-table-spec : {M : Type 1} → statement M
 fill-table-spec =
-    tie.close (tie.spec store-years-requires clear-rest-requires store-discounts-requires same-length returns)
+    tie.close
+    (tie.spec (λ c κs. search needs) (λ c κs. search needs) (λ c κs. search needs) (search needs) returns)

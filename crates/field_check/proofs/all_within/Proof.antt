@@ -23,9 +23,6 @@ Inv-loop run kind low high width at₀ more₀ all₀ at more all =
 abbrev μ-loop : tie.MeasureT-loop
 μ-loop run kind low high width at₀ more₀ all₀ at more all = more
 
-width-of-requires : tie.Need-width-of-requires Inv-loop μ-loop
-width-of-requires c κs = search needs
-
 loop-holds : tie.Need-loop-holds Inv-loop μ-loop
 loop-holds c = (search needs, refl)
 
@@ -38,12 +35,6 @@ add-at : tie.Need-add-at Inv-loop μ-loop
 add-at c =
     let l = c .before .before in
     omega (arith, room (l .loop .more) (widthOf (l .before .before .before .before .before .args .f .kind)) (c .before .loop-test .taken))
-
-sub-more : tie.Need-sub-more Inv-loop μ-loop
-sub-more c = omega arith
-
-loop-less : tie.Need-loop-less Inv-loop μ-loop
-loop-less c = omega arith
 
 loop-again : tie.Need-loop-again Inv-loop μ-loop
 loop-again c =
@@ -66,14 +57,5 @@ returns c =
 pub all-within-spec : {M : Type 1} → statement M
 all-within-spec =
     tie.close
-    (tie.spec
-    Inv-loop
-    μ-loop
-    width-of-requires
-    loop-holds
-    entry-ok-requires
-    add-at
-    sub-more
-    loop-less
-    loop-again
-    returns)
+    (tie.spec Inv-loop μ-loop (search needs) loop-holds entry-ok-requires add-at (search needs) (search needs)
+    loop-again returns)

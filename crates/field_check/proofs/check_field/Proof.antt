@@ -21,12 +21,6 @@ Inv-loop run kind low high width number at₀ left₀ at left =
 abbrev μ-loop : tie.MeasureT-loop
 μ-loop run kind low high width number at₀ left₀ at left = left
 
-width-of-requires : tie.Need-width-of-requires Inv-loop μ-loop
-width-of-requires c κs = search needs
-
-loop-holds : tie.Need-loop-holds Inv-loop μ-loop
-loop-holds c = search needs
-
 entry-ok-requires : tie.Need-entry-ok-requires Inv-loop μ-loop
 entry-ok-requires c κs =
     let l = c .before in
@@ -36,12 +30,6 @@ add-at : tie.Need-add-at Inv-loop μ-loop
 add-at c =
     let l = c .before .before .before in
     omega (arith, room (l .loop .left) (widthOf (l .before .before .before .before .before .args .f .kind)) (c .before .before .loop-test .taken))
-
-sub-left : tie.Need-sub-left Inv-loop μ-loop
-sub-left c = omega arith
-
-loop-less : tie.Need-loop-less Inv-loop μ-loop
-loop-less c = omega arith
 
 loop-again : tie.Need-loop-again Inv-loop μ-loop
 loop-again c =
@@ -74,15 +62,5 @@ returns-2 c =
 pub check-field-spec : {M : Type 1} → statement M
 check-field-spec =
     tie.close
-    (tie.spec
-    Inv-loop
-    μ-loop
-    width-of-requires
-    loop-holds
-    entry-ok-requires
-    add-at
-    sub-left
-    loop-less
-    loop-again
-    returns
-    returns-2)
+    (tie.spec Inv-loop μ-loop (search needs) (λ c. search needs) entry-ok-requires add-at (search needs)
+    (search needs) loop-again returns returns-2)

@@ -6,12 +6,6 @@ use borrow.Author.Needs.{needs}
 use Rattle.field_check.proofs.entry_ok.Statement.{statement}
 use Rattle.field_check.proofs.entry_ok.Tie as tie
 
-value-at-requires : tie.Need-value-at-requires
-value-at-requires c κs = search needs
-
-in-limits-requires : tie.Need-in-limits-requires
-in-limits-requires c κs = search needs
-
 returns : tie.Need-returns
 returns c =
     let f = c .before .before .before .fits in
@@ -19,4 +13,4 @@ returns c =
     simp (c .before .value-at .ensures) at (simp (toZ-ofZ (f .low), toZ-ofZ (f .high), toZ-ofZ v) at (c .in-limits .ensures))
 
 pub entry-ok-spec : {M : Type 1} → statement M
-entry-ok-spec = tie.close (tie.spec value-at-requires in-limits-requires returns)
+entry-ok-spec = tie.close (tie.spec (search needs) (search needs) returns)

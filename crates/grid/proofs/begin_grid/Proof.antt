@@ -8,9 +8,6 @@ use Rattle.grid.proofs.Filled.{turn-accepted}
 use Rattle.grid.proofs.begin_grid.Statement.{statement}
 use Rattle.grid.proofs.begin_grid.Tie as tie
 
-start-grid-requires : tie.Need-start-grid-requires
-start-grid-requires c κs = search needs
-
 fill-table-requires : tie.Need-fill-table-requires
 fill-table-requires c κs =
     let g = c .before .before in
@@ -18,9 +15,6 @@ fill-table-requires c κs =
     let records = ap (λ (p : Finding × ℕ). p .1) (g .start-grid .ensures) in
     let some : 0 < g .start-grid .result .records = omega arith in
     (turn-accepted (s .args .run .now) (s .args .history .now) (s .args .count) 0 (subst (λ (n : ℕ). 0 < n) records some), s .pre)
-
-same-length : tie.Need-same-length
-same-length c = search needs
 
 returns : tie.Need-returns
 returns c =
@@ -35,4 +29,4 @@ returns-2 : tie.Need-returns-2
 returns-2 c = (c .before .start-grid .ensures, λ some. absurd (omega arith))
 
 pub begin-grid-spec : {M : Type 1} → statement M
-begin-grid-spec = tie.close (tie.spec start-grid-requires fill-table-requires same-length returns returns-2)
+begin-grid-spec = tie.close (tie.spec (search needs) fill-table-requires (search needs) returns returns-2)

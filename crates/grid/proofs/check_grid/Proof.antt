@@ -6,18 +6,6 @@ use Rattle.grid.specs.Grid.{gridCheck}
 use Rattle.grid.proofs.check_grid.Statement.{statement}
 use Rattle.grid.proofs.check_grid.Tie as tie
 
-check-room-requires : tie.Need-check-room-requires
-check-room-requires c κs = search needs
-
-enum-told : tie.Need-enum-told
-enum-told c = search needs
-
-check-run-and-history-requires : tie.Need-check-run-and-history-requires
-check-run-and-history-requires c κs = search needs
-
-enum-known-r : tie.Need-enum-known-r
-enum-known-r c = search needs
-
 returns : tie.Need-returns
 unfolding gridCheck
 returns c =
@@ -29,4 +17,4 @@ unfolding gridCheck
 returns-2 c = sym (first-refused _ _ _ (found (c .before .before .before .check-room .ensures) (c .before .r .given .1)))
 
 pub check-grid-spec : {M : Type 1} → statement M
-check-grid-spec = tie.close (tie.spec check-room-requires enum-told check-run-and-history-requires enum-known-r returns returns-2)
+check-grid-spec = tie.close (tie.spec (search needs) (search needs) (search needs) (search needs) returns returns-2)

@@ -6,15 +6,6 @@ use Rattle.grid.specs.Grid.{gridStart}
 use Rattle.grid.proofs.start_grid.Statement.{statement}
 use Rattle.grid.proofs.start_grid.Tie as tie
 
-check-grid-requires : tie.Need-check-grid-requires
-check-grid-requires c κs = search needs
-
-enum-told : tie.Need-enum-told
-enum-told c = search needs
-
-enum-known-r : tie.Need-enum-known-r
-enum-known-r c = search needs
-
 returns : tie.Need-returns
 returns c = ap gridStart (sym (ap finding (c .enum-told .given .1)) ∙ c .before .before .check-grid .ensures)
 
@@ -22,4 +13,4 @@ returns-2 : tie.Need-returns-2
 returns-2 c = ap gridStart (sym (ap finding (c .before .r .given .1)) ∙ c .before .before .before .check-grid .ensures)
 
 pub start-grid-spec : {M : Type 1} → statement M
-start-grid-spec = tie.close (tie.spec check-grid-requires enum-told enum-known-r returns returns-2)
+start-grid-spec = tie.close (tie.spec (search needs) (search needs) (search needs) returns returns-2)

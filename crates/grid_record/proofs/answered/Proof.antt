@@ -5,15 +5,9 @@ use Rattle.grid_record.specs.Record.{recordOf, answeredOf}
 use Rattle.grid_record.proofs.answered.Statement.{statement}
 use Rattle.grid_record.proofs.answered.Tie as tie
 
-direct-point-requires : tie.Need-direct-point-requires
-direct-point-requires c κs = search needs
-
-recorded-requires : tie.Need-recorded-requires
-recorded-requires c κs = search needs
-
 returns : tie.Need-returns
 unfolding answeredOf
 returns c = c .recorded .ensures ∙ ap (recordOf (c .before .before .before .before .args .p)) (c .before .direct-point .ensures)
 
 pub answered-spec : {M : Type 1} → statement M
-answered-spec = tie.close (tie.spec direct-point-requires recorded-requires returns)
+answered-spec = tie.close (tie.spec (λ c κs. search needs) (search needs) returns)

@@ -8,12 +8,6 @@ use Rattle.improvement.proofs.Cases.{addition-after, addition-at}
 use Rattle.improvement.proofs.addition_in.Statement.{statement}
 use Rattle.improvement.proofs.addition_in.Tie as tie
 
-foundation-year-requires : tie.Need-foundation-year-requires
-foundation-year-requires c κs = search needs
-
-constant-addition-requires : tie.Need-constant-addition-requires
-constant-addition-requires c κs = search needs
-
 returns : tie.Need-returns
 returns c = got w32 (c .constant-addition .ok) (c .constant-addition .ensures) ∙ sym (addition-after _ _ (omega arith))
 
@@ -21,5 +15,4 @@ returns-2 : tie.Need-returns-2
 returns-2 c = sym (addition-at _ _ (omega arith))
 
 pub addition-in-spec : {M : Type 1} → statement M
-addition-in-spec =
-    tie.close (tie.spec foundation-year-requires constant-addition-requires returns returns-2)
+addition-in-spec = tie.close (tie.spec (λ c κs. search needs) (λ c κs. search needs) returns returns-2)

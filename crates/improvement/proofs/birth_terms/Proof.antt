@@ -4,14 +4,8 @@ use borrow.Author.Needs.{needs}
 use Rattle.improvement.proofs.birth_terms.Statement.{statement}
 use Rattle.improvement.proofs.birth_terms.Tie as tie
 
-sub-birth-year-terms : tie.Need-sub-birth-year-terms
-sub-birth-year-terms c = search needs
-
-birth-year-terms-requires : tie.Need-birth-year-terms-requires
-birth-year-terms-requires c κs = search needs
-
 returns : tie.Need-returns
 returns c = c .birth-year-terms .ensures
 
 pub birth-terms-spec : {M : Type 1} → statement M
-birth-terms-spec = tie.close (tie.spec sub-birth-year-terms birth-year-terms-requires returns)
+birth-terms-spec = tie.close (tie.spec (search needs) (λ c κs. search needs) returns)

@@ -7,15 +7,6 @@ use Rattle.improvement.proofs.Cases.{first-before, first-from}
 use Rattle.improvement.proofs.first_year.Statement.{statement}
 use Rattle.improvement.proofs.first_year.Tie as tie
 
-base-year-requires : tie.Need-base-year-requires
-base-year-requires c κs = search needs
-
-foundation-year-requires : tie.Need-foundation-year-requires
-foundation-year-requires c κs = search needs
-
-add-result : tie.Need-add-result
-add-result c = search needs
-
 returns : tie.Need-returns
 returns c =
     let base = c .before .before .base-year .ensures in
@@ -27,5 +18,4 @@ returns-2 c =
     foundation ∙ sym (first-from _ (omega (arith, c .before .before .base-year .ensures, foundation, c .if1 .left)))
 
 pub first-year-spec : {M : Type 1} → statement M
-first-year-spec =
-    tie.close (tie.spec base-year-requires foundation-year-requires add-result returns returns-2)
+first-year-spec = tie.close (tie.spec (λ c κs. search needs) (λ c κs. search needs) (search needs) returns returns-2)

@@ -1,7 +1,6 @@
 -- The year is one of the history's or not: the two cases of the definition.
 use mathlib.Core.Path.{_≡_, _∙_, sym}
 use mathlib.Core.Bool.{true, false}
-use native.Mathlib.Omega.{arith}
 use mir.Syntax.{w32, w64}
 use borrow.Author.Needs.{needs}
 use Rattle.arithmetic.proofs.Machine.{got}
@@ -12,17 +11,11 @@ use Rattle.improvement.proofs.Cases.{actual-range, projected-range, pro
 use Rattle.improvement.proofs.improvement_at.Statement.{statement}
 use Rattle.improvement.proofs.improvement_at.Tie as tie
 
-is-actual-requires : tie.Need-is-actual-requires
-is-actual-requires c κs = search needs
-
 actual-improvement-requires : tie.Need-actual-improvement-requires
 actual-improvement-requires c κs =
     let s = c .before .before .before .before in
     let r = actual-range (basisOf (s .args .run .now)) (s .args .year) (sym (c .before .is-actual .ensures) ∙ c .if1 .taken) in
     (s .pre .0 .usable, s .pre .0 .age-low, s .pre .0 .age-high, r .0, r .1)
-
-wide-requires : tie.Need-wide-requires
-wide-requires c κs = search needs
 
 projected-at-requires : tie.Need-projected-at-requires
 projected-at-requires c κs =
@@ -54,10 +47,5 @@ returns-2 c =
 pub improvement-at-spec : {M : Type 1} → statement M
 improvement-at-spec =
     tie.close
-    (tie.spec
-    is-actual-requires
-    actual-improvement-requires
-    wide-requires
-    projected-at-requires
-    returns
+    (tie.spec (λ c κs. search needs) actual-improvement-requires (search needs) projected-at-requires returns
     returns-2)

@@ -61,12 +61,6 @@ sum-is c =
 addition-is : (c : tie.After-wide) → toZ w64 (ofZ w64 (c .wide .result)) ≡ c .before .before .before .before .args .addition
 addition-is c = got w64 (c .wide .ok) (c .wide .ensures ∙ toZ-ofZ (c .before .before .before .before .fits .addition))
 
-component-requires : tie.Need-component-requires
-component-requires c κs = search needs
-
-component-requires-2 : tie.Need-component-requires-2
-component-requires-2 c κs = search needs
-
 round-sum-requires : tie.Need-round-sum-requires
 round-sum-requires c κs =
     let s = c .before .before in
@@ -81,9 +75,6 @@ round-sum-requires c κs =
       omega (arith, birth .whole),
     )
 
-wide-requires : tie.Need-wide-requires
-wide-requires c κs = search needs
-
 add-result : tie.Need-add-result
 add-result c = rw (sum-is (c .before), addition-is c) (all-fit (c .before .before .before .before))
 
@@ -94,10 +85,4 @@ returns c = rw (sum-is (c .before), addition-is c) (toZ-ofZ (all-fit (c .before 
 pub improvement-from-spec : {M : Type 1} → statement M
 improvement-from-spec =
     tie.close
-    (tie.spec
-    component-requires
-    component-requires-2
-    round-sum-requires
-    wide-requires
-    add-result
-    returns)
+    (tie.spec (search needs) (search needs) round-sum-requires (search needs) add-result returns)

@@ -9,23 +9,11 @@ use Rattle.improvement.proofs.Cases.{needed-usable, needed-beyond}
 use Rattle.improvement.proofs.improvement_needed.Statement.{statement}
 use Rattle.improvement.proofs.improvement_needed.Tie as tie
 
-age-terms-requires : tie.Need-age-terms-requires
-age-terms-requires c κs = search needs
-
-improvement-at-requires : tie.Need-improvement-at-requires
-improvement-at-requires c κs = search needs
-
-is-usable-requires : tie.Need-is-usable-requires
-is-usable-requires c κs = search needs
-
 returns : tie.Need-returns
 returns c =
     let i = c .before .before .improvement-at in
     let e = got w64 (i .ok) (i .ensures) in
     ap value e ∙ sym (needed-usable _ _ _ (ap usable (sym e) ∙ sym (c .before .is-usable .ensures) ∙ c .if1 .taken))
-
-beyond-limits-requires : tie.Need-beyond-limits-requires
-beyond-limits-requires c κs = search needs
 
 returns-2 : tie.Need-returns-2
 returns-2 c =
@@ -37,4 +25,4 @@ returns-2 c =
 pub improvement-needed-spec : {M : Type 1} → statement M
 improvement-needed-spec =
     tie.close
-    (tie.spec age-terms-requires improvement-at-requires is-usable-requires beyond-limits-requires returns returns-2)
+    (tie.spec (λ c κs. search needs) (λ c κs. search needs) (search needs) (search needs) returns returns-2)

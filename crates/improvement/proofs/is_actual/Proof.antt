@@ -9,12 +9,6 @@ use Rattle.improvement.proofs.Cases.{after-base, upto-base}
 use Rattle.improvement.proofs.is_actual.Statement.{statement}
 use Rattle.improvement.proofs.is_actual.Tie as tie
 
-base-year-requires : tie.Need-base-year-requires
-base-year-requires c κs = search needs
-
-foundation-year-requires : tie.Need-foundation-year-requires
-foundation-year-requires c κs = search needs
-
 returns : tie.Need-returns
 returns c =
     let s = c .before .before .before .before in
@@ -30,4 +24,4 @@ returns-2 c =
     ∙ upto-base (basisOf (s .args .run .now)) (s .args .year) (omega (arith, c .before .base-year .ensures, upto))
 
 pub is-actual-spec : {M : Type 1} → statement M
-is-actual-spec = tie.close (tie.spec base-year-requires foundation-year-requires returns returns-2)
+is-actual-spec = tie.close (tie.spec (λ c κs. search needs) (λ c κs. search needs) returns returns-2)

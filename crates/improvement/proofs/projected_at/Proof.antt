@@ -8,18 +8,6 @@ use Rattle.improvement.proofs.Cases.{limits-of, birth-limited, projecte
 use Rattle.improvement.proofs.projected_at.Statement.{statement}
 use Rattle.improvement.proofs.projected_at.Tie as tie
 
-foundation-year-requires : tie.Need-foundation-year-requires
-foundation-year-requires c κs = search needs
-
-sub-years : tie.Need-sub-years
-sub-years c = search needs
-
-birth-terms-requires : tie.Need-birth-terms-requires
-birth-terms-requires c κs = search needs
-
-addition-in-requires : tie.Need-addition-in-requires
-addition-in-requires c κs = search needs
-
 improvement-from-requires : tie.Need-improvement-from-requires
 improvement-from-requires c κs =
     let s = c .before .before .before .before in
@@ -43,10 +31,5 @@ returns c =
 pub projected-at-spec : {M : Type 1} → statement M
 projected-at-spec =
     tie.close
-    (tie.spec
-    foundation-year-requires
-    sub-years
-    birth-terms-requires
-    addition-in-requires
-    improvement-from-requires
-    returns)
+    (tie.spec (λ c κs. search needs) (search needs) (λ c κs. search needs) (λ c κs. search needs)
+    improvement-from-requires returns)

@@ -12,35 +12,17 @@ use borrow.Author.Needs.{needs}
 use Rattle.layout.proofs.value_at.Statement.{statement}
 use Rattle.layout.proofs.value_at.Tie as tie
 
-enum-told : tie.Need-enum-told
-enum-told c = search needs
-
 shared-slice-read-result : tie.Need-shared-slice-read-result
 shared-slice-read-result c = omega (arith, ap widthOf (c .before .enum-told .given .1))
 
 cast-result : tie.Need-cast-result
 cast-result c = record { sfits = omega (arith, c .shared-slice-known2 .given (c .before .before .before .before .args .at)) }
 
-enum-told-2 : tie.Need-enum-told-2
-enum-told-2 c = search needs
-
 read-u16-requires : tie.Need-read-u16-requires
 read-u16-requires c κs = omega (arith, ap widthOf (c .enum-told2 .given .1))
 
-cast-result-2 : tie.Need-cast-result-2
-cast-result-2 c = search needs
-
-enum-told-3 : tie.Need-enum-told-3
-enum-told-3 c = search needs
-
 read-u32-requires : tie.Need-read-u32-requires
 read-u32-requires c κs = omega (arith, ap widthOf (c .enum-told3 .given .1))
-
-cast-result-3 : tie.Need-cast-result-3
-cast-result-3 c = search needs
-
-enum-told-4 : tie.Need-enum-told-4
-enum-told-4 c = search needs
 
 read-i32-requires : tie.Need-read-i32-requires
 read-i32-requires c κs = omega (arith, ap widthOf (c .enum-told4 .given .1))
@@ -70,20 +52,6 @@ returns-4 c =
 pub value-at-spec : {M : Type 1} → statement M
 value-at-spec =
     tie.close
-    (tie.spec
-    enum-told
-    shared-slice-read-result
-    cast-result
-    enum-told-2
-    read-u16-requires
-    cast-result-2
-    enum-told-3
-    read-u32-requires
-    cast-result-3
-    enum-told-4
-    read-i32-requires
-    cast-result-4
-    returns
-    returns-2
-    returns-3
-    returns-4)
+    (tie.spec (search needs) shared-slice-read-result cast-result (search needs) read-u16-requires (search needs)
+    (search needs) read-u32-requires (search needs) (search needs) read-i32-requires cast-result-4 returns returns-2
+    returns-3 returns-4)

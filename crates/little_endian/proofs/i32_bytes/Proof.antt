@@ -6,14 +6,8 @@ use Rattle.little_endian.specs.Bytes.{u32Bytes}
 use Rattle.little_endian.proofs.i32_bytes.Statement.{statement}
 use Rattle.little_endian.proofs.i32_bytes.Tie as tie
 
-to-unsigned-requires : tie.Need-to-unsigned-requires
-to-unsigned-requires c κs = search needs
-
-u32-bytes-requires : tie.Need-u32-bytes-requires
-u32-bytes-requires c κs = search needs
-
 returns : tie.Need-returns
 returns c = c .u32-bytes .ensures ∙ ap u32Bytes (rw (toZ-ofZ (c .before .before .fits .n)) at (c .before .to-unsigned .ensures))
 
 pub i32-bytes-spec : {M : Type 1} → statement M
-i32-bytes-spec = tie.close (tie.spec to-unsigned-requires u32-bytes-requires returns)
+i32-bytes-spec = tie.close (tie.spec (search needs) (search needs) returns)

@@ -6,14 +6,8 @@ use borrow.Author.Needs.{needs}
 use Rattle.little_endian.proofs.read_i32.Statement.{statement}
 use Rattle.little_endian.proofs.read_i32.Tie as tie
 
-read-u32-requires : tie.Need-read-u32-requires
-read-u32-requires c κs = search needs
-
-to-signed-requires : tie.Need-to-signed-requires
-to-signed-requires c κs = search needs
-
 returns : tie.Need-returns
 returns c = toZ-ofZ (search needs) ∙ c .to-signed .ensures ∙ ap signed32 (c .before .read-u32 .ensures)
 
 pub read-i32-spec : {M : Type 1} → statement M
-read-i32-spec = tie.close (tie.spec read-u32-requires to-signed-requires returns)
+read-i32-spec = tie.close (tie.spec (search needs) (search needs) returns)

@@ -18,15 +18,6 @@ less-one : (k : ℕ) → negsuc 0 -ℤ pos k ≡ negsuc k
 less-one zero = refl
 less-one (suc k) = simp zero-add
 
-cast-result : tie.Need-cast-result
-cast-result c = search needs
-
-sub-result : tie.Need-sub-result
-sub-result c = search needs
-
-cast-result-2 : tie.Need-cast-result-2
-cast-result-2 c = search needs
-
 high : (c : tie.Else1) → 4294967295 - c .before .args .n < 2 ^ 31
 high c = omega arith
 
@@ -45,5 +36,4 @@ unfolding signed32
 returns-2 c = rw (toZ-pos w32 (high c), less-one, toZ-ofZ (fits c), le-ltb _ _ (c .if1 .left)) (ap negsuc (omega arith))
 
 pub to-signed-spec : {M : Type 1} → statement M
-to-signed-spec =
-    tie.close (tie.spec cast-result sub-result cast-result-2 sub-result-2 returns returns-2)
+to-signed-spec = tie.close (tie.spec (search needs) (search needs) (search needs) sub-result-2 returns returns-2)

@@ -4,14 +4,8 @@ use borrow.Author.Needs.{needs}
 use Rattle.little_endian.proofs.u16_bytes.Statement.{statement}
 use Rattle.little_endian.proofs.u16_bytes.Tie as tie
 
-cast-t3 : tie.Need-cast-t3
-cast-t3 c = search needs
-
-cast-t6 : tie.Need-cast-t6
-cast-t6 c = search needs
-
 returns : tie.Need-returns
 returns c = refl
 
 pub u16-bytes-spec : {M : Type 1} → statement M
-u16-bytes-spec = tie.close (tie.spec cast-t3 cast-t6 returns)
+u16-bytes-spec = tie.close (tie.spec (search needs) (search needs) returns)

@@ -2,18 +2,11 @@
 use mathlib.Core.Path.{_∙_}
 use borrow.Author.Needs.{needs}
 use Rattle.basis.specs.Basis.{ratedFrom}
-use Rattle.history.specs.History.{basisWith}
 use Rattle.outcome.proofs.Outcome.{found}
 use Rattle.model_points.proofs.Points.{point-passed, point-refused}
 use Rattle.question.proofs.Passed.{question-passed}
 use Rattle.model_points.proofs.direct_point.Statement.{statement}
 use Rattle.model_points.proofs.direct_point.Tie as tie
-
-check-question-requires : tie.Need-check-question-requires
-check-question-requires c κs = search needs
-
-enum-told : tie.Need-enum-told
-enum-told c = search needs
 
 direct-results-requires : tie.Need-direct-results-requires
 unfolding ratedFrom
@@ -22,12 +15,6 @@ direct-results-requires c κs =
     let q = s .args .q in
     let passed = found (c .before .before .check-question .ensures) (c .enum-told .given .1) in
     question-passed (s .args .run .now) (s .args .history .now) (q .age) (q .deferment) (q .year) (s .pre) passed
-
-enum-known-r : tie.Need-enum-known-r
-enum-known-r c = search needs
-
-refused-point-requires : tie.Need-refused-point-requires
-refused-point-requires c κs = search needs
 
 returns : tie.Need-returns
 unfolding ratedFrom
@@ -44,11 +31,5 @@ returns-2 c =
 pub direct-point-spec : {M : Type 1} → statement M
 direct-point-spec =
     tie.close
-    (tie.spec
-    check-question-requires
-    enum-told
-    direct-results-requires
-    enum-known-r
-    refused-point-requires
-    returns
+    (tie.spec (λ c κs. search needs) (search needs) direct-results-requires (search needs) (search needs) returns
     returns-2)

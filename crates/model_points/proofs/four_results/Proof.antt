@@ -4,42 +4,6 @@ use Rattle.model_points.specs.Point.{fourResultsOf}
 use Rattle.model_points.proofs.four_results.Statement.{statement}
 use Rattle.model_points.proofs.four_results.Tie as tie
 
-enum-known-first : tie.Need-enum-known-first
-enum-known-first c = search needs
-
-refused-point-requires : tie.Need-refused-point-requires
-refused-point-requires c κs = search needs
-
-enum-known-first-2 : tie.Need-enum-known-first-2
-enum-known-first-2 c = search needs
-
-enum-known-second : tie.Need-enum-known-second
-enum-known-second c = search needs
-
-refused-point-requires-2 : tie.Need-refused-point-requires-2
-refused-point-requires-2 c κs = search needs
-
-enum-known-second-2 : tie.Need-enum-known-second-2
-enum-known-second-2 c = search needs
-
-enum-known-third : tie.Need-enum-known-third
-enum-known-third c = search needs
-
-refused-point-requires-3 : tie.Need-refused-point-requires-3
-refused-point-requires-3 c κs = search needs
-
-enum-known-third-2 : tie.Need-enum-known-third-2
-enum-known-third-2 c = search needs
-
-enum-known-fourth : tie.Need-enum-known-fourth
-enum-known-fourth c = search needs
-
-refused-point-requires-4 : tie.Need-refused-point-requires-4
-refused-point-requires-4 c κs = search needs
-
-enum-known-fourth-2 : tie.Need-enum-known-fourth-2
-enum-known-fourth-2 c = search needs
-
 returns : tie.Need-returns
 unfolding fourResultsOf
 returns c = simp (c .before .before .first .given .1, c .refused-point .ensures)
@@ -80,21 +44,6 @@ returns-5 c =
 pub four-results-spec : {M : Type 1} → statement M
 four-results-spec =
     tie.close
-    (tie.spec
-    enum-known-first
-    refused-point-requires
-    enum-known-first-2
-    enum-known-second
-    refused-point-requires-2
-    enum-known-second-2
-    enum-known-third
-    refused-point-requires-3
-    enum-known-third-2
-    enum-known-fourth
-    refused-point-requires-4
-    enum-known-fourth-2
-    returns
-    returns-2
-    returns-3
-    returns-4
+    (tie.spec (search needs) (search needs) (search needs) (search needs) (search needs) (search needs) (search needs)
+    (search needs) (search needs) (search needs) (search needs) (search needs) returns returns-2 returns-3 returns-4
     returns-5)

@@ -7,9 +7,6 @@ use Rattle.question.specs.Question.{ageCheck}
 use Rattle.question.proofs.check_age.Statement.{statement}
 use Rattle.question.proofs.check_age.Tie as tie
 
-is-in-range-requires : tie.Need-is-in-range-requires
-is-in-range-requires c κs = search needs
-
 returns : tie.Need-returns
 unfolding ageCheck
 returns c = ap (λ (ok : Bool). unless ok (refusal 6 (c .before .before .args .age) 0)) (sym (c .if1 .taken) ∙ c .before .is-in-range .ensures)
@@ -19,4 +16,4 @@ unfolding ageCheck
 returns-2 c = ap (λ (ok : Bool). unless ok (refusal 6 (c .before .before .args .age) 0)) (sym (c .if1 .left) ∙ c .before .is-in-range .ensures)
 
 pub check-age-spec : {M : Type 1} → statement M
-check-age-spec = tie.close (tie.spec is-in-range-requires returns returns-2)
+check-age-spec = tie.close (tie.spec (search needs) returns returns-2)

@@ -5,17 +5,8 @@ use Rattle.outcome.proofs.Outcome.{first-same}
 use Rattle.question.proofs.check_cell.Statement.{statement}
 use Rattle.question.proofs.check_cell.Tie as tie
 
-check-age-requires : tie.Need-check-age-requires
-check-age-requires c κs = search needs
-
-check-year-requires : tie.Need-check-year-requires
-check-year-requires c κs = search needs
-
-first-of-requires : tie.Need-first-of-requires
-first-of-requires c κs = search needs
-
 returns : tie.Need-returns
 returns c = c .first-of .ensures ∙ first-same (c .before .before .check-age .ensures) (c .before .check-year .ensures)
 
 pub check-cell-spec : {M : Type 1} → statement M
-check-cell-spec = tie.close (tie.spec check-age-requires check-year-requires first-of-requires returns)
+check-cell-spec = tie.close (tie.spec (search needs) (search needs) (search needs) returns)

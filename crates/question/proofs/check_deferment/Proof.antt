@@ -6,9 +6,6 @@ use Rattle.question.specs.Question.{defermentCheck}
 use Rattle.question.proofs.check_deferment.Statement.{statement}
 use Rattle.question.proofs.check_deferment.Tie as tie
 
-add-if1 : tie.Need-add-if1
-add-if1 c = search needs
-
 returns : tie.Need-returns
 unfolding defermentCheck
 returns c = rw (le-leb _ _ (c .if1 .taken)) refl
@@ -18,4 +15,4 @@ unfolding defermentCheck
 returns-2 c = rw (lt-leb _ _ (c .if1 .left)) refl
 
 pub check-deferment-spec : {M : Type 1} → statement M
-check-deferment-spec = tie.close (tie.spec add-if1 returns returns-2)
+check-deferment-spec = tie.close (tie.spec (search needs) returns returns-2)

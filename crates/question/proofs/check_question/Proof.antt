@@ -7,24 +7,6 @@ use Rattle.outcome.proofs.Outcome.{first-same}
 use Rattle.question.proofs.check_question.Statement.{statement}
 use Rattle.question.proofs.check_question.Tie as tie
 
-rated-from-requires : tie.Need-rated-from-requires
-rated-from-requires c κs = search needs
-
-check-year-requires : tie.Need-check-year-requires
-check-year-requires c κs = search needs
-
-check-age-requires : tie.Need-check-age-requires
-check-age-requires c κs = search needs
-
-check-deferment-requires : tie.Need-check-deferment-requires
-check-deferment-requires c κs = search needs
-
-first-of-requires : tie.Need-first-of-requires
-first-of-requires c κs = search needs
-
-first-of-requires-2 : tie.Need-first-of-requires-2
-first-of-requires-2 c κs = search needs
-
 returns : tie.Need-returns
 unfolding questionCheck
 returns c =
@@ -40,4 +22,5 @@ returns c =
 pub check-question-spec : {M : Type 1} → statement M
 check-question-spec =
     tie.close
-    (tie.spec rated-from-requires check-year-requires check-age-requires check-deferment-requires first-of-requires first-of-requires-2 returns)
+    (tie.spec (λ c κs. search needs) (search needs) (search needs) (search needs) (search needs) (search needs)
+    returns)

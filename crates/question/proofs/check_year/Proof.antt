@@ -7,9 +7,6 @@ use Rattle.question.specs.Question.{yearCheck}
 use Rattle.question.proofs.check_year.Statement.{statement}
 use Rattle.question.proofs.check_year.Tie as tie
 
-is-in-range-requires : tie.Need-is-in-range-requires
-is-in-range-requires c κs = search needs
-
 returns : tie.Need-returns
 unfolding yearCheck
 returns c = ap (λ (ok : Bool). unless ok (refusal 7 (c .before .before .args .year) 0)) (sym (c .if1 .taken) ∙ c .before .is-in-range .ensures)
@@ -19,4 +16,4 @@ unfolding yearCheck
 returns-2 c = ap (λ (ok : Bool). unless ok (refusal 7 (c .before .before .args .year) 0)) (sym (c .if1 .left) ∙ c .before .is-in-range .ensures)
 
 pub check-year-spec : {M : Type 1} → statement M
-check-year-spec = tie.close (tie.spec is-in-range-requires returns returns-2)
+check-year-spec = tie.close (tie.spec (search needs) returns returns-2)

@@ -10,26 +10,14 @@ use borrow.Author.Needs.{needs}
 use Rattle.short_form.proofs.check_short_form.Statement.{statement}
 use Rattle.short_form.proofs.check_short_form.Tie as tie
 
-check-run-requires : tie.Need-check-run-requires
-check-run-requires c κs = search needs
-
-enum-told : tie.Need-enum-told
-enum-told c = search needs
-
 returns : tie.Need-returns
 returns c =
     let k = c .before .before in
     let s = k .before .before .args in
     run-refused (s .run .now) (s .rate) (finding (k .check-run .result)) (k .check-run .ensures) (ap finding (c .enum-told .given .1))
 
-enum-told-2 : tie.Need-enum-told-2
-enum-told-2 c = search needs
-
 cast-in-limits : tie.Need-cast-in-limits
 cast-in-limits c = let f = c .before .before .before .before .fits .rate in rw (toZ-ofZ f) (sfits-widen tt f)
-
-in-limits-requires : tie.Need-in-limits-requires
-in-limits-requires c κs = search needs
 
 returns-2 : tie.Need-returns-2
 returns-2 c =
@@ -50,12 +38,4 @@ returns-3 c =
 pub check-short-form-spec : {M : Type 1} → statement M
 check-short-form-spec =
     tie.close
-    (tie.spec
-    check-run-requires
-    enum-told
-    returns
-    enum-told-2
-    cast-in-limits
-    in-limits-requires
-    returns-2
-    returns-3)
+    (tie.spec (search needs) (search needs) returns (search needs) cast-in-limits (search needs) returns-2 returns-3)

@@ -11,18 +11,6 @@ use borrow.Author.Needs.{needs}
 use Rattle.short_form.proofs.short_form.Statement.{statement}
 use Rattle.short_form.proofs.short_form.Tie as tie
 
-check-room-requires : tie.Need-check-room-requires
-check-room-requires c κs = search needs
-
-check-short-form-requires : tie.Need-check-short-form-requires
-check-short-form-requires c κs = search needs
-
-first-of-requires : tie.Need-first-of-requires
-first-of-requires c κs = search needs
-
-enum-told : tie.Need-enum-told
-enum-told c = search needs
-
 put-ages-requires : tie.Need-put-ages-requires
 put-ages-requires c κs =
     let told = c .before in
@@ -41,12 +29,6 @@ put-birth-years-requires c κs =
     let e = rw (k .before .before .check-room .ensures, k .before .check-short-form .ensures, same) at (k .first-of .ensures) in
     let p = through (s .args .run .now) (s .args .rate) (s .args .out .now) (found e (told .enum-told .given .1)) in
     (p .0, omega arith)
-
-enum-told-2 : tie.Need-enum-told-2
-enum-told-2 c = search needs
-
-same-length : tie.Need-same-length
-same-length c = search needs
 
 returns : tie.Need-returns
 returns c =
@@ -73,14 +55,5 @@ returns-2 c =
 pub short-form-spec : {M : Type 1} → statement M
 short-form-spec =
     tie.close
-    (tie.spec
-    check-room-requires
-    check-short-form-requires
-    first-of-requires
-    enum-told
-    put-ages-requires
-    put-birth-years-requires
-    enum-told-2
-    same-length
-    returns
-    returns-2)
+    (tie.spec (search needs) (search needs) (search needs) (search needs) put-ages-requires put-birth-years-requires
+    (search needs) (search needs) returns returns-2)

@@ -6,39 +6,6 @@ use Rattle.small_set.proofs.Sixes.{six-list}
 use Rattle.small_set.proofs.six.Statement.{statement}
 use Rattle.small_set.proofs.six.Tie as tie
 
-array-copy-out-direct-point : tie.Need-array-copy-out-direct-point
-array-copy-out-direct-point c = search needs
-
-direct-point-requires : tie.Need-direct-point-requires
-direct-point-requires c κs = search needs
-
-array-copy-out-direct-point-2 : tie.Need-array-copy-out-direct-point-2
-array-copy-out-direct-point-2 c = search needs
-
-direct-point-requires-2 : tie.Need-direct-point-requires-2
-direct-point-requires-2 c κs = search needs
-
-array-copy-out-direct-point-3 : tie.Need-array-copy-out-direct-point-3
-array-copy-out-direct-point-3 c = search needs
-
-direct-point-requires-3 : tie.Need-direct-point-requires-3
-direct-point-requires-3 c κs = search needs
-
-array-copy-out-direct-point-4 : tie.Need-array-copy-out-direct-point-4
-array-copy-out-direct-point-4 c = search needs
-
-direct-point-requires-4 : tie.Need-direct-point-requires-4
-direct-point-requires-4 c κs = search needs
-
-array-copy-out-direct-point-5 : tie.Need-array-copy-out-direct-point-5
-array-copy-out-direct-point-5 c = search needs
-
-direct-point-requires-5 : tie.Need-direct-point-requires-5
-direct-point-requires-5 c κs = search needs
-
-array-copy-out-direct-point-6 : tie.Need-array-copy-out-direct-point-6
-array-copy-out-direct-point-6 c = search needs
-
 direct-point-requires-6 : tie.Need-direct-point-requires-6
 direct-point-requires-6 c κs = c .before .before .before .before .before .before .before .before .before .before .before .before .before .pre
 
@@ -58,17 +25,6 @@ returns c =
 pub six-spec : {M : Type 1} → statement M
 six-spec =
     tie.close
-    (tie.spec
-    array-copy-out-direct-point
-    direct-point-requires
-    array-copy-out-direct-point-2
-    direct-point-requires-2
-    array-copy-out-direct-point-3
-    direct-point-requires-3
-    array-copy-out-direct-point-4
-    direct-point-requires-4
-    array-copy-out-direct-point-5
-    direct-point-requires-5
-    array-copy-out-direct-point-6
-    direct-point-requires-6
-    returns)
+    (tie.spec (search needs) (λ c κs. search needs) (search needs) (λ c κs. search needs) (search needs)
+    (λ c κs. search needs) (search needs) (λ c κs. search needs) (search needs) (λ c κs. search needs) (search needs)
+    direct-point-requires-6 returns)

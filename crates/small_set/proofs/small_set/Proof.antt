@@ -6,20 +6,11 @@ use Rattle.small_set.specs.SmallSet.{smallSetOf}
 use Rattle.small_set.proofs.small_set.Statement.{statement}
 use Rattle.small_set.proofs.small_set.Tie as tie
 
-check-run-and-history-requires : tie.Need-check-run-and-history-requires
-check-run-and-history-requires c κs = search needs
-
-enum-told : tie.Need-enum-told
-enum-told c = search needs
-
 six-requires : tie.Need-six-requires
 six-requires c κs =
     let told = c .before in
     let a = told .before .before .before .before .before .args in
     accepted-workable (a .run .now) (a .history .now) (found (told .before .before .check-run-and-history .ensures) (told .enum-told .given .1))
-
-enum-known-refusal : tie.Need-enum-known-refusal
-enum-known-refusal c = search needs
 
 returns : tie.Need-returns
 unfolding smallSetOf
@@ -32,6 +23,4 @@ unfolding smallSetOf
 returns-2 c = simp (found (c .before .before .before .check-run-and-history .ensures) (c .before .refusal .given .1))
 
 pub small-set-spec : {M : Type 1} → statement M
-small-set-spec =
-    tie.close
-    (tie.spec check-run-and-history-requires enum-told six-requires enum-known-refusal returns returns-2)
+small-set-spec = tie.close (tie.spec (search needs) (search needs) six-requires (search needs) returns returns-2)

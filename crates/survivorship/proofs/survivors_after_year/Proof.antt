@@ -8,9 +8,6 @@ use Rattle.survivorship.proofs.Survivors.{survivors-by-rate}
 use Rattle.survivorship.proofs.survivors_after_year.Statement.{statement}
 use Rattle.survivorship.proofs.survivors_after_year.Tie as tie
 
-rate-at-requires : tie.Need-rate-at-requires
-rate-at-requires c κs = search needs
-
 survivors-by-requires : tie.Need-survivors-by-requires
 survivors-by-requires c κs =
     let s = c .before .before .before in
@@ -23,4 +20,4 @@ returns c =
     c .survivors-by .ensures ∙ survivors-by-rate (basisWith (a .run .now) (a .history .now)) (a .age) (a .year) (pos (a .s)) (c .before .rate-at .ensures)
 
 pub survivors-after-year-spec : {M : Type 1} → statement M
-survivors-after-year-spec = tie.close (tie.spec rate-at-requires survivors-by-requires returns)
+survivors-after-year-spec = tie.close (tie.spec (λ c κs. search needs) survivors-by-requires returns)

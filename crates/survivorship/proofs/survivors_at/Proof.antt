@@ -22,21 +22,9 @@ abbrev μ-loop : tie.MeasureT-loop
 loop-holds : tie.Need-loop-holds Inv-loop μ-loop
 loop-holds c = let a = c .before .before .args in (omega arith, omega arith, survivors-first (basisWith (a .run .now) (a .history .now)) (a .kind) (a .age) (a .year))
 
-add-survivors-after-year : tie.Need-add-survivors-after-year Inv-loop μ-loop
-add-survivors-after-year c = search needs
-
-year-on-requires : tie.Need-year-on-requires Inv-loop μ-loop
-year-on-requires c κs = search needs
-
 survivors-after-year-requires : tie.Need-survivors-after-year-requires Inv-loop μ-loop
 survivors-after-year-requires c κs = let l = c .before .before in let s = l .before .before .before in
     (cell-on (s .args .age) (s .args .year) (s .args .kind) (l .loop .j) (s .pre .usable) (s .pre .age-low) (omega arith) (s .pre .year-low) (c .year-on .ensures), l .loop .inv .1)
-
-enum-known-v : tie.Need-enum-known-v Inv-loop μ-loop
-enum-known-v c = search needs
-
-enum-known-r : tie.Need-enum-known-r Inv-loop μ-loop
-enum-known-r c = search needs
 
 returns : tie.Need-returns Inv-loop μ-loop
 returns c = let y = c .before .before .before in let l = y .before .before .before in let s = l .before .before .before in let a = s .args in
@@ -45,12 +33,6 @@ returns c = let y = c .before .before .before in let l = y .before .before .befo
     let g = sym (ap meaning (c .before .r .given .1)) ∙ y .survivors-after-year .ensures in
     let e = survivors-next b (a .kind) (a .age) (l .loop .j) (a .year) (pos (l .loop .s)) (refused r) (y .before .year-on .ensures) (l .loop .inv .2) g in
     sym (survivors-refused b (a .kind) (a .age) (suc (l .loop .j)) (a .n) (a .year) r (omega arith) e)
-
-add-j : tie.Need-add-j Inv-loop μ-loop
-add-j c = search needs
-
-loop-less : tie.Need-loop-less Inv-loop μ-loop
-loop-less c = search needs
 
 loop-again : tie.Need-loop-again Inv-loop μ-loop
 loop-again c = let y = c .before .before .before in let l = y .before .before .before in let s = l .before .before .before in let a = s .args in
@@ -71,17 +53,5 @@ returns-2 c = let l = c .before in let e : l .loop .j ≡ l .before .before .bef
 pub survivors-at-spec : {M : Type 1} → statement M
 survivors-at-spec =
     tie.close
-    (tie.spec
-    Inv-loop
-    μ-loop
-    loop-holds
-    add-survivors-after-year
-    year-on-requires
-    survivors-after-year-requires
-    enum-known-v
-    enum-known-r
-    returns
-    add-j
-    loop-less
-    loop-again
-    returns-2)
+    (tie.spec Inv-loop μ-loop loop-holds (search needs) (search needs) survivors-after-year-requires (search needs)
+    (search needs) returns (search needs) (search needs) loop-again returns-2)

@@ -7,16 +7,10 @@ use Rattle.survivorship.specs.Survivorship.{survivorsNext}
 use Rattle.survivorship.proofs.survivors_by.Statement.{statement}
 use Rattle.survivorship.proofs.survivors_by.Tie as tie
 
-enum-known-rate : tie.Need-enum-known-rate
-enum-known-rate c = search needs
-
 survivors-next-requires : tie.Need-survivors-next-requires
 survivors-next-requires c κs =
     let p = c .before .before .before .pre in
     (p .0, p .1 _ (ap meaning (c .before .rate .given .1)))
-
-enum-known-rate-2 : tie.Need-enum-known-rate-2
-enum-known-rate-2 c = search needs
 
 returns : tie.Need-returns
 returns c =
@@ -30,6 +24,4 @@ returns-2 c =
     sym (ap (λ o. andThen (meaning o) (λ q. value (survivorsNext (pos (a .s)) q))) (c .before .rate2 .given .1))
 
 pub survivors-by-spec : {M : Type 1} → statement M
-survivors-by-spec =
-    tie.close
-    (tie.spec enum-known-rate survivors-next-requires enum-known-rate-2 returns returns-2)
+survivors-by-spec = tie.close (tie.spec (search needs) survivors-next-requires (search needs) returns returns-2)

@@ -12,9 +12,6 @@ use Rattle.survivorship.proofs.survivors_next.Tie as tie
 room : (c : tie.Start) → c .args .s * (1_000_000_000 - c .args .q) ≤ 1_000_000_000_000_000_000
 room c = mul-le-mul {n₂ = 1_000_000_000} {m₂ = 1_000_000_000} (c .pre .0) (omega arith)
 
-sub-round-div-unsigned : tie.Need-sub-round-div-unsigned
-sub-round-div-unsigned c = search needs
-
 mul-round-div-unsigned : tie.Need-mul-round-div-unsigned
 mul-round-div-unsigned c = record { fits = omega (arith, room c) }
 
@@ -28,5 +25,4 @@ returns c = let a = c .before .args in (
 )
 
 pub survivors-next-spec : {M : Type 1} → statement M
-survivors-next-spec =
-    tie.close (tie.spec sub-round-div-unsigned mul-round-div-unsigned round-div-unsigned-requires returns)
+survivors-next-spec = tie.close (tie.spec (search needs) mul-round-div-unsigned round-div-unsigned-requires returns)

@@ -16,9 +16,6 @@ returns c =
     let a = c .before .before .before .args in
     sym (advanced-refused (basisWith (a .run .now) (a .history .now)) (a .age) (a .year) (decoded (a .age) (a .n)) _ (decoded-above (a .age) (a .n) (omega arith)))
 
-next-factor-requires : tie.Need-next-factor-requires
-next-factor-requires c κs = search needs
-
 returns-2 : tie.Need-returns-2
 returns-2 c =
     let a = c .before .before .before .before .before .args in
@@ -32,4 +29,4 @@ returns-3 c =
     sym (advanced-late (basisWith (a .run .now) (a .history .now)) (a .age) (a .year) (decoded (a .age) (a .n)) (le-ltb (a .year) 2130 (c .if2 .left)))
 
 pub advanced-factor-spec : {M : Type 1} → statement M
-advanced-factor-spec = tie.close (tie.spec returns next-factor-requires returns-2 returns-3)
+advanced-factor-spec = tie.close (tie.spec returns (λ c κs. search needs) returns-2 returns-3)

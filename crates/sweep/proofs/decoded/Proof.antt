@@ -9,14 +9,8 @@ use Rattle.sweep.proofs.decoded.Tie as tie
 returns : tie.Need-returns
 returns c = let a = c .before .args in sym (decoded-factor (a .age) (a .n) (omega arith))
 
-sub-refused : tie.Need-sub-refused
-sub-refused c = search needs
-
-cast-t9 : tie.Need-cast-t9
-cast-t9 c = search needs
-
 returns-2 : tie.Need-returns-2
 returns-2 c = let a = c .before .args in sym (decoded-above (a .age) (a .n) (omega arith))
 
 pub decoded-spec : {M : Type 1} → statement M
-decoded-spec = tie.close (tie.spec returns sub-refused cast-t9 returns-2)
+decoded-spec = tie.close (tie.spec returns (search needs) (search needs) returns-2)

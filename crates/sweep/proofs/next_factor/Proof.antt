@@ -14,12 +14,6 @@ use Rattle.sweep.proofs.Numbers.{decoded-factor, decoded-again}
 use Rattle.sweep.proofs.next_factor.Statement.{statement}
 use Rattle.sweep.proofs.next_factor.Tie as tie
 
-age-terms-requires : tie.Need-age-terms-requires
-age-terms-requires c κs = search needs
-
-add-factor-in : tie.Need-add-factor-in
-add-factor-in c = search needs
-
 factor-in-requires : tie.Need-factor-in-requires
 factor-in-requires c κs =
     let s = c .before .before .before in
@@ -35,9 +29,6 @@ factor-in-requires c κs =
       s .pre .2,
     )
 
-enum-known-factor : tie.Need-enum-known-factor
-enum-known-factor c = search needs
-
 cast-result : tie.Need-cast-result
 cast-result c =
     let y = c .before .before .before in
@@ -46,12 +37,6 @@ cast-result c =
     let told = sym (y .factor-in .ensures) ∙ ap meaning (c .before .factor .given .1) in
     let small = year-small b (a .age) (a .year + 1) (improvementOf b (a .age) (a .year + 1)) _ (c .before .factor .given .0 .0) told in
     record { fits = omega (arith, small) }
-
-enum-known-r : tie.Need-enum-known-r
-enum-known-r c = search needs
-
-add-refused-number : tie.Need-add-refused-number
-add-refused-number c = search needs
 
 refused-number-requires : tie.Need-refused-number-requires
 refused-number-requires c κs =
@@ -88,14 +73,5 @@ returns-2 c =
 pub next-factor-spec : {M : Type 1} → statement M
 next-factor-spec =
     tie.close
-    (tie.spec
-    age-terms-requires
-    add-factor-in
-    factor-in-requires
-    enum-known-factor
-    cast-result
-    enum-known-r
-    add-refused-number
-    refused-number-requires
-    returns
-    returns-2)
+    (tie.spec (λ c κs. search needs) (search needs) factor-in-requires (search needs) cast-result (search needs)
+    (search needs) refused-number-requires returns returns-2)

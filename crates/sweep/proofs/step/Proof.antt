@@ -20,15 +20,6 @@ loop-holds c =
     let a = s .args in
     (omega arith, omega arith, advanced-none (basisWith (a .run .now) (a .history .now)) (a .year) (a .state .now) (s .pre .1))
 
-sub-i : tie.Need-sub-i Inv-loop μ-loop
-sub-i c = search needs
-
-cast-i : tie.Need-cast-i Inv-loop μ-loop
-cast-i c = search needs
-
-mul-advanced-factor : tie.Need-mul-advanced-factor Inv-loop μ-loop
-mul-advanced-factor c = search needs
-
 slice-read-advanced-factor : tie.Need-slice-read-advanced-factor Inv-loop μ-loop
 slice-read-advanced-factor c = omega (arith, c .before .before .loop .inv .2 .size)
 
@@ -38,17 +29,8 @@ advanced-factor-requires c κs =
     let s = l .before .before .before .before in
     record { usable = s .pre .0; age-low = l .loop .inv .0; age-high = omega arith; year-low = s .pre .2 }
 
-mul-state : tie.Need-mul-state Inv-loop μ-loop
-mul-state c = search needs
-
 slice-write-state : tie.Need-slice-write-state Inv-loop μ-loop
 slice-write-state c = omega (arith, c .before .before .before .loop .inv .2 .size)
-
-add-age : tie.Need-add-age Inv-loop μ-loop
-add-age c = search needs
-
-loop-less : tie.Need-loop-less Inv-loop μ-loop
-loop-less c = search needs
 
 loop-again : tie.Need-loop-again Inv-loop μ-loop
 loop-again c =
@@ -74,19 +56,6 @@ returns c =
 pub step-spec : {M : Type 1} → statement M
 step-spec =
     tie.close
-    (tie.spec
-    Inv-loop
-    μ-loop
-    loop-holds
-    sub-i
-    cast-i
-    mul-advanced-factor
-    slice-read-advanced-factor
-    advanced-factor-requires
-    mul-state
-    slice-write-state
-    add-age
-    loop-less
-    loop-again
-    same-length
+    (tie.spec Inv-loop μ-loop loop-holds (search needs) (search needs) (search needs) slice-read-advanced-factor
+    advanced-factor-requires (search needs) slice-write-state (search needs) (search needs) loop-again same-length
     returns)

@@ -42,18 +42,6 @@ module _ (run : List ℕ) (table : Table) where
 check-run-requires : tie.Need-check-run-requires
 check-run-requires c κs = search needs
 
-enum-told : tie.Need-enum-told
-enum-told c = search needs
-
-sub-result : tie.Need-sub-result
-sub-result c = search needs
-
-part-result-start : tie.Need-part-result-start
-part-result-start c = search needs
-
-part-result-end : tie.Need-part-result-end
-part-result-end c = search needs
-
 returns : tie.Need-returns
 returns c =
     let k = c .before .before .before in
@@ -64,9 +52,6 @@ returns c =
 -- ---- a run that passed, and the table's stretch in it
 enum-told-2 : tie.Need-enum-told-2
 enum-told-2 c = search needs
-
-stretch-of-requires : tie.Need-stretch-of-requires
-stretch-of-requires c κs = search needs
 
 record Passing (c : tie.After-struct-known) : Type 0 where
   passed : runCheck (c .before .before .before .before .before .before .args .run .now) ≡ passed
@@ -83,12 +68,6 @@ passing c =
 add-end : tie.Need-add-end
 add-end c = omega (arith, passing c .in-run)
 
-sub-result-2 : tie.Need-sub-result-2
-sub-result-2 c = search needs
-
-part-result-start-2 : tie.Need-part-result-start-2
-part-result-start-2 c = search needs
-
 part-result-end-2 : tie.Need-part-result-end-2
 part-result-end-2 c = let p = passing c in omega (arith, accepted _ (p .passed) .size, p .in-run)
 
@@ -102,17 +81,5 @@ returns-2 c =
 pub table-of-spec : {M : Type 1} → statement M
 table-of-spec =
     tie.close
-    (tie.spec
-    check-run-requires
-    enum-told
-    sub-result
-    part-result-start
-    part-result-end
-    returns
-    enum-told-2
-    stretch-of-requires
-    add-end
-    sub-result-2
-    part-result-start-2
-    part-result-end-2
-    returns-2)
+    (tie.spec check-run-requires (search needs) (search needs) (search needs) (search needs) returns enum-told-2
+    (search needs) add-end (search needs) (search needs) part-result-end-2 returns-2)

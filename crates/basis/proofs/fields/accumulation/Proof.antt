@@ -13,9 +13,6 @@ use borrow.Author.Needs.{needs}
 use Rattle.basis.proofs.fields.accumulation.Statement.{statement}
 use Rattle.basis.proofs.fields.accumulation.Tie as tie
 
-read-i32-requires : tie.Need-read-i32-requires
-read-i32-requires c κs = search needs
-
 -- the rate, as it is read and widened
 record Read (c : tie.After-read-i32) : Type 0 where
   low : negℤ (pos 10_000_000) ≤ℤ c .read-i32 .result
@@ -54,5 +51,4 @@ returns c =
     rw (a .read, a .wide, toZ-ofZ (fits d (a .low) (a .high))) (ap (λ z. natAbs (pos U +ℤ z)) (c .read-i32 .ensures))
 
 pub accumulation-spec : {M : Type 1} → statement M
-accumulation-spec =
-    tie.close (tie.spec read-i32-requires cast-result add-result cast-result-2 returns)
+accumulation-spec = tie.close (tie.spec (search needs) cast-result add-result cast-result-2 returns)

@@ -7,12 +7,9 @@ use borrow.Author.Needs.{needs}
 use Rattle.basis.proofs.fields.constant_addition.Statement.{statement}
 use Rattle.basis.proofs.fields.constant_addition.Tie as tie
 
-read-i32-requires : tie.Need-read-i32-requires
-read-i32-requires c κs = search needs
-
 returns : tie.Need-returns
 unfolding basisOf
 returns c = toZ-ofZ {w = w32} (search needs) ∙ c .read-i32 .ensures
 
 pub constant-addition-spec : {M : Type 1} → statement M
-constant-addition-spec = tie.close (tie.spec read-i32-requires returns)
+constant-addition-spec = tie.close (tie.spec (search needs) returns)

@@ -4,12 +4,9 @@ use Rattle.basis.specs.Basis.{ratedFrom}
 use Rattle.basis.proofs.fields.rated_from.Statement.{statement}
 use Rattle.basis.proofs.fields.rated_from.Tie as tie
 
-base-year-requires : tie.Need-base-year-requires
-base-year-requires c κs = search needs
-
 returns : tie.Need-returns
 unfolding ratedFrom
 returns c = c .base-year .ensures
 
 pub rated-from-spec : {M : Type 1} → statement M
-rated-from-spec = tie.close (tie.spec base-year-requires returns)
+rated-from-spec = tie.close (tie.spec (λ c κs. search needs) returns)

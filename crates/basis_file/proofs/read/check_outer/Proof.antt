@@ -8,11 +8,8 @@ use Rattle.basis_file.proofs.read.check_outer.Tie as tie
 returns : tie.Need-returns
 returns c = sym (wrong-size _ (c .if1 .taken))
 
-check-file-blocks-requires : tie.Need-check-file-blocks-requires
-check-file-blocks-requires c κs = search needs
-
 returns-2 : tie.Need-returns-2
 returns-2 c = c .check-file-blocks .ensures ∙ sym (right-size _ (c .before .if1 .left))
 
 pub check-outer-spec : {M : Type 1} → statement M
-check-outer-spec = tie.close (tie.spec returns check-file-blocks-requires returns-2)
+check-outer-spec = tie.close (tie.spec returns (search needs) returns-2)

@@ -11,18 +11,6 @@ use borrow.Author.Needs.{needs}
 use Rattle.basis_file.proofs.read.read_file.Statement.{statement}
 use Rattle.basis_file.proofs.read.read_file.Tie as tie
 
-check-room-requires : tie.Need-check-room-requires
-check-room-requires c κs = search needs
-
-check-outer-requires : tie.Need-check-outer-requires
-check-outer-requires c κs = search needs
-
-first-of-requires : tie.Need-first-of-requires
-first-of-requires c κs = search needs
-
-enum-told : tie.Need-enum-told
-enum-told c = search needs
-
 returns : tie.Need-returns
 returns c =
     let k = c .before .before in
@@ -31,30 +19,12 @@ returns c =
     let told = ap finding (c .enum-told .given .1) in
     (outer-refuses (s .file .now) (s .run .now) _ e _ told, sym (kept (finding (k .first-of .result)) _ _ _ told))
 
-enum-told-2 : tie.Need-enum-told-2
-enum-told-2 c = search needs
-
-slice-aggregate-join-parts : tie.Need-slice-aggregate-join-parts
-slice-aggregate-join-parts c = search needs
-
 join-parts-requires : tie.Need-join-parts-requires
 join-parts-requires c κs =
     let k = c .before .before .before in
     let s = k .before .before .before .before .before .args in
     let e = rw (k .before .before .check-room .ensures, k .before .check-outer .ensures) at (k .first-of .ensures) in
     (outer-lets (s .file .now) (s .run .now) _ e (ap finding (c .before .enum-told2 .given .1)) .1, search needs)
-
-slice-aggregate-check-run : tie.Need-slice-aggregate-check-run
-slice-aggregate-check-run c = search needs
-
-check-run-requires : tie.Need-check-run-requires
-check-run-requires c κs = search needs
-
-enum-told-3 : tie.Need-enum-told-3
-enum-told-3 c = search needs
-
-slice-aggregate-put : tie.Need-slice-aggregate-put
-slice-aggregate-put c = search needs
 
 put-requires : tie.Need-put-requires
 put-requires c κs =
@@ -63,12 +33,6 @@ put-requires c κs =
     let s = k .before .before .before .before .before .args in
     let e = rw (k .before .before .check-room .ensures, k .before .check-outer .ensures) at (k .first-of .ensures) in
     omega (arith, outer-lets (s .file .now) (s .run .now) _ e (ap finding (told .enum-told2 .given .1)) .0)
-
-enum-told-4 : tie.Need-enum-told-4
-enum-told-4 c = search needs
-
-same-length : tie.Need-same-length
-same-length c = search needs
 
 returns-2 : tie.Need-returns-2
 returns-2 c =
@@ -100,21 +64,6 @@ returns-3 c =
 pub read-file-spec : {M : Type 1} → statement M
 read-file-spec =
     tie.close
-    (tie.spec
-    check-room-requires
-    check-outer-requires
-    first-of-requires
-    enum-told
-    returns
-    enum-told-2
-    slice-aggregate-join-parts
-    join-parts-requires
-    slice-aggregate-check-run
-    check-run-requires
-    enum-told-3
-    slice-aggregate-put
-    put-requires
-    enum-told-4
-    same-length
-    returns-2
-    returns-3)
+    (tie.spec (search needs) (search needs) (search needs) (search needs) returns (search needs) (search needs)
+    join-parts-requires (search needs) (search needs) (search needs) (search needs) put-requires (search needs)
+    (search needs) returns-2 returns-3)

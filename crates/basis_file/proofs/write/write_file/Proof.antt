@@ -10,18 +10,6 @@ use borrow.Author.Needs.{needs}
 use Rattle.basis_file.proofs.write.write_file.Statement.{statement}
 use Rattle.basis_file.proofs.write.write_file.Tie as tie
 
-check-room-requires : tie.Need-check-room-requires
-check-room-requires c κs = search needs
-
-check-run-requires : tie.Need-check-run-requires
-check-run-requires c κs = search needs
-
-first-of-requires : tie.Need-first-of-requires
-first-of-requires c κs = search needs
-
-enum-told : tie.Need-enum-told
-enum-told c = search needs
-
 write-blocks-requires : tie.Need-write-blocks-requires
 write-blocks-requires c κs =
     let k = c .before .before .before in
@@ -29,12 +17,6 @@ write-blocks-requires c κs =
     let e = rw (k .before .before .check-room .ensures, k .before .check-run .ensures) at (k .first-of .ensures) in
     let p = room-passed (fileLength mpb1) (s .file .now) (runCheck (s .run .now)) (found e (c .before .enum-told .given .1)) in
     (accepted-run (s .run .now) (p .1), p .0)
-
-enum-told-2 : tie.Need-enum-told-2
-enum-told-2 c = search needs
-
-same-length : tie.Need-same-length
-same-length c = search needs
 
 returns : tie.Need-returns
 returns c =
@@ -54,13 +36,5 @@ returns-2 c =
 pub write-file-spec : {M : Type 1} → statement M
 write-file-spec =
     tie.close
-    (tie.spec
-    check-room-requires
-    check-run-requires
-    first-of-requires
-    enum-told
-    write-blocks-requires
-    enum-told-2
-    same-length
-    returns
-    returns-2)
+    (tie.spec (search needs) (search needs) (search needs) (search needs) write-blocks-requires (search needs)
+    (search needs) returns returns-2)

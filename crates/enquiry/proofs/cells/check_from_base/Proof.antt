@@ -8,22 +8,10 @@ use Rattle.question.specs.Question.{cellCheck}
 use Rattle.enquiry.proofs.cells.check_from_base.Statement.{statement}
 use Rattle.enquiry.proofs.cells.check_from_base.Tie as tie
 
-check-run-and-history-requires : tie.Need-check-run-and-history-requires
-check-run-and-history-requires c κs = search needs
-
-enum-told : tie.Need-enum-told
-enum-told c = search needs
-
 base-year-requires : tie.Need-base-year-requires
 base-year-requires c κs =
     let a = c .before .before .before .before .before .args in
     accepted-workable (a .run .now) (a .history .now) (found (c .before .before .check-run-and-history .ensures) (c .enum-told .given .1)) .basis
-
-check-cell-requires : tie.Need-check-cell-requires
-check-cell-requires c κs = search needs
-
-enum-known-r : tie.Need-enum-known-r
-enum-known-r c = search needs
 
 returns : tie.Need-returns
 returns c =
@@ -39,4 +27,4 @@ returns-2 c = sym (first-refused _ _ _ (found (c .before .before .before .check-
 pub check-from-base-spec : {M : Type 1} → statement M
 check-from-base-spec =
     tie.close
-    (tie.spec check-run-and-history-requires enum-told base-year-requires check-cell-requires enum-known-r returns returns-2)
+    (tie.spec (search needs) (search needs) base-year-requires (search needs) (search needs) returns returns-2)

@@ -9,20 +9,11 @@ use Rattle.enquiry.proofs.Passed.{cell-passed}
 use Rattle.enquiry.proofs.cells.factor.Statement.{statement}
 use Rattle.enquiry.proofs.cells.factor.Tie as tie
 
-check-from-base-requires : tie.Need-check-from-base-requires
-check-from-base-requires c κs = search needs
-
-enum-told : tie.Need-enum-told
-enum-told c = search needs
-
 factor-at-requires : tie.Need-factor-at-requires
 factor-at-requires c κs =
     let a = c .before .before .before .before .before .args in
     let passed = found (c .before .before .check-from-base .ensures) (c .enum-told .given .1) in
     cell-passed (a .run .now) (a .history .now) (basisWith (a .run .now) (a .history .now) .base) (a .age) (a .year) (omega arith) passed
-
-enum-known-r : tie.Need-enum-known-r
-enum-known-r c = search needs
 
 returns : tie.Need-returns
 unfolding factorEnquiry
@@ -35,6 +26,4 @@ unfolding factorEnquiry
 returns-2 c = sym (checked-refused _ _ _ (found (c .before .before .before .check-from-base .ensures) (c .before .r .given .1)))
 
 pub factor-spec : {M : Type 1} → statement M
-factor-spec =
-    tie.close
-    (tie.spec check-from-base-requires enum-told factor-at-requires enum-known-r returns returns-2)
+factor-spec = tie.close (tie.spec (search needs) (search needs) factor-at-requires (search needs) returns returns-2)

@@ -7,20 +7,11 @@ use Rattle.enquiry.proofs.Passed.{improved-passed}
 use Rattle.enquiry.proofs.cells.improvement.Statement.{statement}
 use Rattle.enquiry.proofs.cells.improvement.Tie as tie
 
-check-from-first-requires : tie.Need-check-from-first-requires
-check-from-first-requires c κs = search needs
-
-enum-told : tie.Need-enum-told
-enum-told c = search needs
-
 improvement-needed-requires : tie.Need-improvement-needed-requires
 improvement-needed-requires c κs =
     let a = c .before .before .before .before .before .args in
     let passed = found (c .before .before .check-from-first .ensures) (c .enum-told .given .1) in
     improved-passed (a .run .now) (a .history .now) (a .age) (a .year) passed
-
-enum-known-r : tie.Need-enum-known-r
-enum-known-r c = search needs
 
 returns : tie.Need-returns
 unfolding improvementEnquiry
@@ -35,4 +26,4 @@ returns-2 c = sym (checked-refused _ _ _ (found (c .before .before .before .chec
 pub improvement-spec : {M : Type 1} → statement M
 improvement-spec =
     tie.close
-    (tie.spec check-from-first-requires enum-told improvement-needed-requires enum-known-r returns returns-2)
+    (tie.spec (search needs) (search needs) improvement-needed-requires (search needs) returns returns-2)

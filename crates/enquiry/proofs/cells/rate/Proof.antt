@@ -10,21 +10,12 @@ use Rattle.enquiry.proofs.Passed.{cell-passed}
 use Rattle.enquiry.proofs.cells.rate.Statement.{statement}
 use Rattle.enquiry.proofs.cells.rate.Tie as tie
 
-check-from-rated-requires : tie.Need-check-from-rated-requires
-check-from-rated-requires c κs = search needs
-
-enum-told : tie.Need-enum-told
-enum-told c = search needs
-
 rate-at-requires : tie.Need-rate-at-requires
 rate-at-requires c κs =
     let a = c .before .before .before .before .before .args in
     let b = basisWith (a .run .now) (a .history .now) in
     let passed = found (c .before .before .check-from-rated .ensures) (c .enum-told .given .1) in
     cell-passed (a .run .now) (a .history .now) (ratedFrom b) (a .age) (a .year) (rated-late b) passed
-
-enum-known-r : tie.Need-enum-known-r
-enum-known-r c = search needs
 
 returns : tie.Need-returns
 unfolding rateEnquiry
@@ -37,6 +28,4 @@ unfolding rateEnquiry
 returns-2 c = sym (checked-refused _ _ _ (found (c .before .before .before .check-from-rated .ensures) (c .before .r .given .1)))
 
 pub rate-spec : {M : Type 1} → statement M
-rate-spec =
-    tie.close
-    (tie.spec check-from-rated-requires enum-told rate-at-requires enum-known-r returns returns-2)
+rate-spec = tie.close (tie.spec (search needs) (search needs) rate-at-requires (search needs) returns returns-2)

@@ -7,19 +7,10 @@ use Rattle.history.proofs.Acceptance.{accepted-workable}
 use Rattle.enquiry.proofs.values.check_valuation.Statement.{statement}
 use Rattle.enquiry.proofs.values.check_valuation.Tie as tie
 
-check-run-and-history-requires : tie.Need-check-run-and-history-requires
-check-run-and-history-requires c κs = search needs
-
-enum-told : tie.Need-enum-told
-enum-told c = search needs
-
 check-question-requires : tie.Need-check-question-requires
 check-question-requires c κs =
     let a = c .before .before .before .before .before .args in
     accepted-workable (a .run .now) (a .history .now) (found (c .before .before .check-run-and-history .ensures) (c .enum-told .given .1)) .basis
-
-enum-known-r : tie.Need-enum-known-r
-enum-known-r c = search needs
 
 returns : tie.Need-returns
 unfolding ratedFrom
@@ -32,4 +23,5 @@ returns-2 c = sym (first-refused _ _ _ (found (c .before .before .before .check-
 
 pub check-valuation-spec : {M : Type 1} → statement M
 check-valuation-spec =
-    tie.close (tie.spec check-run-and-history-requires enum-told check-question-requires enum-known-r returns returns-2)
+    tie.close
+    (tie.spec (search needs) (search needs) check-question-requires (search needs) returns returns-2)

@@ -7,19 +7,10 @@ use Rattle.enquiry.proofs.Passed.{valuation-passed}
 use Rattle.enquiry.proofs.values.expectation.Statement.{statement}
 use Rattle.enquiry.proofs.values.expectation.Tie as tie
 
-check-valuation-requires : tie.Need-check-valuation-requires
-check-valuation-requires c κs = search needs
-
-enum-told : tie.Need-enum-told
-enum-told c = search needs
-
 expectation-at-requires : tie.Need-expectation-at-requires
 expectation-at-requires c κs =
     let a = c .before .before .before .before .before .args in
     valuation-passed (a .run .now) (a .history .now) (a .age) (a .deferment) (a .year) (found (c .before .before .check-valuation .ensures) (c .enum-told .given .1))
-
-enum-known-r : tie.Need-enum-known-r
-enum-known-r c = search needs
 
 returns : tie.Need-returns
 unfolding expectationEnquiry
@@ -34,4 +25,4 @@ returns-2 c = sym (checked-refused _ _ _ (found (c .before .before .before .chec
 pub expectation-spec : {M : Type 1} → statement M
 expectation-spec =
     tie.close
-    (tie.spec check-valuation-requires enum-told expectation-at-requires enum-known-r returns returns-2)
+    (tie.spec (search needs) (search needs) expectation-at-requires (search needs) returns returns-2)

@@ -15,9 +15,6 @@ Inv-loop run numbers₀ accumulation v₀ j₀ numbers v j = (j ≤ 131) × Disc
 abbrev μ-loop : tie.MeasureT-loop
 μ-loop run numbers₀ accumulation v₀ j₀ numbers v j = 131 - j
 
-accumulation-requires : tie.Need-accumulation-requires Inv-loop μ-loop
-accumulation-requires c κs = search needs
-
 loop-holds : tie.Need-loop-holds Inv-loop μ-loop
 loop-holds c = let a = c .before .before .before .args in (omega arith, discounted-none (basisOf (a .run .now)) (a .numbers .now))
 
@@ -30,15 +27,6 @@ cast-numbers c =
     let ranges = discount-ranges b (s .pre .0 .limits) (l .loop .j) (l .loop .v) (omega arith) (l .loop .inv .1 .next) e in
     record { fits = omega (arith, ranges .0) }
 
-add-numbers : tie.Need-add-numbers Inv-loop μ-loop
-add-numbers c = search needs
-
-mul-numbers : tie.Need-mul-numbers Inv-loop μ-loop
-mul-numbers c = search needs
-
-slice-write-numbers : tie.Need-slice-write-numbers Inv-loop μ-loop
-slice-write-numbers c = search needs
-
 discount-next-requires : tie.Need-discount-next-requires Inv-loop μ-loop
 discount-next-requires c κs =
     let l = c .before in
@@ -47,12 +35,6 @@ discount-next-requires c κs =
     let e = l .before .accumulation .ensures in
     let ranges = discount-ranges b (s .pre .0 .limits) (l .loop .j) (l .loop .v) (omega arith) (l .loop .inv .1 .next) e in
     ranges
-
-add-j : tie.Need-add-j Inv-loop μ-loop
-add-j c = search needs
-
-loop-less : tie.Need-loop-less Inv-loop μ-loop
-loop-less c = search needs
 
 loop-again : tie.Need-loop-again Inv-loop μ-loop
 loop-again c =
@@ -65,9 +47,6 @@ loop-again c =
           (omega (arith, s .pre .1)) e (l .loop .inv .1) (c .discount-next .ensures),
     )
 
-same-length : tie.Need-same-length Inv-loop μ-loop
-same-length c = search needs
-
 returns : tie.Need-returns Inv-loop μ-loop
 returns c =
     let l = c .before in
@@ -77,18 +56,5 @@ returns c =
 pub store-discounts-spec : {M : Type 1} → statement M
 store-discounts-spec =
     tie.close
-    (tie.spec
-    Inv-loop
-    μ-loop
-    accumulation-requires
-    loop-holds
-    cast-numbers
-    add-numbers
-    mul-numbers
-    slice-write-numbers
-    discount-next-requires
-    add-j
-    loop-less
-    loop-again
-    same-length
-    returns)
+    (tie.spec Inv-loop μ-loop (λ c κs. search needs) loop-holds cast-numbers (search needs) (search needs)
+    (search needs) discount-next-requires (search needs) (search needs) loop-again (search needs) returns)

@@ -16,17 +16,8 @@ Inv-loop run numbers₀ years at₀ numbers at =
 abbrev μ-loop : tie.MeasureT-loop
 μ-loop run numbers₀ years at₀ numbers at = factorsLength - at
 
-base-year-requires : tie.Need-base-year-requires Inv-loop μ-loop
-base-year-requires c κs = search needs
-
 sub-years : tie.Need-sub-years Inv-loop μ-loop
 sub-years c = omega (arith, c .base-year .ensures, c .before .before .before .pre .0 .limits .base-high)
-
-cast-at : tie.Need-cast-at Inv-loop μ-loop
-cast-at c = search needs
-
-mul-at : tie.Need-mul-at Inv-loop μ-loop
-mul-at c = search needs
 
 loop-holds : tie.Need-loop-holds Inv-loop μ-loop
 loop-holds c =
@@ -35,17 +26,8 @@ loop-holds c =
     let e : 131 * (2131 - c .base-year .result) ≡ 131 * tableYears b = omega (arith, c .base-year .ensures) in
     rw e (omega arith, omega (arith, s .pre .0 .limits .base-low), cleared-none (131 * tableYears b) (s .args .numbers .now))
 
-mul-numbers : tie.Need-mul-numbers Inv-loop μ-loop
-mul-numbers c = search needs
-
 slice-write-numbers : tie.Need-slice-write-numbers Inv-loop μ-loop
 slice-write-numbers c = omega (arith, c .before .loop .inv .2 .same, c .before .before .before .before .before .pre .1)
-
-add-at : tie.Need-add-at Inv-loop μ-loop
-add-at c = search needs
-
-loop-less : tie.Need-loop-less Inv-loop μ-loop
-loop-less c = search needs
 
 loop-again : tie.Need-loop-again Inv-loop μ-loop
 loop-again c =
@@ -70,18 +52,5 @@ returns c =
 pub clear-rest-spec : {M : Type 1} → statement M
 clear-rest-spec =
     tie.close
-    (tie.spec
-    Inv-loop
-    μ-loop
-    base-year-requires
-    sub-years
-    cast-at
-    mul-at
-    loop-holds
-    mul-numbers
-    slice-write-numbers
-    add-at
-    loop-less
-    loop-again
-    same-length
-    returns)
+    (tie.spec Inv-loop μ-loop (λ c κs. search needs) sub-years (search needs) (search needs) loop-holds (search needs)
+    slice-write-numbers (search needs) (search needs) loop-again same-length returns)

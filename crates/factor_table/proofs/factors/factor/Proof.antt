@@ -14,12 +14,6 @@ use Rattle.factor_table.proofs.Reading.{within}
 use Rattle.factor_table.proofs.factors.factor.Statement.{statement}
 use Rattle.factor_table.proofs.factors.factor.Tie as tie
 
-held-year-requires : tie.Need-held-year-requires
-held-year-requires c κs = search needs
-
-base-year-requires : tie.Need-base-year-requires
-base-year-requires c κs = search needs
-
 -- the place of its number
 place : (c : tie.After-base-year) →
     let n = c .before .held-year .result in
@@ -37,23 +31,11 @@ sub-k c = place c .0
 mul-at : tie.Need-mul-at
 mul-at c = record { fits = omega (arith, place c .1) }
 
-sub-at : tie.Need-sub-at
-sub-at c = search needs
-
 add-at : tie.Need-add-at
 add-at c = record { fits = omega (arith, place c .2) }
 
-cast-at : tie.Need-cast-at
-cast-at c = search needs
-
-mul-decoded : tie.Need-mul-decoded
-mul-decoded c = search needs
-
 shared-slice-read-decoded : tie.Need-shared-slice-read-decoded
 shared-slice-read-decoded c = omega (arith, place (c .before) .2, c .before .before .before .before .before .pre .4)
-
-decoded-requires : tie.Need-decoded-requires
-decoded-requires c κs = search needs
 
 returns : tie.Need-returns
 returns c =
@@ -66,15 +48,5 @@ returns c =
 pub factor-spec : {M : Type 1} → statement M
 factor-spec =
     tie.close
-    (tie.spec
-    held-year-requires
-    base-year-requires
-    sub-k
-    mul-at
-    sub-at
-    add-at
-    cast-at
-    mul-decoded
-    shared-slice-read-decoded
-    decoded-requires
-    returns)
+    (tie.spec (search needs) (λ c κs. search needs) sub-k mul-at (search needs) add-at (search needs) (search needs)
+    shared-slice-read-decoded (search needs) returns)

@@ -15,14 +15,8 @@ Inv-loop run history numbers₀ base years state₀ k₀ numbers state k = (k �
 abbrev μ-loop : tie.MeasureT-loop
 μ-loop run history numbers₀ base years state₀ k₀ numbers state k = years - k
 
-base-year-requires : tie.Need-base-year-requires Inv-loop μ-loop
-base-year-requires c κs = search needs
-
 sub-years : tie.Need-sub-years Inv-loop μ-loop
 sub-years c = omega (arith, c .base-year .ensures, c .before .before .before .before .pre .0 .basis .limits .base-high)
-
-start-requires : tie.Need-start-requires Inv-loop μ-loop
-start-requires c κs = search needs
 
 loop-holds : tie.Need-loop-holds Inv-loop μ-loop
 loop-holds c =
@@ -32,20 +26,11 @@ loop-holds c =
 slice-aggregate-store-state : tie.Need-slice-aggregate-store-state Inv-loop μ-loop
 slice-aggregate-store-state c = sym (c .before .before .loop .inv .1 .holds .size)
 
-cast-store-state : tie.Need-cast-store-state Inv-loop μ-loop
-cast-store-state c = search needs
-
-mul-store-state : tie.Need-mul-store-state Inv-loop μ-loop
-mul-store-state c = search needs
-
 store-state-requires : tie.Need-store-state-requires Inv-loop μ-loop
 store-state-requires c κs =
     let l = c .before .before .before in
     let b = l .before .before in
     (l .loop .inv .1 .holds .size, omega (arith, l .loop .inv .1 .size, b .base-year .ensures, b .before .before .before .before .pre .0 .basis .limits .base-low))
-
-add-step : tie.Need-add-step Inv-loop μ-loop
-add-step c = search needs
 
 slice-aggregate-step : tie.Need-slice-aggregate-step Inv-loop μ-loop
 slice-aggregate-step c = sym (c .before .before .before .before .before .before .before .loop .inv .1 .holds .size)
@@ -55,12 +40,6 @@ step-requires c κs =
     let l = c .before .before .before .before .before .before .before in
     let b = l .before .before in
     (b .before .before .before .before .pre .0, l .loop .inv .1 .holds .size, omega (arith, b .base-year .ensures))
-
-add-k : tie.Need-add-k Inv-loop μ-loop
-add-k c = search needs
-
-loop-less : tie.Need-loop-less Inv-loop μ-loop
-loop-less c = search needs
 
 loop-again : tie.Need-loop-again Inv-loop μ-loop
 loop-again c =
@@ -88,22 +67,6 @@ returns c =
 pub store-years-spec : {M : Type 1} → statement M
 store-years-spec =
     tie.close
-    (tie.spec
-    Inv-loop
-    μ-loop
-    base-year-requires
-    sub-years
-    start-requires
-    loop-holds
-    slice-aggregate-store-state
-    cast-store-state
-    mul-store-state
-    store-state-requires
-    add-step
-    slice-aggregate-step
-    step-requires
-    add-k
-    loop-less
-    loop-again
-    same-length
-    returns)
+    (tie.spec Inv-loop μ-loop (λ c κs. search needs) sub-years (search needs) loop-holds slice-aggregate-store-state
+    (search needs) (search needs) store-state-requires (search needs) slice-aggregate-step step-requires
+    (search needs) (search needs) loop-again same-length returns)

@@ -9,24 +9,6 @@ use Rattle.history.proofs.Places.{actual-there, actual-room}
 use Rattle.history.proofs.actual.actual_improvement.Statement.{statement}
 use Rattle.history.proofs.actual.actual_improvement.Tie as tie
 
-base-year-requires : tie.Need-base-year-requires
-base-year-requires c κs = search needs
-
-sub-years : tie.Need-sub-years
-sub-years c = search needs
-
-sub-years-2 : tie.Need-sub-years-2
-sub-years-2 c = search needs
-
-cast-years : tie.Need-cast-years
-cast-years c = search needs
-
-mul-read-i32 : tie.Need-mul-read-i32
-mul-read-i32 c = search needs
-
-place-in-blocks-requires : tie.Need-place-in-blocks-requires
-place-in-blocks-requires c κs = search needs
-
 add-read-i32 : tie.Need-add-read-i32
 add-read-i32 c =
     let s = c .before .before .before .before in
@@ -55,13 +37,5 @@ returns c =
 pub actual-improvement-spec : {M : Type 1} → statement M
 actual-improvement-spec =
     tie.close
-    (tie.spec
-    base-year-requires
-    sub-years
-    sub-years-2
-    cast-years
-    mul-read-i32
-    place-in-blocks-requires
-    add-read-i32
-    read-i32-requires
-    returns)
+    (tie.spec (λ c κs. search needs) (search needs) (search needs) (search needs) (search needs) (search needs)
+    add-read-i32 read-i32-requires returns)

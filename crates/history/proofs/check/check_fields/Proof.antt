@@ -33,33 +33,6 @@ loop-holds c =
     let none : a .years - a .years ≡ 0 = omega arith in
     (omega arith, rw none (no-years _ _ _ _), rw none (no-years _ _ _ _))
 
-sub-k : tie.Need-sub-k Inv-loop μ-loop
-sub-k c = omega arith
-
-mul-b : tie.Need-mul-b Inv-loop μ-loop
-mul-b c = omega arith
-
-part-within-requires : tie.Need-part-within-requires Inv-loop μ-loop
-part-within-requires c κs = omega arith
-
-add-part-within : tie.Need-add-part-within Inv-loop μ-loop
-add-part-within c = omega arith
-
-part-within-requires-2 : tie.Need-part-within-requires-2 Inv-loop μ-loop
-part-within-requires-2 c κs = omega arith
-
-part-within-requires-3 : tie.Need-part-within-requires-3 Inv-loop μ-loop
-part-within-requires-3 c κs = omega arith
-
-add-part-within-2 : tie.Need-add-part-within-2 Inv-loop μ-loop
-add-part-within-2 c = omega arith
-
-part-within-requires-4 : tie.Need-part-within-requires-4 Inv-loop μ-loop
-part-within-requires-4 c κs = omega arith
-
-loop-less : tie.Need-loop-less Inv-loop μ-loop
-loop-less c = omega arith
-
 loop-again : tie.Need-loop-again Inv-loop μ-loop
 loop-again c =
     let older = c .before in
@@ -87,39 +60,6 @@ loop-again c =
       turn-5 (s .pre .0) before next (omega arith) (omega arith) refl refl (sym (p .1)) (l .loop .inv .2) refl,
     )
 
-check-part-requires : tie.Need-check-part-requires Inv-loop μ-loop
-check-part-requires c κs = omega arith
-
-add-check-part : tie.Need-add-check-part Inv-loop μ-loop
-add-check-part c = omega arith
-
-check-part-requires-2 : tie.Need-check-part-requires-2 Inv-loop μ-loop
-check-part-requires-2 c κs = omega arith
-
-first-of-requires : tie.Need-first-of-requires Inv-loop μ-loop
-first-of-requires c κs = search needs
-
-check-part-requires-3 : tie.Need-check-part-requires-3 Inv-loop μ-loop
-check-part-requires-3 c κs = omega arith
-
-add-check-part-2 : tie.Need-add-check-part-2 Inv-loop μ-loop
-add-check-part-2 c = omega arith
-
-check-part-requires-4 : tie.Need-check-part-requires-4 Inv-loop μ-loop
-check-part-requires-4 c κs = omega arith
-
-first-of-requires-2 : tie.Need-first-of-requires-2 Inv-loop μ-loop
-first-of-requires-2 c κs = search needs
-
-first-of-requires-3 : tie.Need-first-of-requires-3 Inv-loop μ-loop
-first-of-requires-3 c κs = search needs
-
-first-of-requires-4 : tie.Need-first-of-requires-4 Inv-loop μ-loop
-first-of-requires-4 c κs = search needs
-
-loop-less-2 : tie.Need-loop-less-2 Inv-loop μ-loop
-loop-less-2 c = omega arith
-
 loop-again-2 : tie.Need-loop-again-2 Inv-loop μ-loop
 loop-again-2 c =
     let fours = c .before in
@@ -145,9 +85,6 @@ loop-again-2 c =
           (five .first-of2 .ensures) (l .loop .inv .2) (c .first-of4 .ensures),
     )
 
-first-of-requires-5 : tie.Need-first-of-requires-5 Inv-loop μ-loop
-first-of-requires-5 c κs = search needs
-
 returns : tie.Need-returns Inv-loop μ-loop
 returns c =
     let l = c .before .before in
@@ -159,31 +96,7 @@ returns c =
 pub check-fields-spec : {M : Type 1} → statement M
 check-fields-spec =
     tie.close
-    (tie.spec
-    Inv-loop
-    μ-loop
-    loop-holds
-    sub-k
-    mul-b
-    part-within-requires
-    add-part-within
-    part-within-requires-2
-    part-within-requires-3
-    add-part-within-2
-    part-within-requires-4
-    loop-less
-    loop-again
-    check-part-requires
-    add-check-part
-    check-part-requires-2
-    first-of-requires
-    check-part-requires-3
-    add-check-part-2
-    check-part-requires-4
-    first-of-requires-2
-    first-of-requires-3
-    first-of-requires-4
-    loop-less-2
-    loop-again-2
-    first-of-requires-5
-    returns)
+    (tie.spec Inv-loop μ-loop loop-holds (search needs) (search needs) (search needs) (search needs) (search needs)
+    (search needs) (search needs) (search needs) (search needs) loop-again (search needs) (search needs)
+    (search needs) (search needs) (search needs) (search needs) (search needs) (search needs) (search needs)
+    (search needs) (search needs) loop-again-2 (search needs) returns)

@@ -12,29 +12,11 @@ use Rattle.history.proofs.Ways.{wrong-length, right-length, joined-fiel
 use Rattle.history.proofs.check.check_history.Statement.{statement}
 use Rattle.history.proofs.check.check_history.Tie as tie
 
-years-needed-requires : tie.Need-years-needed-requires
-years-needed-requires c κs = search needs
-
-mul-if1 : tie.Need-mul-if1
-mul-if1 c = search needs
-
-mul-t8 : tie.Need-mul-t8
-mul-t8 c = search needs
-
 returns : tie.Need-returns
 returns c =
     let a = c .before .before .before .before .args in
     let y = c .before .years-needed .ensures in
     rw y (sym (wrong-length (basisOf (a .run .now)) (a .history .now) (λ e. c .if1 .taken (rw y e))))
-
-mul-check-blocks : tie.Need-mul-check-blocks
-mul-check-blocks c = search needs
-
-check-blocks-requires : tie.Need-check-blocks-requires
-check-blocks-requires c κs = search needs
-
-enum-told : tie.Need-enum-told
-enum-told c = search needs
 
 returns-2 : tie.Need-returns-2
 returns-2 c =
@@ -48,12 +30,6 @@ returns-2 c =
     sym (first-stands (finding (k .check-blocks .result)) _ (ap finding (c .enum-told .given .1)))
     ∙ ap (λ (x : Finding). firstOf x (fieldsCheck (historyData b (a .history .now)) (historyFields (actualYears b)))) e
     ∙ sym (right-length b (a .history .now) l)
-
-enum-told-2 : tie.Need-enum-told-2
-enum-told-2 c = search needs
-
-check-fields-requires : tie.Need-check-fields-requires
-check-fields-requires c κs = search needs
 
 returns-3 : tie.Need-returns-3
 returns-3 c =
@@ -72,15 +48,5 @@ returns-3 c =
 pub check-history-spec : {M : Type 1} → statement M
 check-history-spec =
     tie.close
-    (tie.spec
-    years-needed-requires
-    mul-if1
-    mul-t8
-    returns
-    mul-check-blocks
-    check-blocks-requires
-    enum-told
-    returns-2
-    enum-told-2
-    check-fields-requires
-    returns-3)
+    (tie.spec (λ c κs. search needs) (search needs) (search needs) returns (search needs) (search needs)
+    (search needs) returns-2 (search needs) (search needs) returns-3)

@@ -11,36 +11,6 @@ use Rattle.history.proofs.Window.{refused-in}
 use Rattle.history.proofs.check.check_part.Statement.{statement}
 use Rattle.history.proofs.check.check_part.Tie as tie
 
-mul-from : tie.Need-mul-from
-mul-from c = search needs
-
-add-from : tie.Need-add-from
-add-from c = search needs
-
-add-check-field : tie.Need-add-check-field
-add-check-field c = search needs
-
-sub-check-field : tie.Need-sub-check-field
-sub-check-field c = search needs
-
-part-check-field-start : tie.Need-part-check-field-start
-part-check-field-start c = search needs
-
-part-check-field-end : tie.Need-part-check-field-end
-part-check-field-end c = search needs
-
-check-field-requires : tie.Need-check-field-requires
-check-field-requires c κs = search needs
-
-enum-told : tie.Need-enum-told
-enum-told c = search needs
-
-enum-known-r : tie.Need-enum-known-r
-enum-known-r c = search needs
-
-mul-t13 : tie.Need-mul-t13
-mul-t13 c = search needs
-
 add-t15 : tie.Need-add-t15
 add-t15 c =
     let k = c .before .before .before .before in
@@ -64,17 +34,5 @@ returns-2 c =
 pub check-part-spec : {M : Type 1} → statement M
 check-part-spec =
     tie.close
-    (tie.spec
-    mul-from
-    add-from
-    add-check-field
-    sub-check-field
-    part-check-field-start
-    part-check-field-end
-    check-field-requires
-    enum-told
-    enum-known-r
-    mul-t13
-    add-t15
-    returns
-    returns-2)
+    (tie.spec (search needs) (search needs) (search needs) (search needs) (search needs) (search needs) (search needs)
+    (search needs) (search needs) (search needs) add-t15 returns returns-2)

@@ -7,19 +7,10 @@ use Rattle.history.specs.History.{runAndHistoryCheck}
 use Rattle.history.proofs.check.check_run_and_history.Statement.{statement}
 use Rattle.history.proofs.check.check_run_and_history.Tie as tie
 
-check-run-requires : tie.Need-check-run-requires
-check-run-requires c κs = search needs
-
-enum-told : tie.Need-enum-told
-enum-told c = search needs
-
 check-history-requires : tie.Need-check-history-requires
 check-history-requires c κs =
     let a = c .before .before .before .before .before .args in
     accepted (a .run .now) (found (c .before .before .check-run .ensures) (c .enum-told .given .1))
-
-enum-known-r : tie.Need-enum-known-r
-enum-known-r c = search needs
 
 returns : tie.Need-returns
 unfolding runAndHistoryCheck
@@ -34,4 +25,4 @@ returns-2 c = sym (first-refused _ _ _ (found (c .before .before .before .check-
 pub check-run-and-history-spec : {M : Type 1} → statement M
 check-run-and-history-spec =
     tie.close
-    (tie.spec check-run-requires enum-told check-history-requires enum-known-r returns returns-2)
+    (tie.spec (search needs) (search needs) check-history-requires (search needs) returns returns-2)

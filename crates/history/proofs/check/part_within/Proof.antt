@@ -14,27 +14,6 @@ counted : (from : ℕ) (c : Finding) → passes c ≡ passes (countedFrom from c
 counted from passed = refl
 counted from (refusedBy r) = refl
 
-mul-from : tie.Need-mul-from
-mul-from c = search needs
-
-add-from : tie.Need-add-from
-add-from c = search needs
-
-add-all-within : tie.Need-add-all-within
-add-all-within c = search needs
-
-sub-all-within : tie.Need-sub-all-within
-sub-all-within c = search needs
-
-part-all-within-start : tie.Need-part-all-within-start
-part-all-within-start c = search needs
-
-part-all-within-end : tie.Need-part-all-within-end
-part-all-within-end c = search needs
-
-all-within-requires : tie.Need-all-within-requires
-all-within-requires c κs = search needs
-
 returns : tie.Need-returns
 returns c =
     let a = c .before .before .before .args in
@@ -44,4 +23,5 @@ returns c =
 pub part-within-spec : {M : Type 1} → statement M
 part-within-spec =
     tie.close
-    (tie.spec mul-from add-from add-all-within sub-all-within part-all-within-start part-all-within-end all-within-requires returns)
+    (tie.spec (search needs) (search needs) (search needs) (search needs) (search needs) (search needs) (search needs)
+    returns)

@@ -7,24 +7,6 @@ use Rattle.lifeline.specs.Lifeline.{stepYearCheck, positionCheck}
 use Rattle.lifeline.proofs.cohort.check_position.Statement.{statement}
 use Rattle.lifeline.proofs.cohort.check_position.Tie as tie
 
-rated-from-requires : tie.Need-rated-from-requires
-rated-from-requires c κs = search needs
-
-check-step-year-requires : tie.Need-check-step-year-requires
-check-step-year-requires c κs = search needs
-
-check-age-requires : tie.Need-check-age-requires
-check-age-requires c κs = search needs
-
-check-survivors-requires : tie.Need-check-survivors-requires
-check-survivors-requires c κs = search needs
-
-first-of-requires : tie.Need-first-of-requires
-first-of-requires c κs = search needs
-
-first-of-requires-2 : tie.Need-first-of-requires-2
-first-of-requires-2 c κs = search needs
-
 returns : tie.Need-returns
 unfolding positionCheck
 returns c =
@@ -40,4 +22,5 @@ returns c =
 pub check-position-spec : {M : Type 1} → statement M
 check-position-spec =
     tie.close
-    (tie.spec rated-from-requires check-step-year-requires check-age-requires check-survivors-requires first-of-requires first-of-requires-2 returns)
+    (tie.spec (λ c κs. search needs) (search needs) (search needs) (search needs) (search needs) (search needs)
+    returns)

@@ -10,19 +10,10 @@ use Rattle.lifeline.specs.Lifeline.{positionCheck}
 use Rattle.lifeline.proofs.cohort.check_step.Statement.{statement}
 use Rattle.lifeline.proofs.cohort.check_step.Tie as tie
 
-check-run-and-history-requires : tie.Need-check-run-and-history-requires
-check-run-and-history-requires c κs = search needs
-
-enum-told : tie.Need-enum-told
-enum-told c = search needs
-
 check-position-requires : tie.Need-check-position-requires
 check-position-requires c κs =
     let a = c .before .before .before .before .before .args in
     accepted-workable (a .run .now) (a .history .now) (found (c .before .before .check-run-and-history .ensures) (c .enum-told .given .1)) .basis
-
-enum-known-r : tie.Need-enum-known-r
-enum-known-r c = search needs
 
 returns : tie.Need-returns
 returns c =
@@ -36,4 +27,5 @@ returns-2 c = sym (first-refused _ _ _ (found (c .before .before .before .check-
 
 pub check-step-spec : {M : Type 1} → statement M
 check-step-spec =
-    tie.close (tie.spec check-run-and-history-requires enum-told check-position-requires enum-known-r returns returns-2)
+    tie.close
+    (tie.spec (search needs) (search needs) check-position-requires (search needs) returns returns-2)

@@ -5,9 +5,6 @@ use Rattle.lifeline.specs.Lifeline.{stepYearCheck}
 use Rattle.lifeline.proofs.cohort.check_step_year.Statement.{statement}
 use Rattle.lifeline.proofs.cohort.check_step_year.Tie as tie
 
-is-step-year-requires : tie.Need-is-step-year-requires
-is-step-year-requires c κs = search needs
-
 returns : tie.Need-returns
 unfolding stepYearCheck
 returns c = rw (sym (c .before .is-step-year .ensures) ∙ c .if1 .taken) refl
@@ -17,4 +14,4 @@ unfolding stepYearCheck
 returns-2 c = rw (sym (c .before .is-step-year .ensures) ∙ c .if1 .left) refl
 
 pub check-step-year-spec : {M : Type 1} → statement M
-check-step-year-spec = tie.close (tie.spec is-step-year-requires returns returns-2)
+check-step-year-spec = tie.close (tie.spec (search needs) returns returns-2)

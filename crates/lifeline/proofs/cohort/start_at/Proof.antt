@@ -6,15 +6,6 @@ use Rattle.lifeline.proofs.Steps.{start-passed, start-refused}
 use Rattle.lifeline.proofs.cohort.start_at.Statement.{statement}
 use Rattle.lifeline.proofs.cohort.start_at.Tie as tie
 
-check-valuation-requires : tie.Need-check-valuation-requires
-check-valuation-requires c κs = search needs
-
-enum-told : tie.Need-enum-told
-enum-told c = search needs
-
-enum-known-r : tie.Need-enum-known-r
-enum-known-r c = search needs
-
 returns : tie.Need-returns
 returns c = sym (start-passed _ _ _ _ (found (c .before .before .check-valuation .ensures) (c .enum-told .given .1)))
 
@@ -22,5 +13,4 @@ returns-2 : tie.Need-returns-2
 returns-2 c = sym (start-refused _ _ _ _ _ (found (c .before .before .before .check-valuation .ensures) (c .before .r .given .1)))
 
 pub start-at-spec : {M : Type 1} → statement M
-start-at-spec =
-    tie.close (tie.spec check-valuation-requires enum-told enum-known-r returns returns-2)
+start-at-spec = tie.close (tie.spec (search needs) (search needs) (search needs) returns returns-2)

@@ -8,21 +8,12 @@ use Rattle.lifeline.proofs.Steps.{step-passed, step-refused, step-ended
 use Rattle.lifeline.proofs.cohort.step_at.Statement.{statement}
 use Rattle.lifeline.proofs.cohort.step_at.Tie as tie
 
-check-step-requires : tie.Need-check-step-requires
-check-step-requires c κs = search needs
-
-enum-told : tie.Need-enum-told
-enum-told c = search needs
-
 year-later-requires : tie.Need-year-later-requires
 year-later-requires c κs =
     let told = c .before .before in
     let a = told .before .before .before .before .before .args in
     let p = step-passed (a .run .now) (a .history .now) (a .position) (found (told .before .before .check-step .ensures) (told .enum-told .given .1)) in
     (p .0, omega (arith, p .0 .age-high), omega (arith, p .0 .age-high, p .1), p .2)
-
-enum-known-x : tie.Need-enum-known-x
-enum-known-x c = search needs
 
 returns : tie.Need-returns
 returns c =
@@ -42,4 +33,4 @@ returns-3 c = sym (step-refused _ _ _ _ (found (c .before .before .before .check
 pub step-at-spec : {M : Type 1} → statement M
 step-at-spec =
     tie.close
-    (tie.spec check-step-requires enum-told year-later-requires enum-known-x returns returns-2 returns-3)
+    (tie.spec (search needs) (search needs) year-later-requires (search needs) returns returns-2 returns-3)

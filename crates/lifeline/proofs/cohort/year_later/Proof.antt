@@ -6,21 +6,6 @@ use Rattle.lifeline.specs.Lifeline.{yearLater}
 use Rattle.lifeline.proofs.cohort.year_later.Statement.{statement}
 use Rattle.lifeline.proofs.cohort.year_later.Tie as tie
 
-survivors-after-year-requires : tie.Need-survivors-after-year-requires
-survivors-after-year-requires c κs = search needs
-
-enum-known-s : tie.Need-enum-known-s
-enum-known-s c = search needs
-
-add-t10 : tie.Need-add-t10
-add-t10 c = search needs
-
-add-t11 : tie.Need-add-t11
-add-t11 c = search needs
-
-enum-known-r : tie.Need-enum-known-r
-enum-known-r c = search needs
-
 returns : tie.Need-returns
 returns c =
     let a = c .before .before .before .before .before .before .args in
@@ -34,4 +19,4 @@ returns-2 c =
 pub year-later-spec : {M : Type 1} → statement M
 year-later-spec =
     tie.close
-    (tie.spec survivors-after-year-requires enum-known-s add-t10 add-t11 enum-known-r returns returns-2)
+    (tie.spec (λ c κs. search needs) (search needs) (search needs) (search needs) (search needs) returns returns-2)

@@ -22,15 +22,6 @@ Inv-loop run history age year terms base years factor₀ k₀ factor k =
 abbrev μ-loop : tie.MeasureT-loop
 μ-loop run history age year terms base years factor₀ k₀ factor k = years - k
 
-age-terms-requires : tie.Need-age-terms-requires Inv-loop μ-loop
-age-terms-requires c κs = search needs
-
-base-year-requires : tie.Need-base-year-requires Inv-loop μ-loop
-base-year-requires c κs = search needs
-
-held-year-requires : tie.Need-held-year-requires Inv-loop μ-loop
-held-year-requires c κs = search needs
-
 sub-years : tie.Need-sub-years Inv-loop μ-loop
 sub-years c =
     let s = c .before .before .before .before .before in
@@ -40,18 +31,6 @@ sub-years c =
 loop-holds : tie.Need-loop-holds Inv-loop μ-loop
 unfolding steps
 loop-holds c = search needs
-
-add-factor-in : tie.Need-add-factor-in Inv-loop μ-loop
-add-factor-in c = search needs
-
-add-factor-in-2 : tie.Need-add-factor-in-2 Inv-loop μ-loop
-add-factor-in-2 c = search needs
-
-enum-known-v : tie.Need-enum-known-v Inv-loop μ-loop
-enum-known-v c = search needs
-
-enum-known-r : tie.Need-enum-known-r Inv-loop μ-loop
-enum-known-r c = search needs
 
 returns : tie.Need-returns Inv-loop μ-loop
 returns c =
@@ -66,12 +45,6 @@ returns c =
     let here = turn b (a .age) (l .loop .k) (pos (l .loop .factor)) (refused r) (h .before .base-year .ensures) (l .loop .inv .2) told in
     ended b (a .age) (a .year) n (refused r) (omega (arith, h .held-year .ensures, h .before .base-year .ensures))
     (persists (factorStep b (a .age)) (pos U) (suc (l .loop .k)) n r (omega arith) here)
-
-add-k : tie.Need-add-k Inv-loop μ-loop
-add-k c = search needs
-
-loop-less : tie.Need-loop-less Inv-loop μ-loop
-loop-less c = search needs
 
 loop-again : tie.Need-loop-again Inv-loop μ-loop
 loop-again c =
@@ -119,21 +92,6 @@ returns-2 c =
 pub factor-at-spec : {M : Type 1} → statement M
 factor-at-spec =
     tie.close
-    (tie.spec
-    Inv-loop
-    μ-loop
-    age-terms-requires
-    base-year-requires
-    held-year-requires
-    sub-years
-    loop-holds
-    add-factor-in
-    add-factor-in-2
-    factor-in-requires
-    enum-known-v
-    enum-known-r
-    returns
-    add-k
-    loop-less
-    loop-again
-    returns-2)
+    (tie.spec Inv-loop μ-loop (λ c κs. search needs) (λ c κs. search needs) (search needs) sub-years loop-holds
+    (search needs) (search needs) factor-in-requires (search needs) (search needs) returns (search needs)
+    (search needs) loop-again returns-2)

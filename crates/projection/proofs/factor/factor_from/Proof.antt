@@ -29,12 +29,6 @@ is-used c =
 next-is : (c : tie.After-factor-next) → let a = c .before .before .before .args in pos (c .factor-next .result) ≡ factorNext (pos (a .factor)) (a .improvement)
 next-is c = rw (toZ-ofZ {w = w64} (c .before .before .before .fits .improvement)) at (c .factor-next .ensures)
 
-is-usable-requires : tie.Need-is-usable-requires
-is-usable-requires c κs = search needs
-
-beyond-limits-requires : tie.Need-beyond-limits-requires
-beyond-limits-requires c κs = search needs
-
 returns : tie.Need-returns
 returns c = let t = c .before in ap refused (c .beyond-limits .ensures) ∙ sym (beyond _ _ (t .before .before .args .improvement) _ (not-usable t))
 
@@ -54,5 +48,4 @@ returns-3 c =
     sym (valued _ _ (n .before .before .before .args .improvement) _ (n .factor-next .result) (is-used (n .before)) (next-is n) (c .if2 .left))
 
 pub factor-from-spec : {M : Type 1} → statement M
-factor-from-spec =
-    tie.close (tie.spec is-usable-requires beyond-limits-requires returns factor-next-requires returns-2 returns-3)
+factor-from-spec = tie.close (tie.spec (search needs) (search needs) returns factor-next-requires returns-2 returns-3)

@@ -8,12 +8,6 @@ use Rattle.projection.specs.Projection.{factorFrom}
 use Rattle.projection.proofs.factor.factor_in.Statement.{statement}
 use Rattle.projection.proofs.factor.factor_in.Tie as tie
 
-improvement-at-requires : tie.Need-improvement-at-requires
-improvement-at-requires c κs = search needs
-
-factor-from-requires : tie.Need-factor-from-requires
-factor-from-requires c κs = search needs
-
 returns : tie.Need-returns
 returns c =
     let a = c .before .before .before .before .args in
@@ -21,4 +15,4 @@ returns c =
     c .factor-from .ensures ∙ ap (λ (z : ℤ). factorFrom (a .age) (a .year) z (pos (a .factor))) (got w64 (i .ok) (i .ensures))
 
 pub factor-in-spec : {M : Type 1} → statement M
-factor-in-spec = tie.close (tie.spec improvement-at-requires factor-from-requires returns)
+factor-in-spec = tie.close (tie.spec (λ c κs. search needs) (search needs) returns)

@@ -6,9 +6,6 @@ use Rattle.projection.proofs.Years.{factor-bounded, rate-by-factor}
 use Rattle.projection.proofs.rate.rate_at.Statement.{statement}
 use Rattle.projection.proofs.rate.rate_at.Tie as tie
 
-factor-at-requires : tie.Need-factor-at-requires
-factor-at-requires c κs = search needs
-
 rate-by-requires : tie.Need-rate-by-requires
 rate-by-requires c κs =
     let s = c .before .before .before in
@@ -21,4 +18,4 @@ returns c =
     c .rate-by .ensures ∙ rate-by-factor (basisWith (a .run .now) (a .history .now)) (a .age) (a .year) (c .before .factor-at .ensures)
 
 pub rate-at-spec : {M : Type 1} → statement M
-rate-at-spec = tie.close (tie.spec factor-at-requires rate-by-requires returns)
+rate-at-spec = tie.close (tie.spec (λ c κs. search needs) rate-by-requires returns)

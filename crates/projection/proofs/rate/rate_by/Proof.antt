@@ -7,16 +7,10 @@ use Rattle.projection.specs.Projection.{rateFrom}
 use Rattle.projection.proofs.rate.rate_by.Statement.{statement}
 use Rattle.projection.proofs.rate.rate_by.Tie as tie
 
-enum-known-factor : tie.Need-enum-known-factor
-enum-known-factor c = search needs
-
 rate-from-requires : tie.Need-rate-from-requires
 rate-from-requires c κs =
     let p = c .before .before .before .before .pre in
     (p .0, p .1, p .2, p .3 _ (ap meaning (c .before .factor .given .1)))
-
-enum-known-factor-2 : tie.Need-enum-known-factor-2
-enum-known-factor-2 c = search needs
 
 returns : tie.Need-returns
 returns c =
@@ -30,5 +24,4 @@ returns-2 c =
     sym (ap (λ o. andThen (meaning o) (λ f. value (rateFrom (basisOf (a .run .now)) (a .age) f))) (c .before .factor2 .given .1))
 
 pub rate-by-spec : {M : Type 1} → statement M
-rate-by-spec =
-    tie.close (tie.spec enum-known-factor rate-from-requires enum-known-factor-2 returns returns-2)
+rate-by-spec = tie.close (tie.spec (search needs) rate-from-requires (search needs) returns returns-2)

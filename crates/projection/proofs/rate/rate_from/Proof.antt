@@ -14,12 +14,6 @@ room c =
     let l = s .pre .0 .limits .baseRate (s .args .age) (s .pre .1) (s .pre .2) in
     mul-le-mul {n₂ = 1_000_000_000} {m₂ = 4_000_000_000} (omega (arith, c .base-rate .ensures)) (s .pre .3)
 
-base-rate-requires : tie.Need-base-rate-requires
-base-rate-requires c κs = search needs
-
-cast-round-div-unsigned : tie.Need-cast-round-div-unsigned
-cast-round-div-unsigned c = search needs
-
 mul-round-div-unsigned : tie.Need-mul-round-div-unsigned
 mul-round-div-unsigned c = record { fits = omega (arith, room c) }
 
@@ -41,10 +35,5 @@ returns-2 c =
 pub rate-from-spec : {M : Type 1} → statement M
 rate-from-spec =
     tie.close
-    (tie.spec
-    base-rate-requires
-    cast-round-div-unsigned
-    mul-round-div-unsigned
-    round-div-unsigned-requires
-    returns
+    (tie.spec (λ c κs. search needs) (search needs) mul-round-div-unsigned round-div-unsigned-requires returns
     returns-2)

@@ -1,5 +1,5 @@
 -- What is decided says whether a member is added; the total is read afterwards.
-use mathlib.Core.Path.{_≡_, _∙_, sym, ap, refl}
+use mathlib.Core.Path.{_∙_, sym, ap, refl}
 use lib.IntN.{pos}
 use Rattle.outcome.specs.Outcome.{value, meaning}
 use Rattle.roll.specs.Kept.{totalIn}
@@ -7,12 +7,6 @@ use Rattle.roll.proofs.Cases.{joining-value}
 use borrow.Author.Needs.{needs}
 use Rattle.roll.proofs.calls.join.Statement.{statement}
 use Rattle.roll.proofs.calls.join.Tie as tie
-
-joining-requires : tie.Need-joining-requires
-joining-requires c κs = search needs
-
-enum-known-liability : tie.Need-enum-known-liability
-enum-known-liability c = search needs
 
 with-member-requires : tie.Need-with-member-requires
 with-member-requires c κs =
@@ -26,12 +20,6 @@ total-in-requires c κs =
     let v = joining-value _ _ _ _ _ _ _ (sym (l .before .before .joining .ensures) ∙ ap meaning (l .liability .given .1)) in
     rw (w .with-member .kept .0) (v .0)
 
-enum-known-r : tie.Need-enum-known-r
-enum-known-r c = search needs
-
-same-length : tie.Need-same-length
-same-length c = search needs
-
 returns : tie.Need-returns
 returns c =
     let w = c .before .before .before .before in
@@ -39,22 +27,11 @@ returns c =
     let e = sym (l .before .before .joining .ensures) ∙ ap meaning (l .liability .given .1) in
     (rw e (ap (λ n. value (pos n)) (c .total-in .ensures ∙ ap totalIn (w .with-member .ensures))), rw e (w .with-member .ensures))
 
-same-length-2 : tie.Need-same-length-2
-same-length-2 c = search needs
-
 returns-2 : tie.Need-returns-2
 returns-2 c = let e = sym (c .before .before .before .joining .ensures) ∙ ap meaning (c .before .r .given .1) in (rw e refl, rw e refl)
 
 pub join-spec : {M : Type 1} → statement M
 join-spec =
     tie.close
-    (tie.spec
-    joining-requires
-    enum-known-liability
-    with-member-requires
-    total-in-requires
-    enum-known-r
-    same-length
-    returns
-    same-length-2
-    returns-2)
+    (tie.spec (search needs) (search needs) with-member-requires total-in-requires (search needs) (search needs)
+    returns (search needs) returns-2)

@@ -7,17 +7,8 @@ use borrow.Author.Needs.{needs}
 use Rattle.roll.proofs.calls.joining.Statement.{statement}
 use Rattle.roll.proofs.calls.joining.Tie as tie
 
-check-roll-requires : tie.Need-check-roll-requires
-check-roll-requires c κs = search needs
-
-enum-told : tie.Need-enum-told
-enum-told c = search needs
-
 liability-joining-requires : tie.Need-liability-joining-requires
 liability-joining-requires c κs = room-passed _ (found (c .before .before .check-roll .ensures) (c .enum-told .given .1))
-
-enum-known-r : tie.Need-enum-known-r
-enum-known-r c = search needs
 
 returns : tie.Need-returns
 unfolding joining
@@ -32,10 +23,4 @@ returns-2 c = sym (checked-refused _ _ _ (found (c .before .before .before .chec
 pub joining-spec : {M : Type 1} → statement M
 joining-spec =
     tie.close
-    (tie.spec
-    check-roll-requires
-    enum-told
-    liability-joining-requires
-    enum-known-r
-    returns
-    returns-2)
+    (tie.spec (search needs) (search needs) liability-joining-requires (search needs) returns returns-2)

@@ -10,12 +10,6 @@ use borrow.Author.Needs.{needs}
 use Rattle.roll.proofs.calls.leave.Statement.{statement}
 use Rattle.roll.proofs.calls.leave.Tie as tie
 
-leaving-requires : tie.Need-leaving-requires
-leaving-requires c κs = search needs
-
-enum-told : tie.Need-enum-told
-enum-told c = search needs
-
 place-in-requires : tie.Need-place-in-requires
 place-in-requires c κs =
     let t = c .before in
@@ -34,12 +28,6 @@ total-in-requires c κs =
     let v = leaving-passed _ _ (found (t .before .before .leaving .ensures) (t .enum-told .given .1)) in
     rw (w .without-member .kept .0) (v .0)
 
-enum-known-r : tie.Need-enum-known-r
-enum-known-r c = search needs
-
-same-length : tie.Need-same-length
-same-length c = search needs
-
 returns : tie.Need-returns
 returns c =
     let w = c .before .before .before .before in
@@ -49,23 +37,11 @@ returns c =
     let after = w .without-member .ensures ∙ ap (λ i. withoutMember i roll) (w .before .before .place-in .ensures) in
     (rw e (ap (λ n. value (pos n)) (c .total-in .ensures ∙ ap totalIn after)), rw e after)
 
-same-length-2 : tie.Need-same-length-2
-same-length-2 c = search needs
-
 returns-2 : tie.Need-returns-2
 returns-2 c = let e = found (c .before .before .before .leaving .ensures) (c .before .r .given .1) in (rw e refl, rw e refl)
 
 pub leave-spec : {M : Type 1} → statement M
 leave-spec =
     tie.close
-    (tie.spec
-    leaving-requires
-    enum-told
-    place-in-requires
-    without-member-requires
-    total-in-requires
-    enum-known-r
-    same-length
-    returns
-    same-length-2
-    returns-2)
+    (tie.spec (search needs) (search needs) place-in-requires without-member-requires total-in-requires (search needs)
+    (search needs) returns (search needs) returns-2)

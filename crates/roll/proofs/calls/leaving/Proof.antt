@@ -7,17 +7,8 @@ use borrow.Author.Needs.{needs}
 use Rattle.roll.proofs.calls.leaving.Statement.{statement}
 use Rattle.roll.proofs.calls.leaving.Tie as tie
 
-check-roll-requires : tie.Need-check-roll-requires
-check-roll-requires c κs = search needs
-
-enum-told : tie.Need-enum-told
-enum-told c = search needs
-
 check-leave-requires : tie.Need-check-leave-requires
 check-leave-requires c κs = room-passed _ (found (c .before .before .check-roll .ensures) (c .enum-told .given .1))
-
-enum-known-r : tie.Need-enum-known-r
-enum-known-r c = search needs
 
 returns : tie.Need-returns
 unfolding leaving
@@ -32,4 +23,4 @@ returns-2 c = sym (first-refused _ _ _ (found (c .before .before .before .check-
 pub leaving-spec : {M : Type 1} → statement M
 leaving-spec =
     tie.close
-    (tie.spec check-roll-requires enum-told check-leave-requires enum-known-r returns returns-2)
+    (tie.spec (search needs) (search needs) check-leave-requires (search needs) returns returns-2)

@@ -9,30 +9,15 @@ use borrow.Author.Needs.{needs}
 use Rattle.roll.proofs.calls.open_roll.Statement.{statement}
 use Rattle.roll.proofs.calls.open_roll.Tie as tie
 
-check-roll-requires : tie.Need-check-roll-requires
-check-roll-requires c κs = search needs
-
-enum-told : tie.Need-enum-told
-enum-told c = search needs
-
 slice-write-roll : tie.Need-slice-write-roll
 slice-write-roll c = let room = room-passed _ (found (c .before .before .check-roll .ensures) (c .enum-told .given .1)) in omega arith
 
 slice-write-roll-2 : tie.Need-slice-write-roll-2
 slice-write-roll-2 c = let room = room-passed _ (found (c .before .before .check-roll .ensures) (c .enum-told .given .1)) in rw length-set (omega arith)
 
-enum-known-r : tie.Need-enum-known-r
-enum-known-r c = search needs
-
-same-length : tie.Need-same-length
-same-length c = search needs
-
 returns : tie.Need-returns
 unfolding opened
 returns c = let e = found (c .before .before .check-roll .ensures) (c .enum-told .given .1) in (sym e, rw e refl)
-
-same-length-2 : tie.Need-same-length-2
-same-length-2 c = search needs
 
 returns-2 : tie.Need-returns-2
 returns-2 c = let e = found (c .before .before .before .check-roll .ensures) (c .before .r .given .1) in (sym e, rw e refl)
@@ -40,13 +25,5 @@ returns-2 c = let e = found (c .before .before .before .check-roll .ensures) (c 
 pub open-roll-spec : {M : Type 1} → statement M
 open-roll-spec =
     tie.close
-    (tie.spec
-    check-roll-requires
-    enum-told
-    slice-write-roll
-    slice-write-roll-2
-    enum-known-r
-    same-length
-    returns
-    same-length-2
-    returns-2)
+    (tie.spec (search needs) (search needs) slice-write-roll slice-write-roll-2 (search needs) (search needs) returns
+    (search needs) returns-2)

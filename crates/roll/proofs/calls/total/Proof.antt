@@ -8,17 +8,8 @@ use borrow.Author.Needs.{needs}
 use Rattle.roll.proofs.calls.total.Statement.{statement}
 use Rattle.roll.proofs.calls.total.Tie as tie
 
-check-roll-requires : tie.Need-check-roll-requires
-check-roll-requires c κs = search needs
-
-enum-told : tie.Need-enum-told
-enum-told c = search needs
-
 total-in-requires : tie.Need-total-in-requires
 total-in-requires c κs = room-passed _ (found (c .before .before .check-roll .ensures) (c .enum-told .given .1))
-
-enum-known-r : tie.Need-enum-known-r
-enum-known-r c = search needs
 
 returns : tie.Need-returns
 returns c =
@@ -29,6 +20,4 @@ returns-2 : tie.Need-returns-2
 returns-2 c = rw (found (c .before .before .before .check-roll .ensures) (c .before .r .given .1)) refl
 
 pub total-spec : {M : Type 1} → statement M
-total-spec =
-    tie.close
-    (tie.spec check-roll-requires enum-told total-in-requires enum-known-r returns returns-2)
+total-spec = tie.close (tie.spec (search needs) (search needs) total-in-requires (search needs) returns returns-2)

@@ -6,51 +6,6 @@ use borrow.Author.Needs.{needs}
 use Rattle.roll.proofs.changes.without_member.Statement.{statement}
 use Rattle.roll.proofs.changes.without_member.Tie as tie
 
-count-in-requires : tie.Need-count-in-requires
-count-in-requires c κs = search needs
-
-add-close-up : tie.Need-add-close-up
-add-close-up c = search needs
-
-add-close-up-2 : tie.Need-add-close-up-2
-add-close-up-2 c = search needs
-
-close-up-requires : tie.Need-close-up-requires
-close-up-requires c κs = search needs
-
-add-close-up-3 : tie.Need-add-close-up-3
-add-close-up-3 c = search needs
-
-add-close-up-4 : tie.Need-add-close-up-4
-add-close-up-4 c = search needs
-
-close-up-requires-2 : tie.Need-close-up-requires-2
-close-up-requires-2 c κs = search needs
-
-add-close-up-5 : tie.Need-add-close-up-5
-add-close-up-5 c = search needs
-
-add-close-up-6 : tie.Need-add-close-up-6
-add-close-up-6 c = search needs
-
-close-up-requires-3 : tie.Need-close-up-requires-3
-close-up-requires-3 c κs = search needs
-
-add-close-up-7 : tie.Need-add-close-up-7
-add-close-up-7 c = search needs
-
-add-close-up-8 : tie.Need-add-close-up-8
-add-close-up-8 c = search needs
-
-close-up-requires-4 : tie.Need-close-up-requires-4
-close-up-requires-4 c κs = search needs
-
-sub-roll : tie.Need-sub-roll
-sub-roll c = search needs
-
-slice-write-roll : tie.Need-slice-write-roll
-slice-write-roll c = search needs
-
 same-length : tie.Need-same-length
 same-length c =
     let fourth = c .before .before in
@@ -77,21 +32,6 @@ returns c =
 pub without-member-spec : {M : Type 1} → statement M
 without-member-spec =
     tie.close
-    (tie.spec
-    count-in-requires
-    add-close-up
-    add-close-up-2
-    close-up-requires
-    add-close-up-3
-    add-close-up-4
-    close-up-requires-2
-    add-close-up-5
-    add-close-up-6
-    close-up-requires-3
-    add-close-up-7
-    add-close-up-8
-    close-up-requires-4
-    sub-roll
-    slice-write-roll
-    same-length
-    returns)
+    (tie.spec (search needs) (search needs) (search needs) (search needs) (search needs) (search needs) (search needs)
+    (search needs) (search needs) (search needs) (search needs) (search needs) (search needs) (search needs)
+    (search needs) same-length returns)

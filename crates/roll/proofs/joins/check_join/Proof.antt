@@ -17,30 +17,15 @@ off : (c : tie.After-place-in) → c .before .count-in .result ≤ c .place-in .
     length (numbersIn (a .roll .now)) ≤ placeOf (a .number) (numbersIn (a .roll .now))
 off c h = omega (arith, c .place-in .ensures, counted c, h)
 
-count-in-requires : tie.Need-count-in-requires
-count-in-requires c κs = search needs
-
-place-in-requires : tie.Need-place-in-requires
-place-in-requires c κs = search needs
-
-refused-requires : tie.Need-refused-requires
-refused-requires c κs = search needs
-
 returns : tie.Need-returns
 returns c =
     let a = c .before .before in
     c .refused .ensures ∙ sym (join-on _ _ _ (omega (arith, a .place-in .ensures, counted a, c .before .if1 .taken)))
 
-refused-requires-2 : tie.Need-refused-requires-2
-refused-requires-2 c κs = search needs
-
 returns-2 : tie.Need-returns-2
 returns-2 c =
     let a = c .before .before .before in
     c .refused2 .ensures ∙ sym (join-full _ _ _ (off a (omega (arith, c .before .before .if1 .left))) (omega (arith, counted a, c .before .if2 .taken)))
-
-refused-requires-3 : tie.Need-refused-requires-3
-refused-requires-3 c κs = search needs
 
 returns-3 : tie.Need-returns-3
 returns-3 c =
@@ -56,13 +41,5 @@ returns-4 c =
 pub check-join-spec : {M : Type 1} → statement M
 check-join-spec =
     tie.close
-    (tie.spec
-    count-in-requires
-    place-in-requires
-    refused-requires
-    returns
-    refused-requires-2
-    returns-2
-    refused-requires-3
-    returns-3
+    (tie.spec (search needs) (search needs) (search needs) returns (search needs) returns-2 (search needs) returns-3
     returns-4)

@@ -6,15 +6,6 @@ use borrow.Author.Needs.{needs}
 use Rattle.roll.proofs.joins.check_leave.Statement.{statement}
 use Rattle.roll.proofs.joins.check_leave.Tie as tie
 
-place-in-requires : tie.Need-place-in-requires
-place-in-requires c κs = search needs
-
-count-in-requires : tie.Need-count-in-requires
-count-in-requires c κs = search needs
-
-refused-requires : tie.Need-refused-requires
-refused-requires c κs = search needs
-
 returns : tie.Need-returns
 returns c =
     let n = c .before in
@@ -30,5 +21,4 @@ returns-2 c =
     c .refused .ensures ∙ sym (leave-off _ _ (omega (arith, n .before .place-in .ensures, n .count-in .ensures .0, count, c .before .if1 .left)))
 
 pub check-leave-spec : {M : Type 1} → statement M
-check-leave-spec =
-    tie.close (tie.spec place-in-requires count-in-requires refused-requires returns returns-2)
+check-leave-spec = tie.close (tie.spec (search needs) (search needs) (search needs) returns returns-2)

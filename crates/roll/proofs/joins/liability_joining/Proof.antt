@@ -6,22 +6,10 @@ use borrow.Author.Needs.{needs}
 use Rattle.roll.proofs.joins.liability_joining.Statement.{statement}
 use Rattle.roll.proofs.joins.liability_joining.Tie as tie
 
-check-join-requires : tie.Need-check-join-requires
-check-join-requires c κs = search needs
-
-enum-told : tie.Need-enum-told
-enum-told c = search needs
-
-year-in-requires : tie.Need-year-in-requires
-year-in-requires c κs = search needs
-
 liability-on-requires : tie.Need-liability-on-requires
 liability-on-requires c κs =
     let t = c .before in
     may-join _ _ _ (found (t .before .before .check-join .ensures) (t .enum-told .given .1)) .limited
-
-enum-known-r : tie.Need-enum-known-r
-enum-known-r c = search needs
 
 returns : tie.Need-returns
 returns c =
@@ -35,11 +23,4 @@ returns-2 c = sym (own-refused _ _ _ _ _ _ _ _ (found (c .before .before .before
 pub liability-joining-spec : {M : Type 1} → statement M
 liability-joining-spec =
     tie.close
-    (tie.spec
-    check-join-requires
-    enum-told
-    year-in-requires
-    liability-on-requires
-    enum-known-r
-    returns
-    returns-2)
+    (tie.spec (search needs) (search needs) (search needs) liability-on-requires (search needs) returns returns-2)

@@ -9,12 +9,6 @@ use borrow.Author.Needs.{needs}
 use Rattle.roll.proofs.joins.liability_on.Statement.{statement}
 use Rattle.roll.proofs.joins.liability_on.Tie as tie
 
-annuity-requires : tie.Need-annuity-requires
-annuity-requires c κs = search needs
-
-enum-known-a : tie.Need-enum-known-a
-enum-known-a c = search needs
-
 liability-of-requires : tie.Need-liability-of-requires
 liability-of-requires c κs =
     let a = c .before .a .given in
@@ -22,9 +16,6 @@ liability-of-requires c κs =
     let n = annuity-bounded _ _ _ _ _ _ (pos (a .0 .0)) (sym (k .annuity .ensures) ∙ ap meaning (a .1)) in
     let e : a .0 .0 ≡ n .0 = cc in
     (k .before .before .before .pre, omega (arith, e, n .2))
-
-enum-known-r : tie.Need-enum-known-r
-enum-known-r c = search needs
 
 returns : tie.Need-returns
 unfolding liabilityOn
@@ -40,4 +31,4 @@ returns-2 c = rw (sym (c .before .before .before .annuity .ensures) ∙ ap meani
 pub liability-on-spec : {M : Type 1} → statement M
 liability-on-spec =
     tie.close
-    (tie.spec annuity-requires enum-known-a liability-of-requires enum-known-r returns returns-2)
+    (tie.spec (search needs) (search needs) liability-of-requires (search needs) returns returns-2)

@@ -8,24 +8,6 @@ use borrow.Author.Needs.{needs}
 use Rattle.roll.proofs.kept.total_in.Statement.{statement}
 use Rattle.roll.proofs.kept.total_in.Tie as tie
 
-count-in-requires : tie.Need-count-in-requires
-count-in-requires c κs = search needs
-
-add-end : tie.Need-add-end
-add-end c = search needs
-
-sub-add-up : tie.Need-sub-add-up
-sub-add-up c = search needs
-
-part-add-up-start : tie.Need-part-add-up-start
-part-add-up-start c = search needs
-
-part-add-up-end : tie.Need-part-add-up-end
-part-add-up-end c = search needs
-
-add-up-requires : tie.Need-add-up-requires
-add-up-requires c κs = search needs
-
 returns : tie.Need-returns
 unfolding totalIn
 returns c =
@@ -35,11 +17,4 @@ returns c =
 pub total-in-spec : {M : Type 1} → statement M
 total-in-spec =
     tie.close
-    (tie.spec
-    count-in-requires
-    add-end
-    sub-add-up
-    part-add-up-start
-    part-add-up-end
-    add-up-requires
-    returns)
+    (tie.spec (search needs) (search needs) (search needs) (search needs) (search needs) (search needs) returns)

@@ -4,11 +4,8 @@ use borrow.Author.Needs.{needs}
 use Rattle.run_check.proofs.rows.check_exactly.Statement.{statement}
 use Rattle.run_check.proofs.rows.check_exactly.Tie as tie
 
-check-field-requires : tie.Need-check-field-requires
-check-field-requires c κs = search needs
-
 returns : tie.Need-returns
 returns c = let f = c .before .before .fits in simp (toZ-ofZ (f .byte)) at (c .check-field .ensures)
 
 pub check-exactly-spec : {M : Type 1} → statement M
-check-exactly-spec = tie.close (tie.spec check-field-requires returns)
+check-exactly-spec = tie.close (tie.spec (search needs) returns)

@@ -4,11 +4,8 @@ use borrow.Author.Needs.{needs}
 use Rattle.run_check.proofs.rows.check_number.Statement.{statement}
 use Rattle.run_check.proofs.rows.check_number.Tie as tie
 
-check-field-requires : tie.Need-check-field-requires
-check-field-requires c κs = search needs
-
 returns : tie.Need-returns
 returns c = let f = c .before .before .fits in simp (toZ-ofZ (f .low), toZ-ofZ (f .high)) at (c .check-field .ensures)
 
 pub check-number-spec : {M : Type 1} → statement M
-check-number-spec = tie.close (tie.spec check-field-requires returns)
+check-number-spec = tie.close (tie.spec (search needs) returns)

@@ -5,17 +5,11 @@ use borrow.Author.Needs.{needs}
 use Rattle.run_check.proofs.rows.check_periods.Statement.{statement}
 use Rattle.run_check.proofs.rows.check_periods.Tie as tie
 
-all-within-requires : tie.Need-all-within-requires
-all-within-requires c κs = search needs
-
 returns : tie.Need-returns
 returns c = sym (says-passed _ (c .before .all-within .ensures) (c .if1 .taken))
-
-check-field-requires : tie.Need-check-field-requires
-check-field-requires c κs = search needs
 
 returns-2 : tie.Need-returns-2
 returns-2 c = c .check-field .ensures
 
 pub check-periods-spec : {M : Type 1} → statement M
-check-periods-spec = tie.close (tie.spec all-within-requires returns check-field-requires returns-2)
+check-periods-spec = tie.close (tie.spec (search needs) returns (search needs) returns-2)

@@ -4,30 +4,6 @@ use borrow.Author.Needs.{needs}
 use Rattle.short_form.proofs.parts.put_birth_years.Statement.{statement}
 use Rattle.short_form.proofs.parts.put_birth_years.Tie as tie
 
-sub-put : tie.Need-sub-put
-sub-put c = search needs
-
-part-put-start : tie.Need-part-put-start
-part-put-start c = search needs
-
-part-put-end : tie.Need-part-put-end
-part-put-end c = search needs
-
-put-requires : tie.Need-put-requires
-put-requires c κs = search needs
-
-put-repeated-requires : tie.Need-put-repeated-requires
-put-repeated-requires c κs = search needs
-
-put-repeated-requires-2 : tie.Need-put-repeated-requires-2
-put-repeated-requires-2 c κs = search needs
-
-put-repeated-requires-3 : tie.Need-put-repeated-requires-3
-put-repeated-requires-3 c κs = search needs
-
-same-length : tie.Need-same-length
-same-length c = search needs
-
 returns : tie.Need-returns
 returns c =
     let d = c .before .before in
@@ -41,13 +17,5 @@ returns c =
 pub put-birth-years-spec : {M : Type 1} → statement M
 put-birth-years-spec =
     tie.close
-    (tie.spec
-    sub-put
-    part-put-start
-    part-put-end
-    put-requires
-    put-repeated-requires
-    put-repeated-requires-2
-    put-repeated-requires-3
-    same-length
-    returns)
+    (tie.spec (search needs) (search needs) (search needs) (search needs) (search needs) (search needs) (search needs)
+    (search needs) returns)

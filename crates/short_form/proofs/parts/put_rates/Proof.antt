@@ -28,32 +28,14 @@ abbrev μ-loop : tie.MeasureT-loop
 loop-holds : tie.Need-loop-holds Inv-loop μ-loop
 loop-holds c = (omega arith, refl, refl)
 
-add-long-term-rate : tie.Need-add-long-term-rate Inv-loop μ-loop
-add-long-term-rate c = omega arith
-
 long-term-rate-requires : tie.Need-long-term-rate-requires Inv-loop μ-loop
 long-term-rate-requires c κs = let s = c .before .before .before in rw (toZ-ofZ (s .fits .rate)) (s .pre .0, omega arith, omega arith)
-
-i32-bytes-requires : tie.Need-i32-bytes-requires Inv-loop μ-loop
-i32-bytes-requires c κs = search needs
 
 slice-aggregate-put : tie.Need-slice-aggregate-put Inv-loop μ-loop
 slice-aggregate-put c = sym (ap length (c .before .i32-bytes .ensures))
 
-mul-put : tie.Need-mul-put Inv-loop μ-loop
-mul-put c = omega arith
-
-add-put : tie.Need-add-put Inv-loop μ-loop
-add-put c = omega arith
-
 put-requires : tie.Need-put-requires Inv-loop μ-loop
 put-requires c κs = omega (arith, ap length (c .before .before .i32-bytes .ensures))
-
-add-i : tie.Need-add-i Inv-loop μ-loop
-add-i c = omega arith
-
-loop-less : tie.Need-loop-less Inv-loop μ-loop
-loop-less c = omega arith
 
 loop-again : tie.Need-loop-again Inv-loop μ-loop
 loop-again c =
@@ -81,19 +63,5 @@ returns c =
 pub put-rates-spec : {M : Type 1} → statement M
 put-rates-spec =
     tie.close
-    (tie.spec
-    Inv-loop
-    μ-loop
-    loop-holds
-    add-long-term-rate
-    long-term-rate-requires
-    i32-bytes-requires
-    slice-aggregate-put
-    mul-put
-    add-put
-    put-requires
-    add-i
-    loop-less
-    loop-again
-    same-length
-    returns)
+    (tie.spec Inv-loop μ-loop loop-holds (search needs) long-term-rate-requires (search needs) slice-aggregate-put
+    (search needs) (search needs) put-requires (search needs) (search needs) loop-again same-length returns)

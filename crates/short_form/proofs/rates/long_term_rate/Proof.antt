@@ -26,12 +26,6 @@ share-is n age e = rw e (toZ-pos w64 (omega (arith, share-most age)))
 cast-round-div : tie.Need-cast-round-div
 cast-round-div c = rw (toZ-ofZ (c .fits .rate)) (sfits-widen tt (c .fits .rate))
 
-share-requires : tie.Need-share-requires
-share-requires c κs = search needs
-
-cast-round-div-2 : tie.Need-cast-round-div-2
-cast-round-div-2 c = search needs
-
 product-fits : (rate : ℤ) (age : ℕ) → natAbs rate ≤ longTermLimit → SFits w64 (rate *ℤ pos (shareOf age))
 product-fits rate age h = sfits-abs (omega (arith, product-size rate age longTermLimit h))
 
@@ -66,11 +60,4 @@ returns c = let s = c .before .before in rw (gives c) (toZ-ofZ (result-fits (s .
 pub long-term-rate-spec : {M : Type 1} → statement M
 long-term-rate-spec =
     tie.close
-    (tie.spec
-    cast-round-div
-    share-requires
-    cast-round-div-2
-    mul-round-div
-    round-div-requires
-    cast-result
-    returns)
+    (tie.spec cast-round-div (search needs) (search needs) mul-round-div round-div-requires cast-result returns)

@@ -10,13 +10,10 @@ use Rattle.swept_points.proofs.life_values.deferred_payment.Tie as tie
 returns : tie.Need-returns
 returns c = let a = c .before .args in (payment-not-yet (pos (a .discount)) (a .deferment) (a .j) (pos (a .s)) (omega arith), omega arith)
 
-payment-requires : tie.Need-payment-requires
-payment-requires c κs = search needs
-
 returns-2 : tie.Need-returns-2
 returns-2 c =
     let a = c .before .before .args in
     (c .payment .ensures .0 ∙ payment-made (pos (a .discount)) (a .deferment) (a .j) (pos (a .s)) (omega arith), c .payment .ensures .1)
 
 pub deferred-payment-spec : {M : Type 1} → statement M
-deferred-payment-spec = tie.close (tie.spec returns payment-requires returns-2)
+deferred-payment-spec = tie.close (tie.spec returns (search needs) returns-2)

@@ -23,12 +23,6 @@ Inv-loop run history table kind age deferment year last s₀ j₀ lives₀ payme
 abbrev μ-loop : tie.MeasureT-loop
 μ-loop run history table kind age deferment year last s₀ j₀ lives₀ payments₀ s j lives payments = last - j
 
-sub-last : tie.Need-sub-last Inv-loop μ-loop
-sub-last c = search needs
-
-discount-requires : tie.Need-discount-requires Inv-loop μ-loop
-discount-requires c κs = search needs
-
 deferred-payment-requires : tie.Need-deferred-payment-requires Inv-loop μ-loop
 deferred-payment-requires c κs =
     let s = c .before .before .before .before in
@@ -46,24 +40,12 @@ loop-holds c =
     let due = paid .0 ∙ ap (λ v. deferredPayment v (a .deferment) 0 (pos U)) worth in
     (omega arith, so-far-first b (a .kind) (a .age) (a .deferment) (a .year) (c .deferred-payment .result) (due, paid .1))
 
-add-survivors-after-year : tie.Need-add-survivors-after-year Inv-loop μ-loop
-add-survivors-after-year c = search needs
-
-year-on-requires : tie.Need-year-on-requires Inv-loop μ-loop
-year-on-requires c κs = search needs
-
 survivors-after-year-requires : tie.Need-survivors-after-year-requires Inv-loop μ-loop
 survivors-after-year-requires c κs =
     let l = c .before .before in
     let s = l .before .before .before .before .before .before in
     let a = s .args in
     (cell-on (a .age) (a .year) (a .kind) (l .loop .j) (s .pre .0) (s .pre .2) (omega arith) (s .pre .4) (c .year-on .ensures), s .pre .1, l .loop .inv .1 .living .people)
-
-enum-known-x : tie.Need-enum-known-x Inv-loop μ-loop
-enum-known-x c = search needs
-
-enum-known-r : tie.Need-enum-known-r Inv-loop μ-loop
-enum-known-r c = search needs
 
 returns : tie.Need-returns Inv-loop μ-loop
 returns c =
@@ -81,9 +63,6 @@ returns c =
           (omega (arith, s .pre .3)),
     )
 
-add-j : tie.Need-add-j Inv-loop μ-loop
-add-j c = search needs
-
 add-lives : tie.Need-add-lives Inv-loop μ-loop
 add-lives c =
     let y = c .before .before .before in
@@ -95,9 +74,6 @@ add-lives c =
     let g = sym (ap meaning (c .before .x .given .1)) ∙ y .survivors-after-year .ensures in
     let small = year-small b (a .age + l .loop .j) (y .before .year-on .result) (l .loop .s) x (l .loop .inv .1 .living .people) (sym g) in
     omega (arith, l .loop .inv .1 .living .sum, small)
-
-discount-requires-2 : tie.Need-discount-requires-2 Inv-loop μ-loop
-discount-requires-2 c κs = search needs
 
 -- the discount that stands in the table after j years, and what is paid by it
 worth : (c : tie.After-discount2 Inv-loop μ-loop) →
@@ -125,9 +101,6 @@ add-payments : tie.Need-add-payments Inv-loop μ-loop
 add-payments c =
     let l = c .before .before .before .before .before .before .before .before in
     omega (arith, l .loop .inv .1 .sum, c .deferred-payment2 .ensures .1)
-
-loop-less : tie.Need-loop-less Inv-loop μ-loop
-loop-less c = search needs
 
 loop-again : tie.Need-loop-again Inv-loop μ-loop
 loop-again c =
@@ -160,25 +133,6 @@ returns-2 c =
 pub life-values-from-spec : {M : Type 1} → statement M
 life-values-from-spec =
     tie.close
-    (tie.spec
-    Inv-loop
-    μ-loop
-    sub-last
-    discount-requires
-    deferred-payment-requires
-    loop-holds
-    add-survivors-after-year
-    year-on-requires
-    survivors-after-year-requires
-    enum-known-x
-    enum-known-r
-    returns
-    add-j
-    add-lives
-    discount-requires-2
-    deferred-payment-requires-2
-    add-payments
-    loop-less
-    loop-again
-    add-t15
-    returns-2)
+    (tie.spec Inv-loop μ-loop (search needs) (search needs) deferred-payment-requires loop-holds (search needs)
+    (search needs) survivors-after-year-requires (search needs) (search needs) returns (search needs) add-lives
+    (search needs) deferred-payment-requires-2 add-payments (search needs) loop-again add-t15 returns-2)

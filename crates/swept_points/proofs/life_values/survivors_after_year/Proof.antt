@@ -11,9 +11,6 @@ use Rattle.survivorship.proofs.Survivors.{survivors-by-rate}
 use Rattle.swept_points.proofs.life_values.survivors_after_year.Statement.{statement}
 use Rattle.swept_points.proofs.life_values.survivors_after_year.Tie as tie
 
-factor-requires : tie.Need-factor-requires
-factor-requires c κs = search needs
-
 -- the factor is the direct engine's
 factor-is : (c : tie.After-factor) →
     let a = c .before .before .before .before .args in
@@ -50,4 +47,4 @@ returns c =
     c .survivors-by .ensures ∙ survivors-by-rate (basisWith (a .run .now) (a .history .now)) (a .age) (a .year) (pos (a .s)) (rate-is (c .before))
 
 pub survivors-after-year-spec : {M : Type 1} → statement M
-survivors-after-year-spec = tie.close (tie.spec factor-requires rate-by-requires survivors-by-requires returns)
+survivors-after-year-spec = tie.close (tie.spec (λ c κs. search needs) rate-by-requires survivors-by-requires returns)

@@ -5,15 +5,9 @@ use borrow.Author.Needs.{needs}
 use Rattle.swept_points.proofs.points.answered.Statement.{statement}
 use Rattle.swept_points.proofs.points.answered.Tie as tie
 
-swept-point-requires : tie.Need-swept-point-requires
-swept-point-requires c κs = search needs
-
-recorded-requires : tie.Need-recorded-requires
-recorded-requires c κs = search needs
-
 returns : tie.Need-returns
 unfolding answeredOf
 returns c = c .recorded .ensures ∙ ap (recordOf (c .before .before .before .before .before .args .p)) (c .before .swept-point .ensures)
 
 pub answered-spec : {M : Type 1} → statement M
-answered-spec = tie.close (tie.spec swept-point-requires recorded-requires returns)
+answered-spec = tie.close (tie.spec (λ c κs. search needs) (search needs) returns)

@@ -5,12 +5,6 @@ use borrow.Author.Needs.{needs}
 use Rattle.swept_points.proofs.points.life_annuity.Statement.{statement}
 use Rattle.swept_points.proofs.points.life_annuity.Tie as tie
 
-enum-known-p : tie.Need-enum-known-p
-enum-known-p c = search needs
-
-enum-known-p-2 : tie.Need-enum-known-p-2
-enum-known-p-2 c = search needs
-
 returns : tie.Need-returns
 returns c = sym (ap lifeAnnuity (c .before .p .given .1))
 
@@ -18,4 +12,4 @@ returns-2 : tie.Need-returns-2
 returns-2 c = sym (ap lifeAnnuity (c .before .p2 .given .1))
 
 pub life-annuity-spec : {M : Type 1} → statement M
-life-annuity-spec = tie.close (tie.spec enum-known-p enum-known-p-2 returns returns-2)
+life-annuity-spec = tie.close (tie.spec (search needs) (search needs) returns returns-2)

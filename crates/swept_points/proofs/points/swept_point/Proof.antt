@@ -1,19 +1,12 @@
 -- The checks decide first; what they let pass is all that the work asks for.
 use mathlib.Core.Path.{_∙_}
 use Rattle.basis.specs.Basis.{ratedFrom}
-use Rattle.history.specs.History.{basisWith}
 use Rattle.outcome.proofs.Outcome.{found}
 use Rattle.model_points.proofs.Points.{point-passed, point-refused}
 use Rattle.question.proofs.Passed.{question-passed}
 use borrow.Author.Needs.{needs}
 use Rattle.swept_points.proofs.points.swept_point.Statement.{statement}
 use Rattle.swept_points.proofs.points.swept_point.Tie as tie
-
-check-question-requires : tie.Need-check-question-requires
-check-question-requires c κs = search needs
-
-enum-told : tie.Need-enum-told
-enum-told c = search needs
 
 swept-results-requires : tie.Need-swept-results-requires
 unfolding ratedFrom
@@ -22,12 +15,6 @@ swept-results-requires c κs =
     let q = s .args .q in
     let passed = found (c .before .before .check-question .ensures) (c .enum-told .given .1) in
     (question-passed (s .args .run .now) (s .args .history .now) (q .age) (q .deferment) (q .year) (s .pre .0) passed, s .pre .1)
-
-enum-known-r : tie.Need-enum-known-r
-enum-known-r c = search needs
-
-refused-point-requires : tie.Need-refused-point-requires
-refused-point-requires c κs = search needs
 
 returns : tie.Need-returns
 unfolding ratedFrom
@@ -44,11 +31,5 @@ returns-2 c =
 pub swept-point-spec : {M : Type 1} → statement M
 swept-point-spec =
     tie.close
-    (tie.spec
-    check-question-requires
-    enum-told
-    swept-results-requires
-    enum-known-r
-    refused-point-requires
-    returns
+    (tie.spec (λ c κs. search needs) (search needs) swept-results-requires (search needs) (search needs) returns
     returns-2)

@@ -5,27 +5,6 @@ use borrow.Author.Needs.{needs}
 use Rattle.swept_points.proofs.points.swept_results.Statement.{statement}
 use Rattle.swept_points.proofs.points.swept_results.Tie as tie
 
-life-values-from-requires : tie.Need-life-values-from-requires
-life-values-from-requires c κs = search needs
-
-life-values-from-requires-2 : tie.Need-life-values-from-requires-2
-life-values-from-requires-2 c κs = search needs
-
-expectation-requires : tie.Need-expectation-requires
-expectation-requires c κs = search needs
-
-expectation-requires-2 : tie.Need-expectation-requires-2
-expectation-requires-2 c κs = search needs
-
-life-annuity-requires : tie.Need-life-annuity-requires
-life-annuity-requires c κs = search needs
-
-life-annuity-requires-2 : tie.Need-life-annuity-requires-2
-life-annuity-requires-2 c κs = search needs
-
-four-results-requires : tie.Need-four-results-requires
-four-results-requires c κs = search needs
-
 returns : tie.Need-returns
 unfolding resultsOf
 returns c =
@@ -44,12 +23,5 @@ returns c =
 pub swept-results-spec : {M : Type 1} → statement M
 swept-results-spec =
     tie.close
-    (tie.spec
-    life-values-from-requires
-    life-values-from-requires-2
-    expectation-requires
-    expectation-requires-2
-    life-annuity-requires
-    life-annuity-requires-2
-    four-results-requires
-    returns)
+    (tie.spec (λ c κs. search needs) (λ c κs. search needs) (λ c κs. search needs) (λ c κs. search needs)
+    (search needs) (search needs) (search needs) returns)

@@ -9,23 +9,11 @@ use Rattle.survivorship.proofs.Survivors.{survivors-small}
 use Rattle.valuation.proofs.annuity.annuity_at.Statement.{statement}
 use Rattle.valuation.proofs.annuity.annuity_at.Tie as tie
 
-survivors-at-requires : tie.Need-survivors-at-requires
-survivors-at-requires c κs = search needs
-
-enum-known-s : tie.Need-enum-known-s
-enum-known-s c = search needs
-
 annuity-from-requires : tie.Need-annuity-from-requires
 annuity-from-requires c κs = let s = c .before .before .before .before .before .before in let a = s .args in
     let h = sym (c .before .before .before .survivors-at .ensures) ∙ ap meaning (c .before .s .given .1) in
     let small = survivors-small (basisWith (a .run .now) (a .history .now)) (a .kind) (a .age) (a .deferment) (a .year) (c .before .s .given .0 .0) h in
     (s .pre, omega (arith, small), h)
-
-enum-known-r : tie.Need-enum-known-r
-enum-known-r c = search needs
-
-returns : tie.Need-returns
-returns c = search needs
 
 returns-2 : tie.Need-returns-2
 returns-2 c = let s = c .before .before .before .before .before .before in let a = s .args in
@@ -35,4 +23,4 @@ returns-2 c = let s = c .before .before .before .before .before .before in let a
 pub annuity-at-spec : {M : Type 1} → statement M
 annuity-at-spec =
     tie.close
-    (tie.spec survivors-at-requires enum-known-s annuity-from-requires enum-known-r returns returns-2)
+    (tie.spec (λ c κs. search needs) (search needs) annuity-from-requires (search needs) (λ c. search needs) returns-2)

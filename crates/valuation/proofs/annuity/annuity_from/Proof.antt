@@ -19,15 +19,6 @@ Inv-loop run history kind age deferment year first accumulation last v₀ s₀ j
 abbrev μ-loop : tie.MeasureT-loop
 μ-loop run history kind age deferment year first accumulation last v₀ s₀ j₀ total₀ v s j total = last - j
 
-accumulation-requires : tie.Need-accumulation-requires Inv-loop μ-loop
-accumulation-requires c κs = search needs
-
-sub-last : tie.Need-sub-last Inv-loop μ-loop
-sub-last c = search needs
-
-discount-after-requires : tie.Need-discount-after-requires Inv-loop μ-loop
-discount-after-requires c κs = search needs
-
 payment-requires : tie.Need-payment-requires Inv-loop μ-loop
 payment-requires c κs = let s = c .before .before .before .before in let a = s .args in
     let b = basisWith (a .run .now) (a .history .now) in
@@ -40,23 +31,11 @@ loop-holds c = let d = c .before in let s = d .before .before .before .before in
     paying-first (basisWith (a .run .now) (a .history .now)) (a .kind) (a .age) (a .deferment) (a .year) (a .first) (d .discount-after .result) (c .payment .result)
     (omega arith) (s .pre .1) (s .pre .2) (d .discount-after .ensures ∙ discount-with (a .run .now) (a .history .now) (a .deferment)) (c .payment .ensures)
 
-add-survivors-after-year : tie.Need-add-survivors-after-year Inv-loop μ-loop
-add-survivors-after-year c = search needs
-
-year-on-requires : tie.Need-year-on-requires Inv-loop μ-loop
-year-on-requires c κs = search needs
-
 survivors-after-year-requires : tie.Need-survivors-after-year-requires Inv-loop μ-loop
 survivors-after-year-requires c κs = let l = c .before .before in let s = l .before .before .before .before .before .before in
     let life = s .pre .0 in
     let cell = cell-on (s .args .age) (s .args .year) (s .args .kind) (l .loop .j) (life .usable) (life .age-low) (omega arith) (life .year-low) (c .year-on .ensures) in
     (cell, l .loop .inv .people)
-
-enum-known-x : tie.Need-enum-known-x Inv-loop μ-loop
-enum-known-x c = search needs
-
-enum-known-r : tie.Need-enum-known-r Inv-loop μ-loop
-enum-known-r c = search needs
 
 returns : tie.Need-returns Inv-loop μ-loop
 returns c = let y = c .before .before .before in let l = y .before .before .before in let s = l .before .before .before .before .before .before in let a = s .args in
@@ -72,9 +51,6 @@ discount-next-requires c κs = let l = c .before .before .before .before .before
     discount-ranges (basisWith (s .args .run .now) (s .args .history .now)) (limits-with (s .pre .0 .usable)) (l .loop .j) (l .loop .v) (omega arith) (l .loop .inv .discount)
     (h .before .before .accumulation .ensures ∙ accumulation-with (s .args .run .now) (s .args .history .now))
 
-add-j : tie.Need-add-j Inv-loop μ-loop
-add-j c = search needs
-
 payment-requires-2 : tie.Need-payment-requires-2 Inv-loop μ-loop
 payment-requires-2 c κs = let x = c .before .before in let y = x .before .before in
     let l = y .before .before .before in let h = l .before in let s = h .before .before .before .before .before in
@@ -87,9 +63,6 @@ payment-requires-2 c κs = let x = c .before .before in let y = x .before .befor
 
 add-total : tie.Need-add-total Inv-loop μ-loop
 add-total c = omega (arith, c .payment2 .ensures .1)
-
-loop-less : tie.Need-loop-less Inv-loop μ-loop
-loop-less c = search needs
 
 loop-again : tie.Need-loop-again Inv-loop μ-loop
 loop-again c = let d = c .before in let x = d .before .before in let y = x .before .before in
@@ -106,24 +79,6 @@ returns-2 c = let l = c .before in let s = l .before .before .before .before .be
 pub annuity-from-spec : {M : Type 1} → statement M
 annuity-from-spec =
     tie.close
-    (tie.spec
-    Inv-loop
-    μ-loop
-    accumulation-requires
-    sub-last
-    discount-after-requires
-    payment-requires
-    loop-holds
-    add-survivors-after-year
-    year-on-requires
-    survivors-after-year-requires
-    enum-known-x
-    enum-known-r
-    returns
-    discount-next-requires
-    add-j
-    payment-requires-2
-    add-total
-    loop-less
-    loop-again
-    returns-2)
+    (tie.spec Inv-loop μ-loop (λ c κs. search needs) (search needs) (λ c κs. search needs) payment-requires loop-holds
+    (search needs) (search needs) survivors-after-year-requires (search needs) (search needs) returns
+    discount-next-requires (search needs) payment-requires-2 add-total (search needs) loop-again returns-2)

@@ -17,9 +17,6 @@ Inv-loop run n accumulation v₀ j₀ v j = (j ≤ n) × (discountAfter (basisOf
 abbrev μ-loop : tie.MeasureT-loop
 μ-loop run n accumulation v₀ j₀ v j = n - j
 
-accumulation-requires : tie.Need-accumulation-requires Inv-loop μ-loop
-accumulation-requires c κs = search needs
-
 loop-holds : tie.Need-loop-holds Inv-loop μ-loop
 unfolding discountAfter
 loop-holds c = search needs
@@ -27,12 +24,6 @@ loop-holds c = search needs
 discount-next-requires : tie.Need-discount-next-requires Inv-loop μ-loop
 discount-next-requires c κs = let l = c .before in let s = l .before .before .before in
     discount-ranges (basisOf (s .args .run .now)) (s .pre .0 .limits) (l .loop .j) (l .loop .v) (omega arith) (l .loop .inv .1) (l .before .accumulation .ensures)
-
-add-j : tie.Need-add-j Inv-loop μ-loop
-add-j c = search needs
-
-loop-less : tie.Need-loop-less Inv-loop μ-loop
-loop-less c = search needs
 
 loop-again : tie.Need-loop-again Inv-loop μ-loop
 loop-again c = let l = c .before .before in
@@ -48,13 +39,5 @@ returns c = let l = c .before in
 pub discount-after-spec : {M : Type 1} → statement M
 discount-after-spec =
     tie.close
-    (tie.spec
-    Inv-loop
-    μ-loop
-    accumulation-requires
-    loop-holds
-    discount-next-requires
-    add-j
-    loop-less
-    loop-again
-    returns)
+    (tie.spec Inv-loop μ-loop (λ c κs. search needs) loop-holds discount-next-requires (search needs) (search needs)
+    loop-again returns)

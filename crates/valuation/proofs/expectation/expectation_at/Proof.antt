@@ -16,24 +16,9 @@ Inv-loop run history kind age deferment year from start last s₀ j₀ total₀ 
 abbrev μ-loop : tie.MeasureT-loop
 μ-loop run history kind age deferment year from start last s₀ j₀ total₀ s j total = last - j
 
-add-from : tie.Need-add-from Inv-loop μ-loop
-add-from c = search needs
-
-add-start : tie.Need-add-start Inv-loop μ-loop
-add-start c = search needs
-
-sub-last : tie.Need-sub-last Inv-loop μ-loop
-sub-last c = search needs
-
 loop-holds : tie.Need-loop-holds Inv-loop μ-loop
 loop-holds c = let a = c .before .before .args in
     (omega arith, living-first (basisWith (a .run .now) (a .history .now)) (a .kind) (a .age + a .deferment) (a .year + a .deferment))
-
-add-survivors-after-year : tie.Need-add-survivors-after-year Inv-loop μ-loop
-add-survivors-after-year c = search needs
-
-year-on-requires : tie.Need-year-on-requires Inv-loop μ-loop
-year-on-requires c κs = search needs
 
 survivors-after-year-requires : tie.Need-survivors-after-year-requires Inv-loop μ-loop
 survivors-after-year-requires c κs = let l = c .before .before in let s = l .before .before .before in let a = s .args in
@@ -43,20 +28,11 @@ survivors-after-year-requires c κs = let l = c .before .before in let s = l .be
     (omega (arith, life .age-low)) (omega arith) (omega (arith, life .year-low)) (c .year-on .ensures) in
     (cell, l .loop .inv .1 .people)
 
-enum-known-x : tie.Need-enum-known-x Inv-loop μ-loop
-enum-known-x c = search needs
-
-enum-known-r : tie.Need-enum-known-r Inv-loop μ-loop
-enum-known-r c = search needs
-
 returns : tie.Need-returns Inv-loop μ-loop
 returns c = let y = c .before .before .before in let l = y .before .before .before in let s = l .before .before .before in let a = s .args in
     let g = sym (ap meaning (c .before .r .given .1)) ∙ y .survivors-after-year .ensures in
     lived-refused (basisWith (a .run .now) (a .history .now)) (a .kind) (a .age) (a .deferment) (a .year) (l .loop .j) (l .loop .s) (l .loop .total)
     (c .before .r .given .0 .0) refl refl (omega arith) (l .loop .inv .1) (y .before .year-on .ensures) g
-
-add-j : tie.Need-add-j Inv-loop μ-loop
-add-j c = search needs
 
 add-total : tie.Need-add-total Inv-loop μ-loop
 add-total c = let y = c .before .before .before in let l = y .before .before .before in let s = l .before .before .before in let a = s .args in
@@ -65,9 +41,6 @@ add-total c = let y = c .before .before .before in let l = y .before .before .be
     let from = a .age + a .deferment in
     let small = year-small b (from + l .loop .j) (y .before .year-on .result) (l .loop .s) (c .before .x .given .0 .0) (l .loop .inv .1 .people) (sym g) in
     omega (arith, l .loop .inv .1 .sum, small)
-
-loop-less : tie.Need-loop-less Inv-loop μ-loop
-loop-less c = search needs
 
 loop-again : tie.Need-loop-again Inv-loop μ-loop
 loop-again c = let y = c .before .before .before in let l = y .before .before .before in let s = l .before .before .before in let a = s .args in
@@ -88,22 +61,6 @@ returns-2 c = let l = c .before in let s = l .before .before .before in let a = 
 pub expectation-at-spec : {M : Type 1} → statement M
 expectation-at-spec =
     tie.close
-    (tie.spec
-    Inv-loop
-    μ-loop
-    add-from
-    add-start
-    sub-last
-    loop-holds
-    add-survivors-after-year
-    year-on-requires
-    survivors-after-year-requires
-    enum-known-x
-    enum-known-r
-    returns
-    add-j
-    add-total
-    loop-less
-    loop-again
-    add-t19
-    returns-2)
+    (tie.spec Inv-loop μ-loop (search needs) (search needs) (search needs) loop-holds (search needs) (search needs)
+    survivors-after-year-requires (search needs) (search needs) returns (search needs) add-total (search needs)
+    loop-again add-t19 returns-2)
