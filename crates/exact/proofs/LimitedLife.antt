@@ -1,5 +1,5 @@
 -- What the distances take of a life: a basis within its limits, and n years from an age on that the tables have. From what was checked.
-use Prim.Native.Nat.{ℕ, _+_, _≤_, _<_}
+use Prim.Native.Nat.{ℕ, _+_, _≤_}
 use mathlib.Core.List.{List}
 use native.Mathlib.Omega.{arith}
 use Rattle.basis.specs.Basis.{Basis, Limited}

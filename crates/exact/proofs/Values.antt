@@ -2,7 +2,7 @@
 -- distances of their terms, added. A term of the annuity is j halves from the discount, 2j(K + 1) from the survivors and one from
 -- its rounding, or at most four times each. Assumes nothing.
 use mathlib.Core.Path.{_≡_}
-use Prim.Native.Nat.{ℕ, zero, suc, _+_, _*_, _-_, _/_, _≤_, _<_}
+use Prim.Native.Nat.{ℕ, suc, _+_, _*_, _-_, _/_, _≤_, _<_}
 use native.Mathlib.Omega.{arith}
 use native.Mathlib.Nat.{mul-le-mul-right}
 use lib.IntN.{ℤ, pos, _+ℤ_}

@@ -3,12 +3,6 @@ use borrow.Author.Needs.{needs}
 use Rattle.engine.proofs.answers.answer_of.Statement.{statement}
 use Rattle.engine.proofs.answers.answer_of.Tie as tie
 
-enum-known-answer : tie.Need-enum-known-answer
-enum-known-answer c = search needs
-
-enum-known-answer-2 : tie.Need-enum-known-answer-2
-enum-known-answer-2 c = search needs
-
 returns : tie.Need-returns
 returns c = simp (c .before .answer .given .1)
 
@@ -16,6 +10,4 @@ returns-2 : tie.Need-returns-2
 returns-2 c = simp (c .before .answer2 .given .1)
 
 pub answer-of-spec : {M : Type 1} → statement M
-answer-of-spec =
-    tie.close
-    (tie.spec enum-known-answer enum-known-answer-2 returns returns-2)
+answer-of-spec = tie.close (tie.spec (search needs) (search needs) returns returns-2)

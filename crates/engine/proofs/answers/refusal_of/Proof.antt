@@ -7,17 +7,8 @@ use Rattle.engine.specs.Enquiry.{refusalOf}
 use Rattle.engine.proofs.answers.refusal_of.Statement.{statement}
 use Rattle.engine.proofs.answers.refusal_of.Tie as tie
 
-enum-told : tie.Need-enum-told
-enum-told c = search needs
-
-enum-known-check : tie.Need-enum-known-check
-enum-known-check c = search needs
-
 returns : tie.Need-returns
 returns c = ap (λ (k : Check). refusalOf (finding k)) (sym (c .enum-told .given .1))
 
-returns-2 : tie.Need-returns-2
-returns-2 c = search needs
-
 pub refusal-of-spec : {M : Type 1} → statement M
-refusal-of-spec = tie.close (tie.spec enum-told enum-known-check returns returns-2)
+refusal-of-spec = tie.close (tie.spec (search needs) (search needs) returns (λ c. search needs))

@@ -18,12 +18,6 @@ unrefused z = record { refusal = noRefusal; value = z }
 answered : (answer : SignedAnswer) (z i : ℤ) → answer ≡ Value i → z ≡ i → unrefused z ≡ signedAnswerOf (signedMeaning answer)
 answered answer z i e same = rw (e, same) refl
 
-enum-known-answer : tie.Need-enum-known-answer
-enum-known-answer c = search needs
-
-enum-known-answer-2 : tie.Need-enum-known-answer-2
-enum-known-answer-2 c = search needs
-
 returns : tie.Need-returns
 returns c =
     let known = c .before .answer .given in
@@ -33,6 +27,4 @@ returns-2 : tie.Need-returns-2
 returns-2 c = simp (c .before .answer2 .given .1)
 
 pub signed-answer-of-spec : {M : Type 1} → statement M
-signed-answer-of-spec =
-    tie.close
-    (tie.spec enum-known-answer enum-known-answer-2 returns returns-2)
+signed-answer-of-spec = tie.close (tie.spec (search needs) (search needs) returns returns-2)

@@ -5,14 +5,8 @@ use Rattle.engine.specs.Enquiry.{answerOf}
 use Rattle.engine.proofs.cells.parvusek_rate.Statement.{statement}
 use Rattle.engine.proofs.cells.parvusek_rate.Tie as tie
 
-rate-requires : tie.Need-rate-requires
-rate-requires c κs = search needs
-
-answer-of-requires : tie.Need-answer-of-requires
-answer-of-requires c κs = search needs
-
 returns : tie.Need-returns
 returns c = c .answer-of .ensures ∙ ap answerOf (c .before .rate .ensures)
 
 pub parvusek-rate-spec : {M : Type 1} → statement M
-parvusek-rate-spec = tie.close (tie.spec rate-requires answer-of-requires returns)
+parvusek-rate-spec = tie.close (tie.spec (search needs) (search needs) returns)

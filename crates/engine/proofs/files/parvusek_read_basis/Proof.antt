@@ -5,20 +5,10 @@ use Rattle.engine.specs.Enquiry.{refusalOf}
 use Rattle.engine.proofs.files.parvusek_read_basis.Statement.{statement}
 use Rattle.engine.proofs.files.parvusek_read_basis.Tie as tie
 
-read-file-requires : tie.Need-read-file-requires
-read-file-requires c κs = search needs
-
-refusal-of-requires : tie.Need-refusal-of-requires
-refusal-of-requires c κs = search needs
-
-same-length : tie.Need-same-length
-same-length c = search needs
-
 returns : tie.Need-returns
 returns c =
     let said = c .before .before .before .read-file .ensures in
     (c .refusal-of .ensures ∙ ap refusalOf (said .0), rw (said .0) at (said .1))
 
 pub parvusek-read-basis-spec : {M : Type 1} → statement M
-parvusek-read-basis-spec =
-    tie.close (tie.spec read-file-requires refusal-of-requires same-length returns)
+parvusek-read-basis-spec = tie.close (tie.spec (search needs) (search needs) (search needs) returns)

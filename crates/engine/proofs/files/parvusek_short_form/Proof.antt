@@ -7,15 +7,6 @@ use Rattle.engine.specs.Enquiry.{refusalOf}
 use Rattle.engine.proofs.files.parvusek_short_form.Statement.{statement}
 use Rattle.engine.proofs.files.parvusek_short_form.Tie as tie
 
-short-form-requires : tie.Need-short-form-requires
-short-form-requires c κs = search needs
-
-refusal-of-requires : tie.Need-refusal-of-requires
-refusal-of-requires c κs = search needs
-
-same-length : tie.Need-same-length
-same-length c = search needs
-
 returns : tie.Need-returns
 returns c =
     let s = c .before .before .before .before .before .before .before in
@@ -25,5 +16,4 @@ returns c =
     (c .refusal-of .ensures ∙ ap refusalOf said, rw (said, same) at (call .ensures .1))
 
 pub parvusek-short-form-spec : {M : Type 1} → statement M
-parvusek-short-form-spec =
-    tie.close (tie.spec short-form-requires refusal-of-requires same-length returns)
+parvusek-short-form-spec = tie.close (tie.spec (search needs) (search needs) (search needs) returns)

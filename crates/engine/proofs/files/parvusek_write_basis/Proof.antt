@@ -5,20 +5,10 @@ use Rattle.engine.specs.Enquiry.{refusalOf}
 use Rattle.engine.proofs.files.parvusek_write_basis.Statement.{statement}
 use Rattle.engine.proofs.files.parvusek_write_basis.Tie as tie
 
-write-file-requires : tie.Need-write-file-requires
-write-file-requires c κs = search needs
-
-refusal-of-requires : tie.Need-refusal-of-requires
-refusal-of-requires c κs = search needs
-
-same-length : tie.Need-same-length
-same-length c = search needs
-
 returns : tie.Need-returns
 returns c =
     let said = c .before .before .before .write-file .ensures in
     (c .refusal-of .ensures ∙ ap refusalOf (said .0), rw (said .0) at (said .1))
 
 pub parvusek-write-basis-spec : {M : Type 1} → statement M
-parvusek-write-basis-spec =
-    tie.close (tie.spec write-file-requires refusal-of-requires same-length returns)
+parvusek-write-basis-spec = tie.close (tie.spec (search needs) (search needs) (search needs) returns)

@@ -4,11 +4,8 @@ use borrow.Author.Needs.{needs}
 use Rattle.engine.proofs.lifelines.lifeline_of_start.Statement.{statement}
 use Rattle.engine.proofs.lifelines.lifeline_of_start.Tie as tie
 
-refusal-of-requires : tie.Need-refusal-of-requires
-refusal-of-requires c κs = search needs
-
 returns : tie.Need-returns
 returns c = rw (c .refusal-of .ensures) refl
 
 pub lifeline-of-start-spec : {M : Type 1} → statement M
-lifeline-of-start-spec = tie.close (tie.spec refusal-of-requires returns)
+lifeline-of-start-spec = tie.close (tie.spec (search needs) returns)

@@ -3,15 +3,6 @@ use borrow.Author.Needs.{needs}
 use Rattle.engine.proofs.lifelines.lifeline_of_step.Statement.{statement}
 use Rattle.engine.proofs.lifelines.lifeline_of_step.Tie as tie
 
-enum-told : tie.Need-enum-told
-enum-told c = search needs
-
-enum-told-2 : tie.Need-enum-told-2
-enum-told-2 c = search needs
-
-enum-known-status : tie.Need-enum-known-status
-enum-known-status c = search needs
-
 returns : tie.Need-returns
 returns c = simp (c .enum-told .given .1)
 
@@ -22,5 +13,4 @@ returns-3 : tie.Need-returns-3
 returns-3 c = simp (c .before .status .given .1)
 
 pub lifeline-of-step-spec : {M : Type 1} → statement M
-lifeline-of-step-spec =
-    tie.close (tie.spec enum-told enum-told-2 enum-known-status returns returns-2 returns-3)
+lifeline-of-step-spec = tie.close (tie.spec (search needs) (search needs) (search needs) returns returns-2 returns-3)

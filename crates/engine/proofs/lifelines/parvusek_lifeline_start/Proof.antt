@@ -5,14 +5,8 @@ use Rattle.engine.specs.Lifelines.{lifelineOfStart}
 use Rattle.engine.proofs.lifelines.parvusek_lifeline_start.Statement.{statement}
 use Rattle.engine.proofs.lifelines.parvusek_lifeline_start.Tie as tie
 
-start-at-requires : tie.Need-start-at-requires
-start-at-requires c κs = search needs
-
-lifeline-of-start-requires : tie.Need-lifeline-of-start-requires
-lifeline-of-start-requires c κs = search needs
-
 returns : tie.Need-returns
 returns c = c .lifeline-of-start .ensures ∙ ap lifelineOfStart (c .before .start-at .ensures)
 
 pub parvusek-lifeline-start-spec : {M : Type 1} → statement M
-parvusek-lifeline-start-spec = tie.close (tie.spec start-at-requires lifeline-of-start-requires returns)
+parvusek-lifeline-start-spec = tie.close (tie.spec (search needs) (search needs) returns)

@@ -5,14 +5,8 @@ use Rattle.engine.specs.Lifelines.{lifelineOfStep}
 use Rattle.engine.proofs.lifelines.parvusek_lifeline_step.Statement.{statement}
 use Rattle.engine.proofs.lifelines.parvusek_lifeline_step.Tie as tie
 
-step-at-requires : tie.Need-step-at-requires
-step-at-requires c κs = search needs
-
-lifeline-of-step-requires : tie.Need-lifeline-of-step-requires
-lifeline-of-step-requires c κs = search needs
-
 returns : tie.Need-returns
 returns c = c .lifeline-of-step .ensures ∙ ap lifelineOfStep (c .before .step-at .ensures)
 
 pub parvusek-lifeline-step-spec : {M : Type 1} → statement M
-parvusek-lifeline-step-spec = tie.close (tie.spec step-at-requires lifeline-of-step-requires returns)
+parvusek-lifeline-step-spec = tie.close (tie.spec (search needs) (search needs) returns)

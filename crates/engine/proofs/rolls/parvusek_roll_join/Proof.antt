@@ -5,17 +5,8 @@ use Rattle.engine.specs.Enquiry.{answerOf}
 use Rattle.engine.proofs.rolls.parvusek_roll_join.Statement.{statement}
 use Rattle.engine.proofs.rolls.parvusek_roll_join.Tie as tie
 
-join-requires : tie.Need-join-requires
-join-requires c κs = search needs
-
-answer-of-requires : tie.Need-answer-of-requires
-answer-of-requires c κs = search needs
-
-same-length : tie.Need-same-length
-same-length c = search needs
-
 returns : tie.Need-returns
 returns c = let said = c .before .before .before .join .ensures in (c .answer-of .ensures ∙ ap answerOf (said .0), said .1)
 
 pub parvusek-roll-join-spec : {M : Type 1} → statement M
-parvusek-roll-join-spec = tie.close (tie.spec join-requires answer-of-requires same-length returns)
+parvusek-roll-join-spec = tie.close (tie.spec (search needs) (search needs) (search needs) returns)

@@ -5,17 +5,8 @@ use Rattle.engine.specs.Enquiry.{answerOf}
 use Rattle.engine.proofs.rolls.parvusek_roll_leave.Statement.{statement}
 use Rattle.engine.proofs.rolls.parvusek_roll_leave.Tie as tie
 
-leave-requires : tie.Need-leave-requires
-leave-requires c κs = search needs
-
-answer-of-requires : tie.Need-answer-of-requires
-answer-of-requires c κs = search needs
-
-same-length : tie.Need-same-length
-same-length c = search needs
-
 returns : tie.Need-returns
 returns c = let said = c .before .before .before .leave .ensures in (c .answer-of .ensures ∙ ap answerOf (said .0), said .1)
 
 pub parvusek-roll-leave-spec : {M : Type 1} → statement M
-parvusek-roll-leave-spec = tie.close (tie.spec leave-requires answer-of-requires same-length returns)
+parvusek-roll-leave-spec = tie.close (tie.spec (search needs) (search needs) (search needs) returns)

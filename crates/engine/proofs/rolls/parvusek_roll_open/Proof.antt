@@ -5,17 +5,8 @@ use Rattle.engine.specs.Enquiry.{refusalOf}
 use Rattle.engine.proofs.rolls.parvusek_roll_open.Statement.{statement}
 use Rattle.engine.proofs.rolls.parvusek_roll_open.Tie as tie
 
-open-roll-requires : tie.Need-open-roll-requires
-open-roll-requires c κs = search needs
-
-refusal-of-requires : tie.Need-refusal-of-requires
-refusal-of-requires c κs = search needs
-
-same-length : tie.Need-same-length
-same-length c = search needs
-
 returns : tie.Need-returns
 returns c = let said = c .before .before .before .open-roll .ensures in (c .refusal-of .ensures ∙ ap refusalOf (said .0), said .1)
 
 pub parvusek-roll-open-spec : {M : Type 1} → statement M
-parvusek-roll-open-spec = tie.close (tie.spec open-roll-requires refusal-of-requires same-length returns)
+parvusek-roll-open-spec = tie.close (tie.spec (search needs) (search needs) (search needs) returns)

@@ -5,14 +5,8 @@ use Rattle.engine.specs.Enquiry.{answerOf}
 use Rattle.engine.proofs.rolls.parvusek_roll_total.Statement.{statement}
 use Rattle.engine.proofs.rolls.parvusek_roll_total.Tie as tie
 
-total-requires : tie.Need-total-requires
-total-requires c κs = search needs
-
-answer-of-requires : tie.Need-answer-of-requires
-answer-of-requires c κs = search needs
-
 returns : tie.Need-returns
 returns c = c .answer-of .ensures ∙ ap answerOf (c .before .total .ensures)
 
 pub parvusek-roll-total-spec : {M : Type 1} → statement M
-parvusek-roll-total-spec = tie.close (tie.spec total-requires answer-of-requires returns)
+parvusek-roll-total-spec = tie.close (tie.spec (search needs) (search needs) returns)

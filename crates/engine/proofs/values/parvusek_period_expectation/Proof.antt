@@ -5,15 +5,8 @@ use Rattle.engine.specs.Enquiry.{answerOf}
 use Rattle.engine.proofs.values.parvusek_period_expectation.Statement.{statement}
 use Rattle.engine.proofs.values.parvusek_period_expectation.Tie as tie
 
-expectation-requires : tie.Need-expectation-requires
-expectation-requires c κs = search needs
-
-answer-of-requires : tie.Need-answer-of-requires
-answer-of-requires c κs = search needs
-
 returns : tie.Need-returns
 returns c = c .answer-of .ensures ∙ ap answerOf (c .before .expectation .ensures)
 
 pub parvusek-period-expectation-spec : {M : Type 1} → statement M
-parvusek-period-expectation-spec =
-    tie.close (tie.spec expectation-requires answer-of-requires returns)
+parvusek-period-expectation-spec = tie.close (tie.spec (search needs) (search needs) returns)

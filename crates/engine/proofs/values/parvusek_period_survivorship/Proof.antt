@@ -5,15 +5,8 @@ use Rattle.engine.specs.Enquiry.{answerOf}
 use Rattle.engine.proofs.values.parvusek_period_survivorship.Statement.{statement}
 use Rattle.engine.proofs.values.parvusek_period_survivorship.Tie as tie
 
-survivorship-requires : tie.Need-survivorship-requires
-survivorship-requires c κs = search needs
-
-answer-of-requires : tie.Need-answer-of-requires
-answer-of-requires c κs = search needs
-
 returns : tie.Need-returns
 returns c = c .answer-of .ensures ∙ ap answerOf (c .before .survivorship .ensures)
 
 pub parvusek-period-survivorship-spec : {M : Type 1} → statement M
-parvusek-period-survivorship-spec =
-    tie.close (tie.spec survivorship-requires answer-of-requires returns)
+parvusek-period-survivorship-spec = tie.close (tie.spec (search needs) (search needs) returns)

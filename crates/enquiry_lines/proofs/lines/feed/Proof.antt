@@ -39,12 +39,6 @@ counted l = let s = l .before .before .before .before .before .before .before .a
     let size = length-take-le (l .loop .i) (s .part .now) (l .loop .inv .within) in
     omega (arith, few, size, l .loop .inv .left .complete)
 
-shared-slice-read-b : tie.Need-shared-slice-read-b Inv-loop μ-loop
-shared-slice-read-b c = search needs
-
-add-i : tie.Need-add-i Inv-loop μ-loop
-add-i c = search needs
-
 add-put-line : tie.Need-add-put-line Inv-loop μ-loop
 add-put-line c = let l = c .before .before .before .before in
     let s = l .before .before .before .before .before .before .before in
@@ -67,9 +61,6 @@ add-complete c = let l = c .before .before .before .before .before .before .befo
     let s = l .before .before .before .before .before .before .before in
     omega (arith, counted l, c .before .before .before .before .before .before .before .loop-test .taken, s .pre .1 .1 .1)
 
-loop-less : tie.Need-loop-less Inv-loop μ-loop
-loop-less c = search needs
-
 loop-again : tie.Need-loop-again Inv-loop μ-loop
 loop-again c = let p = c .before .before in
     let t = p .before .before .before in
@@ -81,9 +72,6 @@ loop-again c = let p = c .before .before in
     let reply = put-ended b _ (kept held) _ _ _ (t .if1 .taken) (p .put-line .ensures .0) in
     byte-turns b (s .part .now) (s .out .now) (s .from) (s .s) (l .loop .out) held (l .loop .at) (l .loop .i) (l .loop .inv) (t .before .before .loop-test .taken)
     (p .put-line .last .1 .1 .1 .0) _ (p .put-line .result) left reply (p .put-line .ensures .1) (sound-empty (l .loop .complete + 1))
-
-loop-less-2 : tie.Need-loop-less-2 Inv-loop μ-loop
-loop-less-2 c = search needs
 
 loop-again-2 : tie.Need-loop-again-2 Inv-loop μ-loop
 loop-again-2 c = let e = c .before in
@@ -99,12 +87,6 @@ loop-again-2 c = let e = c .before in
 
 array-write-bytes : tie.Need-array-write-bytes Inv-loop μ-loop
 array-write-bytes c = omega (arith, c .if2 .left)
-
-add-len : tie.Need-add-len Inv-loop μ-loop
-add-len c = search needs
-
-loop-less-3 : tie.Need-loop-less-3 Inv-loop μ-loop
-loop-less-3 c = search needs
 
 loop-again-3 : tie.Need-loop-again-3 Inv-loop μ-loop
 loop-again-3 c = let e = c .before in
@@ -133,24 +115,6 @@ returns c = let l = c .before in
 pub feed-spec : {M : Type 1} → statement M
 feed-spec =
     tie.close
-    (tie.spec
-    Inv-loop
-    μ-loop
-    loop-holds
-    shared-slice-read-b
-    add-i
-    add-put-line
-    array-share-prefix-bytes
-    slice-aggregate-put-line
-    put-line-requires
-    add-complete
-    loop-less
-    loop-again
-    loop-less-2
-    loop-again-2
-    array-write-bytes
-    add-len
-    loop-less-3
-    loop-again-3
-    same-length
-    returns)
+    (tie.spec Inv-loop μ-loop loop-holds (search needs) (search needs) add-put-line array-share-prefix-bytes
+    slice-aggregate-put-line put-line-requires add-complete (search needs) loop-again (search needs) loop-again-2
+    array-write-bytes (search needs) (search needs) loop-again-3 same-length returns)

@@ -20,22 +20,10 @@ returns c = let s = c .before .before .before .before .before in
     let none = eq-eqb (length (kept (s .args .s))) 0 (e ∙ c .if1 .taken) in
     rw (none, no-replies (basisWith (s .args .run .now) (s .args .history .now)) (s .args .s .complete + 1)) (nothing (s .args .out .now) (s .args .from) (omega arith))
 
-add-put-line : tie.Need-add-put-line
-add-put-line c = search needs
-
-array-share-prefix-bytes : tie.Need-array-share-prefix-bytes
-array-share-prefix-bytes c = search needs
-
 slice-aggregate-put-line : tie.Need-slice-aggregate-put-line
 slice-aggregate-put-line c = let s = c .before .before .before .before .before .before .before .before .before in
     let h = s .pre .1 .1 .0 in
     sym (length-take-le (s .args .s .len) (s .args .s .bytes) (omega (arith, h .short, h .room)))
-
-put-line-requires : tie.Need-put-line-requires
-put-line-requires c κs = search needs
-
-same-length : tie.Need-same-length
-same-length c = search needs
 
 returns-2 : tie.Need-returns-2
 returns-2 c = let p = c .before .before in
@@ -49,11 +37,5 @@ returns-2 c = let p = c .before .before in
 pub finish-spec : {M : Type 1} → statement M
 finish-spec =
     tie.close
-    (tie.spec
-    returns
-    add-put-line
-    array-share-prefix-bytes
-    slice-aggregate-put-line
-    put-line-requires
-    same-length
+    (tie.spec returns (search needs) (search needs) slice-aggregate-put-line (λ c κs. search needs) (search needs)
     returns-2)

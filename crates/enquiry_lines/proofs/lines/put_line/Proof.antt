@@ -7,27 +7,6 @@ use borrow.Author.Needs.{needs}
 use Rattle.enquiry_lines.proofs.lines.put_line.Statement.{statement}
 use Rattle.enquiry_lines.proofs.lines.put_line.Tie as tie
 
-parse-line-requires : tie.Need-parse-line-requires
-parse-line-requires c κs = search needs
-
-enum-known-q : tie.Need-enum-known-q
-enum-known-q c = search needs
-
-swept-point-requires : tie.Need-swept-point-requires
-swept-point-requires c κs = search needs
-
-put-reply-requires : tie.Need-put-reply-requires
-put-reply-requires c κs = search needs
-
-enum-told : tie.Need-enum-told
-enum-told c = search needs
-
-put-refusal-requires : tie.Need-put-refusal-requires
-put-refusal-requires c κs = search needs
-
-same-length : tie.Need-same-length
-same-length c = search needs
-
 returns : tie.Need-returns
 returns c = let q = c .before .before .before .before .before .before in
     let read = q .before .before in
@@ -35,9 +14,6 @@ returns c = let q = c .before .before .before .before .before .before in
     let asked = sym (read .parse-line .ensures (s .number)) ∙ ap (lineMeaning (s .number)) (q .q .given .1) in
     let e = ap (replyTo (basisWith (s .run .now) (s .history .now))) asked in
     rw (e, ← c .before .before .before .before .swept-point .ensures) (c .before .before .put-reply .ensures)
-
-same-length-2 : tie.Need-same-length-2
-same-length-2 c = search needs
 
 returns-2 : tie.Need-returns-2
 returns-2 c = let x = c .before .before .before .before in
@@ -50,14 +26,5 @@ returns-2 c = let x = c .before .before .before .before in
 pub put-line-spec : {M : Type 1} → statement M
 put-line-spec =
     tie.close
-    (tie.spec
-    parse-line-requires
-    enum-known-q
-    swept-point-requires
-    put-reply-requires
-    enum-told
-    put-refusal-requires
-    same-length
-    returns
-    same-length-2
-    returns-2)
+    (tie.spec (search needs) (search needs) (λ c κs. search needs) (search needs) (search needs) (search needs)
+    (search needs) returns (search needs) returns-2)

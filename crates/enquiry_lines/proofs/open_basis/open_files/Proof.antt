@@ -16,27 +16,6 @@ use Rattle.enquiry_lines.proofs.open_basis.open_files.Tie as tie
 header : length headerLine ≡ 69
 header = refl
 
-read-files-requires : tie.Need-read-files-requires
-read-files-requires c κs = search needs
-
-enum-told : tie.Need-enum-told
-enum-told c = search needs
-
-put-header-requires : tie.Need-put-header-requires
-put-header-requires c κs = search needs
-
-enum-known-x : tie.Need-enum-known-x
-enum-known-x c = search needs
-
-put-refusal-requires : tie.Need-put-refusal-requires
-put-refusal-requires c κs = search needs
-
-same-length : tie.Need-same-length
-same-length c = search needs
-
-same-length-2 : tie.Need-same-length-2
-same-length-2 c = search needs
-
 returns : tie.Need-returns
 returns c = let told = c .before .before .before .before in
     let read = told .before .before .before .before in
@@ -45,12 +24,6 @@ returns c = let told = c .before .before .before .before in
     let a = read .before .before .before .before .before .before .args in
     let run = f .1 ∙ ap (λ (k : Finding). written k (runIn (a .file .now)) (a .run .now)) (ap finding (told .enum-told .given .1)) in
     (is, (run, (being (ap (λ k. printed k []) is) refl (c .before .before .put-header .ensures), omega (arith, c .before .before .put-header .ensures .next, header))))
-
-same-length-3 : tie.Need-same-length-3
-same-length-3 c = search needs
-
-same-length-4 : tie.Need-same-length-4
-same-length-4 c = search needs
 
 returns-2 : tie.Need-returns-2
 returns-2 c = let told = c .before .before .before .before .before in
@@ -64,15 +37,5 @@ returns-2 c = let told = c .before .before .before .before .before in
 pub open-files-spec : {M : Type 1} → statement M
 open-files-spec =
     tie.close
-    (tie.spec
-    read-files-requires
-    enum-told
-    put-header-requires
-    enum-known-x
-    put-refusal-requires
-    same-length
-    same-length-2
-    returns
-    same-length-3
-    same-length-4
-    returns-2)
+    (tie.spec (search needs) (search needs) (search needs) (search needs) (search needs) (search needs) (search needs)
+    returns (search needs) (search needs) returns-2)

@@ -35,47 +35,17 @@ judged h =
     h .check-history .ensures ∙ ap (λ (r : List ℕ). historyCheck (basisOf r) (a .history .now)) (holds k passed)
     ∙ sym (first-passed (fileCheck (a .file .now)) _ (decides k ∙ passed))
 
-slice-aggregate-read-file : tie.Need-slice-aggregate-read-file
-slice-aggregate-read-file c = search needs
-
-read-file-requires : tie.Need-read-file-requires
-read-file-requires c κs = search needs
-
-enum-told : tie.Need-enum-told
-enum-told c = search needs
-
 returns : tie.Need-returns
 returns c =
     let k = c .before .before .before in
     let told = ap finding (c .enum-told .given .1) in
     (told ∙ sym (first-refused _ _ _ (decides k ∙ told)), sym (kept (finding (k .read-file .result)) _ _ _ told))
 
-enum-told-2 : tie.Need-enum-told-2
-enum-told-2 c = search needs
-
-slice-aggregate-check-history : tie.Need-slice-aggregate-check-history
-slice-aggregate-check-history c = search needs
-
 check-history-requires : tie.Need-check-history-requires
 check-history-requires c κs =
     let k = c .before .before .before .before in
     let passed = ap finding (c .before .enum-told2 .given .1) in
     rw (holds k passed) (run-is-accepted _ (decides k ∙ passed))
-
-enum-told-3 : tie.Need-enum-told-3
-enum-told-3 c = search needs
-
-slice-aggregate-put : tie.Need-slice-aggregate-put
-slice-aggregate-put c = search needs
-
-put-requires : tie.Need-put-requires
-put-requires c κs = search needs
-
-enum-told-4 : tie.Need-enum-told-4
-enum-told-4 c = search needs
-
-same-length : tie.Need-same-length
-same-length c = search needs
 
 returns-2 : tie.Need-returns-2
 returns-2 c =
@@ -94,18 +64,6 @@ returns-3 c =
 pub read-files-spec : {M : Type 1} → statement M
 read-files-spec =
     tie.close
-    (tie.spec
-    slice-aggregate-read-file
-    read-file-requires
-    enum-told
-    returns
-    enum-told-2
-    slice-aggregate-check-history
-    check-history-requires
-    enum-told-3
-    slice-aggregate-put
-    put-requires
-    enum-told-4
-    same-length
-    returns-2
+    (tie.spec (search needs) (search needs) (search needs) returns (search needs) (search needs)
+    check-history-requires (search needs) (search needs) (search needs) (search needs) (search needs) returns-2
     returns-3)

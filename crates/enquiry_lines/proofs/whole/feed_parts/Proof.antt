@@ -21,9 +21,6 @@ Inv-loop run history table text lengths out₀ from pending₀ at₀ i₀ k₀ o
 abbrev μ-loop : tie.MeasureT-loop
 μ-loop run history table text lengths out₀ from pending₀ at₀ i₀ k₀ out pending at i k = length lengths - k
 
-begin-requires : tie.Need-begin-requires Inv-loop μ-loop
-begin-requires c κs = search needs
-
 loop-holds : tie.Need-loop-holds Inv-loop μ-loop
 loop-holds c = let s = c .before .before .before .before .before .before .before in
     rw (c .begin .ensures ∙ nothing-read)
@@ -56,26 +53,8 @@ module _ (l : tie.At-loop Inv-loop μ-loop) (n m : ℕ) (e : m ≡ n) (le : l .l
 mul-least : tie.Need-mul-least Inv-loop μ-loop
 mul-least c = omega (arith, c .before .before .before .before .before .before .before .before .before .pre .1 .1 .1)
 
-shared-slice-read-least : tie.Need-shared-slice-read-least Inv-loop μ-loop
-shared-slice-read-least c = search needs
-
-sub-least : tie.Need-sub-least Inv-loop μ-loop
-sub-least c = search needs
-
-least-requires : tie.Need-least-requires Inv-loop μ-loop
-least-requires c κs = search needs
-
 add-end : tie.Need-add-end Inv-loop μ-loop
 add-end c = omega (arith, c .least .ensures .1)
-
-sub-feed : tie.Need-sub-feed Inv-loop μ-loop
-sub-feed c = search needs
-
-part-feed-start : tie.Need-part-feed-start Inv-loop μ-loop
-part-feed-start c = search needs
-
-part-feed-end : tie.Need-part-feed-end Inv-loop μ-loop
-part-feed-end c = search needs
 
 feed-requires : tie.Need-feed-requires Inv-loop μ-loop
 feed-requires c κs = let l = c .before .before .before .before .before in
@@ -87,9 +66,6 @@ feed-requires c κs = let l = c .before .before .before .before .before in
 add-k : tie.Need-add-k Inv-loop μ-loop
 add-k c = let test = c .before .before .before .before .before .before .before .before in
     omega (arith, test .loop-test .taken, test .before .before .before .before .before .before .before .before .before .pre .1 .1 .1)
-
-loop-less : tie.Need-loop-less Inv-loop μ-loop
-loop-less c = search needs
 
 loop-again : tie.Need-loop-again Inv-loop μ-loop
 loop-again c = let f = c .before .before .before in
@@ -104,12 +80,6 @@ loop-again c = let f = c .before .before .before in
 
 sub-feed-2 : tie.Need-sub-feed-2 Inv-loop μ-loop
 sub-feed-2 c = c .before .loop .inv .within
-
-part-feed-start-2 : tie.Need-part-feed-start-2 Inv-loop μ-loop
-part-feed-start-2 c = search needs
-
-part-feed-end-2 : tie.Need-part-feed-end-2 Inv-loop μ-loop
-part-feed-end-2 c = search needs
 
 feed-requires-2 : tie.Need-feed-requires-2 Inv-loop μ-loop
 feed-requires-2 c κs = let l = c .before .before .before in
@@ -142,26 +112,6 @@ returns c = let f = c .before .before in
 pub feed-parts-spec : {M : Type 1} → statement M
 feed-parts-spec =
     tie.close
-    (tie.spec
-    Inv-loop
-    μ-loop
-    begin-requires
-    loop-holds
-    mul-least
-    shared-slice-read-least
-    sub-least
-    least-requires
-    add-end
-    sub-feed
-    part-feed-start
-    part-feed-end
-    feed-requires
-    add-k
-    loop-less
-    loop-again
-    sub-feed-2
-    part-feed-start-2
-    part-feed-end-2
-    feed-requires-2
-    same-length
-    returns)
+    (tie.spec Inv-loop μ-loop (search needs) loop-holds mul-least (search needs) (search needs) (search needs) add-end
+    (search needs) (search needs) (search needs) feed-requires add-k (search needs) loop-again sub-feed-2
+    (search needs) (search needs) feed-requires-2 same-length returns)

@@ -35,43 +35,16 @@ accepted o h =
     let a = o .before .before .before .before .before .before .before .before .args in
     rw (run-is o h) (opened-with (a .file .now) (a .history .now) (sym (o .open-files .ensures .0) ∙ h))
 
-slice-aggregate-open-files : tie.Need-slice-aggregate-open-files
-slice-aggregate-open-files c = search needs
-
-open-files-requires : tie.Need-open-files-requires
-open-files-requires c κs = search needs
-
-enum-told : tie.Need-enum-told
-enum-told c = search needs
-
-enum-told-2 : tie.Need-enum-told-2
-enum-told-2 c = search needs
-
-same-length : tie.Need-same-length
-same-length c = search needs
-
 returns : tie.Need-returns
 returns c = let o = c .before .before .before .before .before in
     let a = o .before .before .before .before .before .before .before .before .args in
     let e = found (o .open-files .ensures .0) (c .enum-told2 .given .1) in
     being (refused-output (a .file .now) (a .history .now) (a .text .now) _ e) refl (o .open-files .ensures .1 .1 .0)
 
-slice-aggregate-fill-table : tie.Need-slice-aggregate-fill-table
-slice-aggregate-fill-table c = search needs
-
-slice-aggregate-fill-table-2 : tie.Need-slice-aggregate-fill-table-2
-slice-aggregate-fill-table-2 c = search needs
-
 fill-table-requires : tie.Need-fill-table-requires
 fill-table-requires c κs = let t = c .before .before in
     let o = t .before .before .before .before .before in
     (accepted o (ap finding (t .enum-told .given .1)), length-replicate {A = ℕ} tableLength 0)
-
-slice-aggregate-feed-parts : tie.Need-slice-aggregate-feed-parts
-slice-aggregate-feed-parts c = search needs
-
-slice-aggregate-feed-parts-2 : tie.Need-slice-aggregate-feed-parts-2
-slice-aggregate-feed-parts-2 c = search needs
 
 feed-parts-requires : tie.Need-feed-parts-requires
 feed-parts-requires c κs = let w = c .before .before .before .before in
@@ -80,12 +53,6 @@ feed-parts-requires c κs = let w = c .before .before .before .before in
     let s = o .before .before .before .before .before .before .before .before in
     let opened = o .open-files .ensures .1 .1 in
     ((accepted o (ap finding (t .enum-told .given .1)), w .fill-table .ensures), (omega (arith, opened .0 .same, opened .1, s .pre .0), s .pre .1))
-
-slice-aggregate-finish : tie.Need-slice-aggregate-finish
-slice-aggregate-finish c = search needs
-
-slice-aggregate-finish-2 : tie.Need-slice-aggregate-finish-2
-slice-aggregate-finish-2 c = search needs
 
 finish-requires : tie.Need-finish-requires
 finish-requires c κs = let f = c .before .before .before .before .before in
@@ -101,9 +68,6 @@ finish-requires c κs = let f = c .before .before .before .before .before in
         (held-sound _ _ _ (e .0), omega (arith, held-complete _ _ _ (e .0), ended-few [] (s .args .text .now), s .pre .1 .0)),
       ),
     )
-
-same-length-2 : tie.Need-same-length-2
-same-length-2 c = search needs
 
 returns-2 : tie.Need-returns-2
 returns-2 c = let g = c .before .before in
@@ -124,21 +88,6 @@ returns-2 c = let g = c .before .before in
 pub output-spec : {M : Type 1} → statement M
 output-spec =
     tie.close
-    (tie.spec
-    slice-aggregate-open-files
-    open-files-requires
-    enum-told
-    enum-told-2
-    same-length
-    returns
-    slice-aggregate-fill-table
-    slice-aggregate-fill-table-2
-    fill-table-requires
-    slice-aggregate-feed-parts
-    slice-aggregate-feed-parts-2
-    feed-parts-requires
-    slice-aggregate-finish
-    slice-aggregate-finish-2
-    finish-requires
-    same-length-2
-    returns-2)
+    (tie.spec (search needs) (search needs) (search needs) (search needs) (search needs) returns (search needs)
+    (search needs) fill-table-requires (search needs) (search needs) feed-parts-requires (search needs) (search needs)
+    finish-requires (search needs) returns-2)

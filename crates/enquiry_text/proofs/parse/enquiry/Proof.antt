@@ -3,24 +3,6 @@ use borrow.Author.Needs.{needs}
 use Rattle.enquiry_text.proofs.parse.enquiry.Statement.{statement}
 use Rattle.enquiry_text.proofs.parse.enquiry.Tie as tie
 
-enum-known-a : tie.Need-enum-known-a
-enum-known-a c = search needs
-
-enum-known-d : tie.Need-enum-known-d
-enum-known-d c = search needs
-
-enum-known-y : tie.Need-enum-known-y
-enum-known-y c = search needs
-
-enum-told : tie.Need-enum-told
-enum-told c = search needs
-
-enum-told-2 : tie.Need-enum-told-2
-enum-told-2 c = search needs
-
-enum-told-3 : tie.Need-enum-told-3
-enum-told-3 c = search needs
-
 returns : tie.Need-returns
 returns c = let d = c .before .before .before .before in
     λ number. simp (d .before .before .before .a .given .1, d .d .given .1, c .before .y .given .1)
@@ -37,14 +19,5 @@ returns-4 c = λ number. search needs
 pub enquiry-spec : {M : Type 1} → statement M
 enquiry-spec =
     tie.close
-    (tie.spec
-    enum-known-a
-    enum-known-d
-    enum-known-y
-    enum-told
-    enum-told-2
-    enum-told-3
-    returns
-    returns-2
-    returns-3
-    returns-4)
+    (tie.spec (search needs) (search needs) (search needs) (search needs) (search needs) (search needs) returns
+    returns-2 returns-3 returns-4)

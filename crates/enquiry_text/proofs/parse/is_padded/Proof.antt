@@ -7,11 +7,8 @@ use Rattle.enquiry_text.proofs.parse.is_padded.Tie as tie
 returns : tie.Need-returns
 returns c = simp (lt-ltb _ _ (c .if1 .taken))
 
-shared-slice-read-result : tie.Need-shared-slice-read-result
-shared-slice-read-result c = search needs
-
 returns-2 : tie.Need-returns-2
 returns-2 c = simp (le-ltb _ _ (c .before .if1 .left))
 
 pub is-padded-spec : {M : Type 1} → statement M
-is-padded-spec = tie.close (tie.spec returns shared-slice-read-result returns-2)
+is-padded-spec = tie.close (tie.spec returns (search needs) returns-2)

@@ -14,17 +14,11 @@ returns-2 : tie.Need-returns-2
 unfolding numberOf
 returns-2 c = simp (ne-eqb _ _ (c .before .if1 .left), lt-ltb _ _ (c .if2 .taken))
 
-is-padded-requires : tie.Need-is-padded-requires
-is-padded-requires c κs = search needs
-
 returns-3 : tie.Need-returns-3
 unfolding numberOf
 returns-3 c = let e = sym (c .before .is-padded .ensures) ∙ c .if3 .taken in
     let t = c .before .before in
     simp (ne-eqb _ _ (t .before .if1 .left), le-ltb _ _ (t .if2 .left), e)
-
-value-of-requires : tie.Need-value-of-requires
-value-of-requires c κs = search needs
 
 returns-4 : tie.Need-returns-4
 unfolding numberOf
@@ -33,5 +27,4 @@ returns-4 c = let e = sym (c .before .before .is-padded .ensures) ∙ c .before 
     simp (ne-eqb _ _ (t .before .if1 .left), le-ltb _ _ (t .if2 .left), e) (c .value-of .ensures)
 
 pub number-spec : {M : Type 1} → statement M
-number-spec =
-    tie.close (tie.spec returns returns-2 is-padded-requires returns-3 value-of-requires returns-4)
+number-spec = tie.close (tie.spec returns returns-2 (search needs) returns-3 (search needs) returns-4)

@@ -21,12 +21,6 @@ loop-holds c = (omega arith, omega arith, refl)
 returns : tie.Need-returns Inv-loop μ-loop
 returns c = let l = c .before .before in let e = places-small (20 - l .loop .k) (l .loop .rest) (c .if1 .taken) in (omega arith, omega arith)
 
-add-k : tie.Need-add-k Inv-loop μ-loop
-add-k c = search needs
-
-loop-less : tie.Need-loop-less Inv-loop μ-loop
-loop-less c = search needs
-
 loop-again : tie.Need-loop-again Inv-loop μ-loop
 loop-again c = let l = c .before .before in
     let e = places-turn (l .loop .k) (l .loop .rest) (omega arith) (omega arith) in
@@ -37,4 +31,5 @@ returns-2 c = let l = c .before in let e = places-end (l .loop .k) (l .loop .res
 
 pub places-spec : {M : Type 1} → statement M
 places-spec =
-    tie.close (tie.spec Inv-loop μ-loop loop-holds returns add-k loop-less loop-again returns-2)
+    tie.close
+    (tie.spec Inv-loop μ-loop loop-holds returns (search needs) (search needs) loop-again returns-2)

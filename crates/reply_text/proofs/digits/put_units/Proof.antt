@@ -5,21 +5,6 @@ use borrow.Author.Needs.{needs}
 use Rattle.reply_text.proofs.digits.put_units.Statement.{statement}
 use Rattle.reply_text.proofs.digits.put_units.Tie as tie
 
-put-number-requires : tie.Need-put-number-requires
-put-number-requires c κs = search needs
-
-put-digits-requires : tie.Need-put-digits-requires
-put-digits-requires c κs = search needs
-
-add-out : tie.Need-add-out
-add-out c = search needs
-
-slice-write-out : tie.Need-slice-write-out
-slice-write-out c = search needs
-
-add-result : tie.Need-add-result
-add-result c = search needs
-
 same-length : tie.Need-same-length
 same-length c = let s = c .before .before .before .before .before .before .before .before .before .args in
     let p = c .before .before .before .before .before .before .put-number in
@@ -35,11 +20,4 @@ returns c = let s = c .before .before .before .before .before .before .before .b
 pub put-units-spec : {M : Type 1} → statement M
 put-units-spec =
     tie.close
-    (tie.spec
-    put-number-requires
-    put-digits-requires
-    add-out
-    slice-write-out
-    add-result
-    same-length
-    returns)
+    (tie.spec (search needs) (search needs) (search needs) (search needs) (search needs) same-length returns)

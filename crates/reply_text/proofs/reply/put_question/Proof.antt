@@ -8,27 +8,6 @@ use borrow.Author.Needs.{needs}
 use Rattle.reply_text.proofs.reply.put_question.Statement.{statement}
 use Rattle.reply_text.proofs.reply.put_question.Tie as tie
 
-cast-put-number : tie.Need-cast-put-number
-cast-put-number c = search needs
-
-put-number-requires : tie.Need-put-number-requires
-put-number-requires c κs = search needs
-
-cast-put-number-2 : tie.Need-cast-put-number-2
-cast-put-number-2 c = search needs
-
-put-number-requires-2 : tie.Need-put-number-requires-2
-put-number-requires-2 c κs = search needs
-
-cast-put-number-3 : tie.Need-cast-put-number-3
-cast-put-number-3 c = search needs
-
-put-number-requires-3 : tie.Need-put-number-requires-3
-put-number-requires-3 c κs = search needs
-
-same-length : tie.Need-same-length
-same-length c = search needs
-
 returns : tie.Need-returns
 unfolding questionText
 returns c = let c3 = c .before .before in
@@ -39,12 +18,5 @@ returns c = let c3 = c .before .before in
 pub put-question-spec : {M : Type 1} → statement M
 put-question-spec =
     tie.close
-    (tie.spec
-    cast-put-number
-    put-number-requires
-    cast-put-number-2
-    put-number-requires-2
-    cast-put-number-3
-    put-number-requires-3
-    same-length
+    (tie.spec (search needs) (search needs) (search needs) (search needs) (search needs) (search needs) (search needs)
     returns)

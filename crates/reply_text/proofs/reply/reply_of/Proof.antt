@@ -5,15 +5,9 @@ use borrow.Author.Needs.{needs}
 use Rattle.reply_text.proofs.reply.reply_of.Statement.{statement}
 use Rattle.reply_text.proofs.reply.reply_of.Tie as tie
 
-slice-aggregate-put-reply : tie.Need-slice-aggregate-put-reply
-slice-aggregate-put-reply c = search needs
-
-put-reply-requires : tie.Need-put-reply-requires
-put-reply-requires c κs = search needs
-
 returns : tie.Need-returns
 unfolding replyText
 returns c = in-zeros 192 (c .before .put-reply .ensures .0)
 
 pub reply-of-spec : {M : Type 1} → statement M
-reply-of-spec = tie.close (tie.spec slice-aggregate-put-reply put-reply-requires returns)
+reply-of-spec = tie.close (tie.spec (search needs) (search needs) returns)
