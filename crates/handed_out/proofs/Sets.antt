@@ -9,7 +9,7 @@ use lib.IntN.{ℤ, pos, natAbs}
 use lib.ListN.{length, getD}
 use Rattle.basis.specs.Basis.{Basis, ratedFrom}
 use Rattle.outcome.specs.Outcome.{passed, Outcome, value, refused}
-use Rattle.outcome.proofs.Outcome.{both-passed, checked-value, came}
+use Rattle.outcome.proofs.Outcome.{both-passed, checked-value}
 use Rattle.lent.specs.Lent.{countCheck}
 use Rattle.history.specs.History.{basisWith, runAndHistoryCheck}
 use Rattle.survivorship.specs.declared.Kind.{Kind}

@@ -5,10 +5,9 @@ use mathlib.Core.Bool.{false}
 use mathlib.Core.List.{List, _++_}
 use Prim.Native.Nat.{ℕ}
 use lib.IntN.{ℤ}
-use Rattle.outcome.specs.declared.Refusal.{Refusal}
 use Rattle.basis.specs.Basis.{Basis, ratedFrom}
 use Rattle.outcome.specs.Outcome.{Finding, passed, Outcome, value, refused, checked}
-use Rattle.outcome.specs.Refusals.{numbers, recordNumbers, isListed, Listed, RefusesBy, RefusedBy}
+use Rattle.outcome.specs.Refusals.{numbers, recordNumbers, isListed, RefusesBy, RefusedBy}
 use Rattle.run_check.specs.Run.{runCheck}
 use Rattle.history.specs.History.{basisWith, runAndHistoryCheck}
 use Rattle.projection.specs.Projection.{factorOf, rateOf}
