@@ -2,7 +2,6 @@ pub mod Tests
 pub mod Locals
 pub mod Statements
 pub mod Calls
-pub mod Passing
 pub mod Params
 pub mod Meets
 pub mod Counting

@@ -80,7 +80,7 @@ module _ {M : Type 1} (𝓤 : URA M) (H : Heap 𝓤) (A : Atoms 𝓤) where
   apart (e ∷ E) [] Γ Δ = apart E [] (‵ (froom (e .0) (e .1) 0) ∷ ‵ (fdies (e .0) (e .1)) ∷ Γ) Δ
   apart (e ∷ E) (c ∷ cs) Γ Δ = apart E cs (‵ (cell (e .0) (e .1) c) ∷ ‵ (fdies (e .0) (e .1)) ∷ Γ) Δ
 
-  swap : (P Q R : SProp 𝓤) → ent 𝓤 (sep 𝓤 P (sep 𝓤 Q R)) (sep 𝓤 Q (sep 𝓤 P R))
+  pub swap : (P Q R : SProp 𝓤) → ent 𝓤 (sep 𝓤 P (sep 𝓤 Q R)) (sep 𝓤 Q (sep 𝓤 P R))
   swap P Q R = via 𝓤 (sep 𝓤 (sep 𝓤 P Q) R) (assoc′ 𝓤 P Q R) (via 𝓤 (sep 𝓤 (sep 𝓤 Q P) R) (monoL 𝓤 R (comm∗ 𝓤 P Q)) (assoc∗ 𝓤 Q P R))
 
   turned : (Δ Γ : List (Item 𝓤)) → ent 𝓤 (⋆ 𝓤 H A (Δ ++ Γ)) (⋆ 𝓤 H A (Γ ++ Δ))

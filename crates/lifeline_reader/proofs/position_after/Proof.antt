@@ -48,7 +48,7 @@ use Rattle.walk.proofs.Statements.{number-typed, spot, arg, field, sets, resets
 use Rattle.walk.proofs.Tests.{tests}
 use Rattle.walk.proofs.Counting.{Upto, Nearer, nearer-wf, next, next-nearer}
 use Rattle.walk.proofs.Params.{Param, lent, number, slots, stays, spells, all-told, all-go, all-lawful}
-use Rattle.walk.proofs.Passing.{tokens, Shared, owned, passes, field-owned, calls-met}
+use Rattle.walk.proofs.Calls.{tokens, Shared, owned, passes, field-owned, calls-met}
 use Rattle.walk.proofs.Meets.{meets-by}
 use Rattle.lifeline_reader.proofs.Lifeline as L
 use Rattle.lifeline_reader.proofs.Lifeline.Laws as L′
