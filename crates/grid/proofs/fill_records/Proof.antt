@@ -1,7 +1,7 @@
 -- `grid::fill_records` meets its contract: a walk of its MIR, by hand, with a loop in it.
 -- The loop's invariant, at i: the list has its first i records answered, the borrow is shut, and every local of a turn is empty. A turn opens the borrow,
--- takes record i out of the row, calls `answered` on a copy, stores what it returned, and shuts the borrow at the list with one record more.
--- All that the proof knows of `answered` is that it meets its contract; that the run is accepted with its history, and that the table is that of the basis,
+-- takes record i out of the row, calls `swept_record` on a copy, stores what it returned, and shuts the borrow at the list with one record more.
+-- All that the proof knows of `swept_record` is that it meets its contract; that the run is accepted with its history, and that the table is that of the basis,
 -- follow from there being a turn. Assumes nothing.
 use Rattle.walk.proofs.Words.{_≡_, refl, sym, ap, subst, _∙_, ℕ, _≤_, _<_, _+_, _*_, _^_, zero-le, List, [], _∷_, _++_, lit<, Holds, ltb, ltb→lt, nltb→le}
 use Rattle.walk.proofs.Words.{length, getD, set, length-set, URA, fullShare, Ty, Fn, named, imm, mut, w8, w64, tyInt, tyUnit, tyRef, w32, tyBool, tyPtr, Val}
@@ -30,10 +30,10 @@ use Rattle.grid.specs.Grid.{answers}
 use Rattle.grid.proofs.Filled.{answers-none, answers-length, answers-set}
 use Rattle.grid_record.proofs.Point as P
 use Rattle.grid_record.proofs.Point.Laws as P′
-use Rattle.swept_points.proofs.points.answered as answered
-use Rattle.swept_points.proofs.points.answered.Symbol as answered-def
-use Rattle.swept_points.proofs.points.answered.Symbol.{name as #swept-points·points·answered}
-use Rattle.swept_points.proofs.points.answered.Met as answered-thm
+use Rattle.swept_points.proofs.points.swept_record as swept
+use Rattle.swept_points.proofs.points.swept_record.Symbol as swept-def
+use Rattle.swept_points.proofs.points.swept_record.Symbol.{name as #swept-points·points·swept-record}
+use Rattle.swept_points.proofs.points.swept_record.Met as swept-thm
 use Rattle.grid.proofs.fill_records.Key.{name as #grid·fill-records}
 use Rattle.grid.proofs.fill_records as fill
 use Rattle.grid.proofs.fill_records.Statement as stated
@@ -77,8 +77,8 @@ abbrev point-val : Point → Val
 point-val p = LL.val P.the-type P′.the-laws p
 
 -- the contract that the proof cites
-abbrev Answered : {M : Type 1} (𝓤 : URA M) (H : Heap 𝓤) (A : Atoms 𝓤) (mem : Memory → SProp 𝓤) (run : Routine → Fun 𝓤) → Contract 𝓤
-Answered 𝓤 H A mem run = tripleOf 𝓤 H A answered.signature (answered.spec 𝓤 H A mem run)
+abbrev Swept : {M : Type 1} (𝓤 : URA M) (H : Heap 𝓤) (A : Atoms 𝓤) (mem : Memory → SProp 𝓤) (run : Routine → Fun 𝓤) → Contract 𝓤
+Swept 𝓤 H A mem run = tripleOf 𝓤 H A swept.signature (swept.spec 𝓤 H A mem run)
 
 module _ {M : Type 1} (𝓤 : URA M) (H : Heap 𝓤) (A : Atoms 𝓤) (W : Given 𝓤 H A) (mem : Memory → SProp 𝓤) (run : Routine → Fun 𝓤) (κ₀ κ₁ κ₂ κ₃ : Lft) (q₀ q₁ q₂ q₃ : Share)
     (s₀ s₁ s₂ : RefT (List ℕ)) (n b o : ℕ) (γ : GName) (xs : List Point) where
@@ -137,8 +137,8 @@ module _ {M : Type 1} (𝓤 : URA M) (H : Heap 𝓤) (A : Atoms 𝓤) (W : Given
   typed p is = LL.lawful P.the-type P′.the-laws 𝓤 H A W .typed p _ is .0
 
   -- what the call is passed
-  abbrev to-answered : Point → Answered 𝓤 H A mem run .Ghost
-  to-answered p = (((κ₀, (κ₁, (κ₂, tt))), (q₀, (q₁, (q₂, tt))), tt, (s₀, (s₁, (s₂, (p, tt)))), (at .0, (at .1 .0, (at .1 .1 .0, (point-val p ∷ [], tt))))), tt)
+  abbrev to-swept : Point → Swept 𝓤 H A mem run .Ghost
+  to-swept p = (((κ₀, (κ₁, (κ₂, tt))), (q₀, (q₁, (q₂, tt))), tt, (s₀, (s₁, (s₂, (p, tt)))), (at .0, (at .1 .0, (at .1 .1 .0, (point-val p ∷ [], tt))))), tt)
 
   -- ---- the exit, at a list zs as long as xs
   exits : (zs : List Point) → Room P.the-row (length xs) → length zs ≡ length xs → zs ≡ answers basis n xs → ent 𝓤 (⋆ 𝓤 H A (Had zs [])) (Post vunit)
@@ -152,7 +152,7 @@ module _ {M : Type 1} (𝓤 : URA M) (H : Heap 𝓤) (A : Atoms 𝓤) (W : Given
       feqI ! (List Val) (vunit ∷ []) (vunit ∷ []) refl $ done !
 
   -- ---- what the contract asks: the count of records to answer, and the sweep where there is any
-  module _ (𝓣 : Tables 𝓤 H) (fm : FmC 𝓤 H (W .laws) (𝓣 .C)) (known : Triple 𝓤 (𝓣 .C #swept-points·points·answered) (Answered 𝓤 H A mem run)) (n-fits : n < 2 ^ 64)
+  module _ (𝓣 : Tables 𝓤 H) (fm : FmC 𝓤 H (W .laws) (𝓣 .C)) (known : Triple 𝓤 (𝓣 .C #swept-points·points·swept-record) (Swept 𝓤 H A mem run)) (n-fits : n < 2 ^ 64)
       (room : Room P.the-row (length xs)) (n-few : n ≤ length xs) (ready : 0 < n → Tabled (now s₀) (now s₁) (now s₂)) (l : ℕ → ℕ) where
     abbrev C : Calls 𝓤 H
     C = 𝓣 .C
@@ -199,7 +199,7 @@ module _ {M : Type 1} (𝓤 : URA M) (H : Heap 𝓤) (A : Atoms 𝓤) (W : Given
         -- [record i; what it owns; the others; the open borrow; obs; auth; the slices' tokens; what they own; the locals]
         sets ! 8 (of-opd ! (pointed ! 8 refl (look-raw ! 0 refl))) refl (typed (old (i .0)) was) $
         nothing ! $ move ! (2 ∷ 0 ∷ 8 ∷ []) $ fjoin ! $ passes ! kept 2 $ passes ! kept 1 $ passes ! kept 0 $ move ! (7 ∷ 0 ∷ []) $
-        calls-met ! fm answered.ended (answered.clauses 𝓤 H A mem run) known (to-answered (old (i .0))) (factI 𝓤 (Tabled (now s₀) (now s₁) (now s₂)) (emp 𝓤) (ok less))
+        calls-met ! fm swept.ended (swept.clauses 𝓤 H A mem run) known (to-swept (old (i .0))) (factI 𝓤 (Tabled (now s₀) (now s₁) (now s₂)) (emp 𝓤) (ok less))
         (and-then ! (arg ! 7 refl) (and-then ! (arg ! 7 refl) (and-then ! (arg ! 7 refl) (and-then ! (arg ! 7 refl) (no-more !)))))
         point-val (LL.tells P.the-type P′.the-laws) (λ p is ws. heard ! (p ≡ answeredOf basis (old (i .0))) (λ e. drop ! $
         -- [what the answer owns; the slices' tokens; what they own; record i; the others; the open borrow; obs; auth; the locals]
@@ -249,7 +249,7 @@ module _ {M : Type 1} (𝓤 : URA M) (H : Heap 𝓤) (A : Atoms 𝓤) (W : Given
         by ! (subst (λ (ys : List Point). ent 𝓤 (⋆ 𝓤 H A (Held-at ys (state 0))) (Wp 𝓤 H C Λ En parts.t-2 (atReturn 𝓤 H En Post))) (answers-none basis xs) looped)
 
   -- ---- the entry
-  walk : (𝓣 : Tables 𝓤 H) → FmC 𝓤 H (W .laws) (𝓣 .C) → Triple 𝓤 (𝓣 .C #swept-points·points·answered) (Answered 𝓤 H A mem run)
+  walk : (𝓣 : Tables 𝓤 H) → FmC 𝓤 H (W .laws) (𝓣 .C) → Triple 𝓤 (𝓣 .C #swept-points·points·swept-record) (Swept 𝓤 H A mem run)
       → Are (typesAt (slots params) κs) (Ises (typesAt (slots params) κs)) a at → (n ≤ length xs) × (0 < n → Tabled (now s₀) (now s₁) (now s₂))
       → ent 𝓤 (onEntry 𝓤 H A fill.signature κs (q₀, (q₁, (q₂, (q₃, tt)))) a at) (WpFn 𝓤 H (𝓣 .C) (𝓣 .Λ) function args Post)
   walk 𝓣 fm known are asked =
@@ -261,7 +261,7 @@ module _ {M : Type 1} (𝓤 : URA M) (H : Heap 𝓤) (A : Atoms 𝓤) (W : Given
       move ! (28 ∷ 29 ∷ 30 ∷ 31 ∷ 32 ∷ []) $ by ! (begins 𝓣 fm known (are .1 .1 .1 .0 .1) (are .1 .1 .1 .1 .0 .0 .1) (asked .0) (asked .1) l))
 
 module _ {M : Type 1} (𝓤 : URA M) (H : Heap 𝓤) (A : Atoms 𝓤) (W : Given 𝓤 H A) (mem : Memory → SProp 𝓤) (run : Routine → Fun 𝓤) (𝓣 : Tables 𝓤 H)
-    (known : Triple 𝓤 (𝓣 .C #swept-points·points·answered) (Answered 𝓤 H A mem run)) where
+    (known : Triple 𝓤 (𝓣 .C #swept-points·points·swept-record) (Swept 𝓤 H A mem run)) where
   fill-records-meets : Meets 𝓤 H A fill.signature (WpFn 𝓤 H (𝓣 .C) (𝓣 .Λ) function) (fill.spec 𝓤 H A mem run)
   fill-records-meets =
       meets-by 𝓤 H A W fill.ended (stays params) (all-go 𝓤 H A W params) (fill.clauses 𝓤 H A mem run) 𝓣 function (λ κs. spells κs params) (λ κs. all-told κs params)
@@ -277,5 +277,5 @@ fill-records-spec 𝓤 H 𝓜 𝓖 𝓡 =
     entered 𝓤 H (tripleOf 𝓤 H (𝓖 .A) fill.signature (fill.spec 𝓤 H (𝓖 .A) (𝓜 .mem) (𝓡 .run)))
     (tables 𝓤 H 𝓜 𝓡 code.env .C) (tables 𝓤 H 𝓜 𝓡 code.env .Λ) #grid·fill-records code.function (code.unfolded 𝓤 H 𝓜 𝓡)
     (fill-records-meets 𝓤 H (𝓖 .A) (givenOf 𝓤 H 𝓜 𝓖) (𝓜 .mem) (𝓡 .run) (tablesOf 𝓤 H 𝓜 (tables 𝓤 H 𝓜 𝓡 code.env))
-    (cited 𝓤 H (Answered 𝓤 H (𝓖 .A) (𝓜 .mem) (𝓡 .run)) 𝓜 𝓡 code.env #swept-points·points·answered answered-def.routine
-    code.calls-swept-points·points·answered (answered-thm.met 𝓤 H 𝓜 𝓖 𝓡)))
+    (cited 𝓤 H (Swept 𝓤 H (𝓖 .A) (𝓜 .mem) (𝓡 .run)) 𝓜 𝓡 code.env #swept-points·points·swept-record swept-def.routine
+    code.calls-swept-points·points·swept-record (swept-thm.met 𝓤 H 𝓜 𝓖 𝓡)))
