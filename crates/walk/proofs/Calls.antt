@@ -85,7 +85,8 @@ module _ {M : Type 1} (𝓤 : URA M) (H : Heap 𝓤) (A : Atoms 𝓤) where
       let O : SProp 𝓤 = sem 𝓤 H A (own-at Rs (a .1) (vss .1) i) in
       via 𝓤 (sep 𝓤 P (sep 𝓤 O Q)) (monoR 𝓤 P (copied Rs (cs .1) (a .1) (vss .1) i)) (swap 𝓤 H A P O Q)
 
-  apart : (Rs : List RattleType) (a : Denots Rs) (vss : Valss Rs) (P : Fml) → ent 𝓤 (sem 𝓤 H A (before Rs a vss P)) (sep 𝓤 (sem 𝓤 H A (owns Rs a vss)) (sem 𝓤 H A P))
+  apart : (Rs : List RattleType) (a : Denots Rs) (vss : Valss Rs) (P : Fml)
+      → ent 𝓤 (sem 𝓤 H A (before Rs a vss P)) (sep 𝓤 (sem 𝓤 H A (owns Rs a vss)) (sem 𝓤 H A P))
   apart [] a vss P = emp∗ 𝓤 (sem 𝓤 H A P)
   apart (R ∷ Rs) a vss P =
       let O : SProp 𝓤 = sem 𝓤 H A (R .own (a .0) (vss .0)) in
@@ -111,14 +112,16 @@ module _ {M : Type 1} {𝓤 : URA M} {H : Heap 𝓤} {A : Atoms 𝓤} {K : Type 
     parted t s {P} = step (λ x. use1 W (‵ (owned 𝓤 H A s) ⊛ ‵ P) (apart 𝓤 H A (s .types) (s .given) (s .values) P) $ split t $ x)
 
   -- the context after the call: what it ensures, the last values, the result, the tokens
-  pub calls-met : {E : Env 𝓤 H} {C : Calls 𝓤 H} {f : Name} {xs : List Operand} {Λ : Loops 𝓤 H} {q : Post 𝓤 H} {d : Place} {rest : Body} → K → FmC 𝓤 H (W .laws) C
+  pub calls-met : {E : Env 𝓤 H} {C : Calls 𝓤 H} {f : Name} {xs : List Operand} {Λ : Loops 𝓤 H} {q : Post 𝓤 H} {d : Place} {rest : Body}
+      → K → FmC 𝓤 H (W .laws) C
       → (T : Ended) (c : Clauses 𝓤 T) → Triple 𝓤 (C f) (tripleOf 𝓤 H A (T .signature) (closing 𝓤 H A T c))
       → (y : tripleOf 𝓤 H A (T .signature) (closing 𝓤 H A T c) .Ghost) → ent 𝓤 (emp 𝓤) (c (y .0 .0) (y .0 .3) .requires (y .1))
       → Opds K W (raw (tripleOf 𝓤 H A (T .signature) (closing 𝓤 H A T c) .pre y) ∷ Γ) E xs (tripleOf 𝓤 H A (T .signature) (closing 𝓤 H A T c) .args y)
       → (val : Res (T .signature) (y .0 .0) → Val) → Tells (typeAt (T .signature .result) (y .0 .0)) (Is (typeAt (T .signature .result) (y .0 .0))) (λ r. val r ∷ [])
       → ((r : Res (T .signature) (y .0 .0)) → Is (typeAt (T .signature .result) (y .0 .0)) r (val r ∷ []) → (ws : Lasts T (y .0 .0) (y .0 .3))
       → Seq K W (raw (c (y .0 .0) (y .0 .3) .ensures (y .1) r (atExit T (y .0 .0) (y .0 .3) ws)) ∷ ‵ (lasts T (y .0 .0) (y .0 .3) ws)
-      ∷ ‵ (typeAt (T .signature .result) (y .0 .0) .own r (val r ∷ [])) ∷ tokens 𝓤 H A (T .signature .lifetimes) (y .0 .0) (y .0 .1) ∷ Γ) (lands C Λ E d (val r) rest q))
+      ∷ ‵ (typeAt (T .signature .result) (y .0 .0) .own r (val r ∷ []))
+      ∷ tokens 𝓤 H A (T .signature .lifetimes) (y .0 .0) (y .0 .1) ∷ Γ) (lands C Λ E d (val r) rest q))
       → Seq K W (tokens 𝓤 H A (T .signature .lifetimes) (y .0 .0) (y .0 .1) ∷ ‵ (owns (typesAt (T .signature .params) (y .0 .0)) (y .0 .3) (y .0 .4)) ∷ Γ)
       (runs C Λ E (seq (call f xs d) rest) q)
   calls-met {E} {C} {f} {xs} {Λ} {q} {d} {rest} t fm T c met y asked os val tells k =
@@ -130,10 +133,14 @@ module _ {M : Type 1} {𝓤 : URA M} {H : Heap 𝓤} {A : Atoms 𝓤} {K : Type 
       let Says : R .Denot → Lasts T (y .0 .0) (y .0 .3) → Item 𝓤 = λ r ws. raw (c (y .0 .0) (y .0 .3) .ensures (y .1) r (atExit T (y .0 .0) (y .0 .3) ws)) in
       recast W Alive (tokens-are 𝓤 H A n (y .0 .0) (y .0 .1)) $
       use2 W (raw (tripleOf 𝓤 H A (T .signature) (closing 𝓤 H A T c) .pre y))
-      (via 𝓤 _ (emp∗ 𝓤 (mean 𝓤 H A (Alive ⊛ ‵ Own))) (via 𝓤 _ (comm∗ 𝓤 (emp 𝓤) (mean 𝓤 H A (Alive ⊛ ‵ Own))) (monoR 𝓤 (mean 𝓤 H A (Alive ⊛ ‵ Own)) asked))) $
+      (via 𝓤 _ (emp∗ 𝓤 (mean 𝓤 H A (Alive ⊛ ‵ Own)))
+      (via 𝓤 _ (comm∗ 𝓤 (emp 𝓤) (mean 𝓤 H A (Alive ⊛ ‵ Own))) (monoR 𝓤 (mean 𝓤 H A (Alive ⊛ ‵ Own)) asked))) $
       calls-at t fm (tripleOf 𝓤 H A (T .signature) (closing 𝓤 H A T c)) met y os (λ u.
-      use1 W (later (some (λ (r : R .Denot). (Alive ⊛ ‵ (R .own r (u ∷ []))) ⊛ some (λ (ws : Lasts T (y .0 .0) (y .0 .3)). ‵ (lasts T (y .0 .0) (y .0 .3) ws) ⊛ Says r ws)))) (id⊢ 𝓤 _) $
-      await t tt $ pick t (λ r. split t $ split t $ recast W Tokens (sym (tokens-are 𝓤 H A n (y .0 .0) (y .0 .1))) $ move t (2 ∷ []) $ pick t (λ ws. split t $ move t (3 ∷ []) $
+      use1 W (later (some (λ (r : R .Denot). (Alive ⊛ ‵ (R .own r (u ∷ [])))
+      ⊛ some (λ (ws : Lasts T (y .0 .0) (y .0 .3)). ‵ (lasts T (y .0 .0) (y .0 .3) ws) ⊛ Says r ws)))) (id⊢ 𝓤 _) $
+      await t tt $ pick t (λ r. split t $ split t $ recast W Tokens (sym (tokens-are 𝓤 H A n (y .0 .0) (y .0 .1))) $
+      move t (2 ∷ []) $ pick t (λ ws. split t $ move t (3 ∷ []) $
       peeks t R (Is R) (shows 𝓤 H A R) r (u ∷ []) (λ is.
-      subst (λ (w : Val). Is R r (w ∷ []) → Seq K W (‵ (R .own r (w ∷ [])) ∷ ‵ (lasts T (y .0 .0) (y .0 .3) ws) ∷ Says r ws ∷ Tokens ∷ Γ) (lands C Λ E d w rest q))
+      subst (λ (w : Val). Is R r (w ∷ [])
+      → Seq K W (‵ (R .own r (w ∷ [])) ∷ ‵ (lasts T (y .0 .0) (y .0 .3) ws) ∷ Says r ws ∷ Tokens ∷ Γ) (lands C Λ E d w rest q))
       (sym (ap only (tells r (u ∷ []) is))) (λ is′. move t (2 ∷ 1 ∷ []) $ k r is′ ws) is))))

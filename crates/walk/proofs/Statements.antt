@@ -64,7 +64,8 @@ module _ {M : Type 1} {𝓤 : URA M} {H : Heap 𝓤} {A : Atoms 𝓤} {K : Type 
     field t n {i} e p = load t (from t (fld t e (stop t))) (look-in t (spot 𝓤 H A E n i) p)
 
     -- a field of a field
-    pub inner : K → (n : ℕ) {i j k : ℕ} {q : Share} {σ τ : Ty} {c d : ℕ} {v : Val} {back : Val → Item 𝓤} → fieldOf (spotOf 𝓤 H E i .0) j ≡ some (σ, c) → fieldOf σ k ≡ some (τ, d)
+    pub inner : K → (n : ℕ) {i j k : ℕ} {q : Share} {σ τ : Ty} {c d : ℕ} {v : Val} {back : Val → Item 𝓤}
+        → fieldOf (spotOf 𝓤 H E i .0) j ≡ some (σ, c) → fieldOf σ k ≡ some (τ, d)
         → Part K W (nth 𝓤 H A (spot 𝓤 H A E n i) Γ) q τ (spotOf 𝓤 H E i .1) (0 + c + d) v back → Opd K W Γ E (copy (place i (fieldStep j ∷ fieldStep k ∷ []))) v
     inner t n {i} e f p = load t (from t (fld t e (fld t f (stop t)))) (look-in t (spot 𝓤 H A E n i) p)
 
@@ -101,7 +102,8 @@ module _ {M : Type 1} {𝓤 : URA M} {H : Heap 𝓤} {A : Atoms 𝓤} {K : Type 
       resets-last t n {i} r e wt = assigns-last t r (from t (stop t)) (store t (spot 𝓤 H A E n i) e wt)
 
     -- the function returns its result r, and its locals are freed. They are all of the context but its first n entries
-    pub ends : K → (n : ℕ) (cs : List Content) {C : Calls 𝓤 H} {Λ : Loops 𝓤 H} {Kf : Val → SProp 𝓤} {r : Val} → nth 𝓤 H A (spot 𝓤 H A E n 0) Γ ≡ Holds 𝓤 H A E 0 r
+    pub ends : K → (n : ℕ) (cs : List Content) {C : Calls 𝓤 H} {Λ : Loops 𝓤 H} {Kf : Val → SProp 𝓤} {r : Val}
+        → nth 𝓤 H A (spot 𝓤 H A E n 0) Γ ≡ Holds 𝓤 H A E 0 r
         → back n Γ ≡ locals 𝓤 H A E cs [] → Step K W (front n Γ) (prop (Kf r)) Γ (runs C Λ E return (atRet E Kf))
     ends t n cs e all = step (λ s. returns t (look t (spot 𝓤 H A E n 0) e) $ leaves t n cs all $ s)
 
@@ -115,7 +117,8 @@ module _ {M : Type 1} {𝓤 : URA M} {H : Heap 𝓤} {A : Atoms 𝓤} {K : Type 
     takes t n = step (λ s. record {
       prf = via 𝓤 (sep 𝓤 (mean 𝓤 H A (nth 𝓤 H A n Γ)) (⋆ 𝓤 H A (del 𝓤 H A n Γ))) (pull 𝓤 H A n Γ)
           (via 𝓤 (sep 𝓤 (mean 𝓤 H A (nth 𝓤 H A n Γ)) (⋆ 𝓤 H A (put 𝓤 H A n (‵ ftrue) Γ)))
-          (monoR 𝓤 (mean 𝓤 H A (nth 𝓤 H A n Γ)) (via 𝓤 (sep 𝓤 (emp 𝓤) (⋆ 𝓤 H A (del 𝓤 H A n Γ))) (emp∗ 𝓤 (⋆ 𝓤 H A (del 𝓤 H A n Γ))) (fill 𝓤 H A n (‵ ftrue) Γ)))
+          (monoR 𝓤 (mean 𝓤 H A (nth 𝓤 H A n Γ))
+          (via 𝓤 (sep 𝓤 (emp 𝓤) (⋆ 𝓤 H A (del 𝓤 H A n Γ))) (emp∗ 𝓤 (⋆ 𝓤 H A (del 𝓤 H A n Γ))) (fill 𝓤 H A n (‵ ftrue) Γ)))
           (via 𝓤 (⋆ 𝓤 H A (nth 𝓤 H A n Γ ∷ put 𝓤 H A n (‵ ftrue) Γ)) (push 𝓤 H A (nth 𝓤 H A n Γ) (put 𝓤 H A n (‵ ftrue) Γ)) (s .prf)));
     })
 

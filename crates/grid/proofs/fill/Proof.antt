@@ -73,7 +73,8 @@ function = record {
   outlives = [];
   params = 3;
   locals = local F′.mir valueLocal ∷ local run-ty valueLocal ∷ local history-ty valueLocal ∷ local list-ty valueLocal ∷ local array-ty memorySlot
-      ∷ values (G′.mir ∷ tyInt w64 ∷ tyRef erased mut array-ty ∷ slice-of mut ∷ tyUnit ∷ tyRef erased imm array-ty ∷ slice-of imm ∷ list-ptr ∷ sliceTy list-ptr ∷ []);
+      ∷ values (G′.mir ∷ tyInt w64 ∷ tyRef erased mut array-ty ∷ slice-of mut ∷ tyUnit
+      ∷ tyRef erased imm array-ty ∷ slice-of imm ∷ list-ptr ∷ sliceTy list-ptr ∷ []);
   body = parts.t-1;
 }
 
@@ -88,7 +89,8 @@ module _ {M : Type 1} (𝓤 : URA M) (H : Heap 𝓤) (A : Atoms 𝓤) (mem : Mem
   abbrev Records : Contract 𝓤
   Records = tripleOf 𝓤 H A records.signature (records.spec 𝓤 H A mem run)
 
-module _ {M : Type 1} (𝓤 : URA M) (H : Heap 𝓤) (A : Atoms 𝓤) (W : Given 𝓤 H A) (at-mem : Memory → SProp 𝓤) (run : Routine → Fun 𝓤) (κ₀ κ₁ κ₂ : Lft) (q₀ q₁ q₂ : Share)
+module _ {M : Type 1} (𝓤 : URA M) (H : Heap 𝓤) (A : Atoms 𝓤) (W : Given 𝓤 H A) (at-mem : Memory → SProp 𝓤) (run : Routine → Fun 𝓤)
+    (κ₀ κ₁ κ₂ : Lft) (q₀ q₁ q₂ : Share)
     (s₀ s₁ : RefT (List ℕ)) (b o : ℕ) (γ : GName) (xs : List Point) where
   -- the list's reference
   abbrev x : RefT (List Point)
@@ -148,16 +150,26 @@ module _ {M : Type 1} (𝓤 : URA M) (H : Heap 𝓤) (A : Atoms 𝓤) (W : Given
     y = record { ptr = (c, 0); name = δ; now = l }
 
     abbrev to-begin : Begin 𝓤 H A at-mem run .Ghost
-    to-begin =
-        (((κ₀, (κ₁, (ν ∷ [], tt))), (q₀, (q₁, (fullShare, tt))), tt, (s₀, (s₁, (length xs, (y, tt)))), (at .0, (at .1 .0, (vint w64 (length xs) ∷ [], (val y ∷ [], tt))))), tt)
+    to-begin = (
+      (
+        (κ₀, (κ₁, (ν ∷ [], tt))),
+        (q₀, (q₁, (fullShare, tt))),
+        tt,
+        (s₀, (s₁, (length xs, (y, tt)))),
+        (at .0, (at .1 .0, (vint w64 (length xs) ∷ [], (val y ∷ [], tt)))),
+      ),
+      tt,
+    )
 
-    begin-back : (r : List ℕ) → ent 𝓤 (⋆ 𝓤 H A (Tokens (‵ (Mine ν) ⊛ ‵ ftrue) ∷ ‵ (finally u32 δ r) ∷ ‵ (flent (ν ∷ []) (Held u32 (length l) c 0 δ)) ∷ []))
+    begin-back : (r : List ℕ)
+        → ent 𝓤 (⋆ 𝓤 H A (Tokens (‵ (Mine ν) ⊛ ‵ ftrue) ∷ ‵ (finally u32 δ r) ∷ ‵ (flent (ν ∷ []) (Held u32 (length l) c 0 δ)) ∷ []))
         (H .⇛ (⋆ 𝓤 H A (Two ∷ ‵ (Row r c) ∷ [])))
     begin-back r =
         qed W (Tokens (‵ (Mine ν) ⊛ ‵ ftrue) ∷ ‵ (finally u32 δ r) ∷ ‵ (flent (ν ∷ []) (Held u32 (length l) c 0 δ)) ∷ []) ∵
         updating ! $ split ! $ move ! (1 ∷ []) $ split ! $ move ! (2 ∷ 0 ∷ []) $ join ! $ move ! (1 ∷ []) $ split ! $
         -- [ν's token; true; the two tokens; the row's last list; the lender's part]
-        lft-end ! tt $ move ! (0 ∷ 4 ∷ 3 ∷ []) $ use3 W (later (‵ (Row r c))) (row-back 𝓤 H A W ν (length l) c δ r) $ await ! tt $ at-once ! $ keep ! (2 ∷ 0 ∷ []) $ done !
+        lft-end ! tt $ move ! (0 ∷ 4 ∷ 3 ∷ []) $ use3 W (later (‵ (Row r c))) (row-back 𝓤 H A W ν (length l) c δ r) $
+        await ! tt $ at-once ! $ keep ! (2 ∷ 0 ∷ []) $ done !
 
     abbrev to-records : ℕ → Records 𝓤 H A at-mem run .Ghost
     to-records n =
@@ -198,10 +210,12 @@ module _ {M : Type 1} (𝓤 : URA M) (H : Heap 𝓤) (A : Atoms 𝓤) (W : Given
     module _ (f : GridStart) (is : Is G.the-row f (start-val f ∷ [])) (f-is : gridStartMeaning f ≡ found) where
       -- ---- after both calls: the check is returned
       returned : (zs : List Point) → length zs ≡ length xs → zs ≡ gridOf (now s₀) (now s₁) xs
-          → ent 𝓤 (⋆ 𝓤 H A (Tokens Last ∷ ‵ (owned 𝓤 H A kept) ∷ ‵ (finally P.the-row γ zs) ∷ locals 𝓤 H A En (state (holds (start-val f))) [])) (Wp 𝓤 H C Λ En parts.t-11 (atReturn 𝓤 H En Post))
+          → ent 𝓤 (⋆ 𝓤 H A (Tokens Last ∷ ‵ (owned 𝓤 H A kept) ∷ ‵ (finally P.the-row γ zs) ∷ locals 𝓤 H A En (state (holds (start-val f))) []))
+          (Wp 𝓤 H C Λ En parts.t-11 (atReturn 𝓤 H En Post))
       returned zs same e =
           let known = LL.owed G.the-type G′.the-laws f _ is .0 in
-          qed W (Tokens Last ∷ ‵ (owned 𝓤 H A kept) ∷ ‵ (finally P.the-row γ zs) ∷ locals 𝓤 H A En (state (holds (start-val f))) []) ∵ exec ! C Λ En parts.t-11 (atRet En Post) $
+          qed W (Tokens Last ∷ ‵ (owned 𝓤 H A kept) ∷ ‵ (finally P.the-row γ zs) ∷ locals 𝓤 H A En (state (holds (start-val f))) []) ∵
+          exec ! C Λ En parts.t-11 (atRet En Post) $
           sets ! 3 (of-opd ! (field ! 3 refl (sub ! 0 refl (whole !)))) refl (EL.lawful F.the-type F′.the-laws 𝓤 H A W tt .typed (f .check) _ known .0) $
           ends ! 3 (holds _ ∷ holds _ ∷ holds _ ∷ holds _ ∷ empty ∷ holds _ ∷ []) refl refl $
           by ! (exits (f .check) _ zs known (ap (λ (p : Finding × ℕ). p .0) f-is) e same)
@@ -222,7 +236,8 @@ module _ {M : Type 1} (𝓤 : URA M) (H : Heap 𝓤) (A : Atoms 𝓤) (W : Given
           sets ! 4 (agg ! (and-then ! (arg ! 4 refl) (and-then ! (field ! 4 refl (sub ! 1 refl (whole !))) (no-more !)))) refl (tt, slice-typed (b, o) (room .0)) $
           -- the row is lent for a lifetime ν of the call
           lft-new ! tt (λ ν. move ! (1 ∷ []) $
-          use1 W (later (some (λ (δ : GName). ‵ (ShrSlice (named 2) (ν ∷ []) u32 .own (y ν δ (l 4) r) (val (y ν δ (l 4) r) ∷ [])) ⊛ ‵ (flent (ν ∷ []) (Row r (l 4))))))
+          use1 W (later (some (λ (δ : GName). ‵ (ShrSlice (named 2) (ν ∷ []) u32 .own (y ν δ (l 4) r) (val (y ν δ (l 4) r) ∷ []))
+          ⊛ ‵ (flent (ν ∷ []) (Row r (l 4))))))
           (lends-shr-slice 𝓤 H A W u32 (named 2) (ν ∷ []) fullShare r (l 4) 0 (enough r long)) $ await ! tt $ pick ! (λ δ. split ! $
           -- [what the row owns; the lender's part; ν's token; the list; the slices' tokens; what they own; the locals]
           move ! (3 ∷ []) $ split ! $ nothing ! $ move ! (2 ∷ 0 ∷ []) $ fjoin ! $ number-before ! w64 (f .records) fits $ move ! (2 ∷ 0 ∷ []) $ fjoin ! $
@@ -277,7 +292,8 @@ module _ {M : Type 1} (𝓤 : URA M) (H : Heap 𝓤) (A : Atoms 𝓤) (W : Given
         move ! (1 ∷ 3 ∷ 0 ∷ []) $ by ! (fills f is f-is known-records room (ws .1 .1 .1 .0) (same ∙ long) ready)))))))
 
   -- ---- the entry, and the array
-  walk : (C : Calls 𝓤 H) (Λ : Loops 𝓤 H) → FmC 𝓤 H (W .laws) C → Triple 𝓤 (C #grid·begin-grid) (Begin 𝓤 H A at-mem run) → Triple 𝓤 (C #grid·fill-records) (Records 𝓤 H A at-mem run)
+  walk : (C : Calls 𝓤 H) (Λ : Loops 𝓤 H) → FmC 𝓤 H (W .laws) C → Triple 𝓤 (C #grid·begin-grid) (Begin 𝓤 H A at-mem run)
+      → Triple 𝓤 (C #grid·fill-records) (Records 𝓤 H A at-mem run)
       → Are (typesAt (slots params) κs) (Ises (typesAt (slots params) κs)) a at
       → ent 𝓤 (onEntry 𝓤 H A fill.signature κs (q₀, (q₁, (q₂, tt))) a at) (WpFn 𝓤 H C Λ function (flat (typesAt (slots params) κs) at) Post)
   walk C Λ fm known-begin known-records are =
@@ -287,7 +303,8 @@ module _ {M : Type 1} (𝓤 : URA M) (H : Heap 𝓤) (A : Atoms 𝓤) (W : Given
       move ! (1 ∷ []) $ fsplit ! $ move ! (4 ∷ 0 ∷ []) $ join ! $ keep ! (0 ∷ 3 ∷ 2 ∷ []) $
       enters ! C Λ function (flat (typesAt (slots params) κs) at) _ (all-typed 𝓤 H A (typesAt (slots params) κs) (all-lawful 𝓤 H A W κs params) a at are) (λ l.
       sets ! 0 (rep ! tableLength (lit ! tt)) refl (zeros-typed 𝓤 H A W tableLength) $
-      takes ! (spot 𝓤 H A (blocks 𝓤 H A (function .locals) l) 0 4) $ use1 W (‵ (cells (mem u32) (replicate tableLength 0) (l 4) 0)) (zeros-lie 𝓤 H A W tableLength (l 4)) $
+      takes ! (spot 𝓤 H A (blocks 𝓤 H A (function .locals) l) 0 4) $
+      use1 W (‵ (cells (mem u32) (replicate tableLength 0) (l 4) 0)) (zeros-lie 𝓤 H A W tableLength (l 4)) $
       move ! (0 ∷ 29 ∷ 30 ∷ 31 ∷ []) $
       by ! (begins C Λ fm l known-begin known-records (are .1 .1 .0 .0 .1) (replicate tableLength 0) (length-replicate {0} {A = ℕ} tableLength 0)))
 
@@ -295,8 +312,10 @@ module _ {M : Type 1} (𝓤 : URA M) (H : Heap 𝓤) (A : Atoms 𝓤) (W : Given
   fill-meets : Triple 𝓤 (𝓣 .C #grid·begin-grid) (Begin 𝓤 H A mem run) → Triple 𝓤 (𝓣 .C #grid·fill-records) (Records 𝓤 H A mem run)
       → Meets 𝓤 H A fill.signature (WpFn 𝓤 H (𝓣 .C) (𝓣 .Λ) function) (fill.spec 𝓤 H A mem run)
   fill-meets known-begin known-records =
-      meets-by 𝓤 H A W fill.ended (stays params) (all-go 𝓤 H A W params) (fill.clauses 𝓤 H A mem run) 𝓣 function (λ κs. spells κs params) (λ κs. all-told κs params)
-      (λ κs qs bounds a g are. via 𝓤 _ (fst∗ 𝓤 _ (emp 𝓤)) (walk 𝓤 H A W mem run (κs .0) (κs .1 .0) (κs .1 .1 .0) (qs .0) (qs .1 .0) (qs .1 .1 .0) (a .0) (a .1 .0)
+      meets-by 𝓤 H A W fill.ended (stays params) (all-go 𝓤 H A W params) (fill.clauses 𝓤 H A mem run) 𝓣 function
+      (λ κs. spells κs params) (λ κs. all-told κs params)
+      (λ κs qs bounds a g are. via 𝓤 _ (fst∗ 𝓤 _ (emp 𝓤))
+      (walk 𝓤 H A W mem run (κs .0) (κs .1 .0) (κs .1 .1 .0) (qs .0) (qs .1 .0) (qs .1 .1 .0) (a .0) (a .1 .0)
       (a .1 .1 .0 .ptr .0) (a .1 .1 .0 .ptr .1) (a .1 .1 .0 .name) (a .1 .1 .0 .now) (𝓣 .C) (𝓣 .Λ) (fmOf 𝓤 H (W .laws) 𝓣) known-begin known-records are))
 
 pub fill-spec : {M : Type 1} → stated.statement M
@@ -305,5 +324,7 @@ fill-spec 𝓤 H 𝓜 𝓖 𝓡 =
     entered 𝓤 H (tripleOf 𝓤 H (𝓖 .A) fill.signature (fill.spec 𝓤 H (𝓖 .A) (𝓜 .mem) (𝓡 .run)))
     (tables 𝓤 H 𝓜 𝓡 code.env .C) (tables 𝓤 H 𝓜 𝓡 code.env .Λ) #grid·fill code.function (code.unfolded 𝓤 H 𝓜 𝓡)
     (fill-meets 𝓤 H (𝓖 .A) (givenOf 𝓤 H 𝓜 𝓖) (𝓜 .mem) (𝓡 .run) (tablesOf 𝓤 H 𝓜 (tables 𝓤 H 𝓜 𝓡 code.env))
-    (cited 𝓤 H (Begin 𝓤 H (𝓖 .A) (𝓜 .mem) (𝓡 .run)) 𝓜 𝓡 code.env #grid·begin-grid begin-def.routine code.calls-grid·begin-grid (begin-thm.met 𝓤 H 𝓜 𝓖 𝓡))
-    (cited 𝓤 H (Records 𝓤 H (𝓖 .A) (𝓜 .mem) (𝓡 .run)) 𝓜 𝓡 code.env #grid·fill-records records-def.routine code.calls-grid·fill-records (records-thm.met 𝓤 H 𝓜 𝓖 𝓡)))
+    (cited 𝓤 H (Begin 𝓤 H (𝓖 .A) (𝓜 .mem) (𝓡 .run)) 𝓜 𝓡 code.env
+    #grid·begin-grid begin-def.routine code.calls-grid·begin-grid (begin-thm.met 𝓤 H 𝓜 𝓖 𝓡))
+    (cited 𝓤 H (Records 𝓤 H (𝓖 .A) (𝓜 .mem) (𝓡 .run)) 𝓜 𝓡 code.env
+    #grid·fill-records records-def.routine code.calls-grid·fill-records (records-thm.met 𝓤 H 𝓜 𝓖 𝓡)))

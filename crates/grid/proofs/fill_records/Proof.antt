@@ -80,7 +80,8 @@ point-val p = LL.val P.the-type P′.the-laws p
 abbrev Swept : {M : Type 1} (𝓤 : URA M) (H : Heap 𝓤) (A : Atoms 𝓤) (mem : Memory → SProp 𝓤) (run : Routine → Fun 𝓤) → Contract 𝓤
 Swept 𝓤 H A mem run = tripleOf 𝓤 H A swept.signature (swept.spec 𝓤 H A mem run)
 
-module _ {M : Type 1} (𝓤 : URA M) (H : Heap 𝓤) (A : Atoms 𝓤) (W : Given 𝓤 H A) (mem : Memory → SProp 𝓤) (run : Routine → Fun 𝓤) (κ₀ κ₁ κ₂ κ₃ : Lft) (q₀ q₁ q₂ q₃ : Share)
+module _ {M : Type 1} (𝓤 : URA M) (H : Heap 𝓤) (A : Atoms 𝓤) (W : Given 𝓤 H A) (mem : Memory → SProp 𝓤) (run : Routine → Fun 𝓤)
+    (κ₀ κ₁ κ₂ κ₃ : Lft) (q₀ q₁ q₂ q₃ : Share)
     (s₀ s₁ s₂ : RefT (List ℕ)) (n b o : ℕ) (γ : GName) (xs : List Point) where
   -- the list's reference at the list l
   abbrev x : List Point → RefT (List Point)
@@ -144,15 +145,18 @@ module _ {M : Type 1} (𝓤 : URA M) (H : Heap 𝓤) (A : Atoms 𝓤) (W : Given
   exits : (zs : List Point) → Room P.the-row (length xs) → length zs ≡ length xs → zs ≡ answers basis n xs → ent 𝓤 (⋆ 𝓤 H A (Had zs [])) (Post vunit)
   exits zs room same e =
       qed W (Had zs []) ∵
-      suffices ! _ (ends-at 𝓤 H A fill.ended (stays params) (fill.clauses 𝓤 H A mem run) W bound vunit tt (tt, (tt, (tt, (tt, (zs, tt))))) (tt, (tt, (tt, (tt, (same, tt)))))) $ says ! e $
-      fjoin ! $ pureI ! (at-slice P.the-row (x zs) (slice-vals (x xs))) (tt, (tt, tt)) (ap (λ (m : ℕ). sliceVal (b, o) m ∷ []) (sym same), subst (Room P.the-row) (sym same) room) $ fjoin ! $
+      suffices ! _ (ends-at 𝓤 H A fill.ended (stays params) (fill.clauses 𝓤 H A mem run) W bound vunit tt (tt, (tt, (tt, (tt, (zs, tt)))))
+      (tt, (tt, (tt, (tt, (same, tt)))))) $ says ! e $
+      fjoin ! $ pureI ! (at-slice P.the-row (x zs) (slice-vals (x xs))) (tt, (tt, tt))
+      (ap (λ (m : ℕ). sliceVal (b, o) m ∷ []) (sym same), subst (Room P.the-row) (sym same) room) $ fjoin ! $
       nothing ! $ move ! (1 ∷ 0 ∷ 4 ∷ []) $ fjoin ! $ passes ! kept 3 $ passes ! kept 2 $ passes ! kept 1 $ passes ! kept 0 $
       -- [what is had of the parameters; what the slices own; the list's token; the slices' tokens]
       move ! (3 ∷ []) $ split3 ! $ move ! (2 ∷ []) $ split ! $ move ! (2 ∷ 3 ∷ 0 ∷ 6 ∷ 1 ∷ []) $ group ! 5 $ frame ! $ frame ! $ drop ! $
       feqI ! (List Val) (vunit ∷ []) (vunit ∷ []) refl $ done !
 
   -- ---- what the contract asks: the count of records to answer, and the sweep where there is any
-  module _ (𝓣 : Tables 𝓤 H) (fm : FmC 𝓤 H (W .laws) (𝓣 .C)) (known : Triple 𝓤 (𝓣 .C #swept-points·points·swept-record) (Swept 𝓤 H A mem run)) (n-fits : n < 2 ^ 64)
+  module _ (𝓣 : Tables 𝓤 H) (fm : FmC 𝓤 H (W .laws) (𝓣 .C)) (known : Triple 𝓤 (𝓣 .C #swept-points·points·swept-record) (Swept 𝓤 H A mem run))
+      (n-fits : n < 2 ^ 64)
       (room : Room P.the-row (length xs)) (n-few : n ≤ length xs) (ready : 0 < n → Tabled (now s₀) (now s₁) (now s₂)) (l : ℕ → ℕ) where
     abbrev C : Calls 𝓤 H
     C = 𝓣 .C
@@ -183,7 +187,9 @@ module _ {M : Type 1} (𝓤 : URA M) (H : Heap 𝓤) (A : Atoms 𝓤) (W : Given
     At i = Held-at (zs (i .0)) (state (i .0))
 
     abbrev Turned : Upto n → Out → SProp 𝓤
-    Turned i = afterTurn 𝓤 H (Below 𝓤 H A (Nearer n) At i) (afterBlock 𝓤 H (afterSeq 𝓤 H (Wp 𝓤 H C Λ En parts.t-3 (atReturn 𝓤 H En Post)) (atReturn 𝓤 H En Post)))
+    Turned i =
+        afterTurn 𝓤 H (Below 𝓤 H A (Nearer n) At i)
+        (afterBlock 𝓤 H (afterSeq 𝓤 H (Wp 𝓤 H C Λ En parts.t-3 (atReturn 𝓤 H En Post)) (atReturn 𝓤 H En Post)))
 
     turn : (i : Upto n) → Sq W (At i) (runs C Λ En parts.turn-1 (anyQ (Turned i)))
     unfolding afterTurn
@@ -264,7 +270,8 @@ module _ {M : Type 1} (𝓤 : URA M) (H : Heap 𝓤) (A : Atoms 𝓤) (W : Given
     (known : Triple 𝓤 (𝓣 .C #swept-points·points·swept-record) (Swept 𝓤 H A mem run)) where
   fill-records-meets : Meets 𝓤 H A fill.signature (WpFn 𝓤 H (𝓣 .C) (𝓣 .Λ) function) (fill.spec 𝓤 H A mem run)
   fill-records-meets =
-      meets-by 𝓤 H A W fill.ended (stays params) (all-go 𝓤 H A W params) (fill.clauses 𝓤 H A mem run) 𝓣 function (λ κs. spells κs params) (λ κs. all-told κs params)
+      meets-by 𝓤 H A W fill.ended (stays params) (all-go 𝓤 H A W params) (fill.clauses 𝓤 H A mem run) 𝓣 function
+      (λ κs. spells κs params) (λ κs. all-told κs params)
       (λ κs qs bounds a g are. needs 𝓤 ((a .1 .1 .1 .0 ≤ length (now (a .1 .1 .1 .1 .0)))
       × (0 < a .1 .1 .1 .0 → Workable (now (a .0)) (now (a .1 .0)) × FactorTable (basisWith (now (a .0)) (now (a .1 .0))) (now (a .1 .1 .0)))) _ (λ asked.
       walk 𝓤 H A W mem run (κs .0) (κs .1 .0) (κs .1 .1 .0) (κs .1 .1 .1 .0) (qs .0) (qs .1 .0) (qs .1 .1 .0) (qs .1 .1 .1 .0)

@@ -67,7 +67,8 @@ function = record {
   lifetimes = 2;
   outlives = [];
   params = 5;
-  locals = values (P′.mir ∷ run-ty ∷ history-ty ∷ half ∷ half ∷ half ∷ Z′.mir erased ∷ line-ty ∷ half ∷ S′.mir erased ∷ tyBool ∷ line-ty ∷ half ∷ half ∷ tyInt w64 ∷ []);
+  locals = values (P′.mir ∷ run-ty ∷ history-ty ∷ half ∷ half ∷ half ∷ Z′.mir erased ∷ line-ty
+      ∷ half ∷ S′.mir erased ∷ tyBool ∷ line-ty ∷ half ∷ half ∷ tyInt w64 ∷ []);
   body = parts.t-1;
 }
 
@@ -154,7 +155,8 @@ module _ {M : Type 1} (𝓤 : URA M) (H : Heap 𝓤) (A : Atoms 𝓤) (W : Given
   exits d g e =
       let had = LL.owed (L.the-type α) (L′.the-laws α) d _ g in
       qed W (‵ (LOwn d) ∷ Had []) ∵ drop ! $
-      suffices ! _ (ends-at 𝓤 H A after.ended (stays params) (after.clauses 𝓤 H A mem run) W bound (P′.lowered (positionOf d)) (positionOf d) (tt, (tt, (tt, (tt, (tt, tt)))))
+      suffices ! _ (ends-at 𝓤 H A after.ended (stays params) (after.clauses 𝓤 H A mem run) W bound (P′.lowered (positionOf d)) (positionOf d)
+      (tt, (tt, (tt, (tt, (tt, tt)))))
       (tt, (tt, (tt, (tt, (tt, tt)))))) $ says ! e $ frame ! $ frame ! $
       owned-by ! P.the-row (Is P.the-row) (LL.makes P.the-type P′.the-plain 𝓤 H A) (positionOf d) _ (LL.owes P.the-type P′.the-laws (positionOf d) (had .1)) $ done !
 
@@ -184,7 +186,9 @@ module _ {M : Type 1} (𝓤 : URA M) (H : Heap 𝓤) (A : Atoms 𝓤) (W : Given
     At i = Held-at (line (i .0)) (i .0)
 
     abbrev Turned : Upto n → Out → SProp 𝓤
-    Turned i = afterTurn 𝓤 H (Below 𝓤 H A (Nearer n) At i) (afterBlock 𝓤 H (afterSeq 𝓤 H (Wp 𝓤 H C Λ En parts.t-5 (atReturn 𝓤 H En Post)) (atReturn 𝓤 H En Post)))
+    Turned i =
+        afterTurn 𝓤 H (Below 𝓤 H A (Nearer n) At i)
+        (afterBlock 𝓤 H (afterSeq 𝓤 H (Wp 𝓤 H C Λ En parts.t-5 (atReturn 𝓤 H En Post)) (atReturn 𝓤 H En Post)))
 
     turn : (i : Upto n) → Sq W (At i) (runs C Λ En parts.turn-1 (anyQ (Turned i)))
     unfolding afterTurn
@@ -194,7 +198,8 @@ module _ {M : Type 1} (𝓤 : URA M) (H : Heap 𝓤) (A : Atoms 𝓤) (W : Given
         sets ! 3 (bin ! (arg ! 3 refl) (arg ! 3 refl) tt) refl (tt, tt) $ tests ! (arg ! 3 refl)
         (λ less.
         sets ! 3 (of-opd ! (arg ! 3 refl)) refl wt $ move ! (2 ∷ []) $ nothing ! $ passes ! kept 1 $ move ! (2 ∷ 0 ∷ []) $ fjoin ! $ move ! (2 ∷ 0 ∷ []) $
-        calls-met ! fm step.ended (step.clauses 𝓤 H A mem run) known-step (to-step (line (i .0))) (id⊢ 𝓤 _) (and-then ! (arg ! 2 refl) (and-then ! (arg ! 2 refl) (no-more !)))
+        calls-met ! fm step.ended (step.clauses 𝓤 H A mem run) known-step (to-step (line (i .0))) (id⊢ 𝓤 _)
+        (and-then ! (arg ! 2 refl) (and-then ! (arg ! 2 refl) (no-more !)))
         stepped-val (LL.tells (S.the-type α) (S′.the-laws α)) (λ r is ws. heard ! (Stepping (now h) (line (i .0)) r) (λ e. drop ! $
         -- [what the result owns; the tokens; what the parameters own; the locals]
         let got = LL.lawful (S.the-type αᵉ) (S′.the-laws αᵉ) 𝓤 H A W .typed r _ is .0 in
@@ -208,7 +213,8 @@ module _ {M : Type 1} (𝓤 : URA M) (H : Heap 𝓤) (A : Atoms 𝓤) (W : Given
         sets ! 3 (of-opd ! (field ! 3 refl (sub ! 2 refl (whole !)))) refl (tt, wt .1 .1 .1 .0) $
         sets ! 3 (of-opd ! (field ! 3 refl (sub ! 3 refl (whole !)))) refl (tt, wt .1 .1 .1 .1 .0) $
         sets ! 3 (agg ! (and-then ! (arg ! 3 refl) (and-then ! (arg ! 3 refl) (and-then ! (arg ! 3 refl) (no-more !))))) refl (tt, wt .1 .1) $
-        ends ! 3 (holds _ ∷ holds _ ∷ holds _ ∷ holds _ ∷ holds _ ∷ holds _ ∷ empty ∷ holds _ ∷ holds _ ∷ empty ∷ holds _ ∷ empty ∷ holds _ ∷ holds _ ∷ holds _ ∷ []) refl refl $
+        ends ! 3 (holds _ ∷ holds _ ∷ holds _ ∷ holds _ ∷ holds _ ∷ holds _ ∷ empty ∷ holds _ ∷ holds _
+        ∷ empty ∷ holds _ ∷ empty ∷ holds _ ∷ holds _ ∷ holds _ ∷ []) refl refl $
         by ! (exits (line (i .0)) g (position-is s (now h) x t (i .0) ∙ ap (positionAfter (s .now) (h .now) x t) (le-antisymm (i .1) (nltb→le (i .0) n over))))))
       where
         fits : (j : Upto n) → j .0 < 2 ^ 32
@@ -236,8 +242,10 @@ module _ {M : Type 1} (𝓤 : URA M) (H : Heap 𝓤) (A : Atoms 𝓤) (W : Given
         at-first r e = e .0 ∙ sym (after-none s (now h) x t)
 
   -- ---- the entry
-  walk : (𝓣 : Tables 𝓤 H) → FmC 𝓤 H (W .laws) (𝓣 .C) → Triple 𝓤 (𝓣 .C #lifeline-reader·start) (Start 𝓤 H A mem run) → Triple 𝓤 (𝓣 .C #lifeline-reader·step) (Step 𝓤 H A mem run)
-      → Are (typesAt (slots params) κs) (Ises (typesAt (slots params) κs)) a at → ent 𝓤 (onEntry 𝓤 H A after.signature κs qs a at) (WpFn 𝓤 H (𝓣 .C) (𝓣 .Λ) function args Post)
+  walk : (𝓣 : Tables 𝓤 H) → FmC 𝓤 H (W .laws) (𝓣 .C) → Triple 𝓤 (𝓣 .C #lifeline-reader·start) (Start 𝓤 H A mem run)
+      → Triple 𝓤 (𝓣 .C #lifeline-reader·step) (Step 𝓤 H A mem run)
+      → Are (typesAt (slots params) κs) (Ises (typesAt (slots params) κs)) a at
+      → ent 𝓤 (onEntry 𝓤 H A after.signature κs qs a at) (WpFn 𝓤 H (𝓣 .C) (𝓣 .Λ) function args Post)
   walk 𝓣 fm known-start known-step are =
       qed W (Had []) ∵ enters ! (𝓣 .C) (𝓣 .Λ) function args _ (all-typed 𝓤 H A (typesAt (slots params) κs) (all-lawful 𝓤 H A W κs params) a at are) (λ l.
       move ! (30 ∷ 31 ∷ []) $ by ! (begins 𝓣 fm known-start known-step (are .1 .1 .1 .1 .0 .1) l))
@@ -246,7 +254,8 @@ module _ {M : Type 1} (𝓤 : URA M) (H : Heap 𝓤) (A : Atoms 𝓤) (W : Given
   position-after-meets : Triple 𝓤 (𝓣 .C #lifeline-reader·start) (Start 𝓤 H A mem run) → Triple 𝓤 (𝓣 .C #lifeline-reader·step) (Step 𝓤 H A mem run)
       → Meets 𝓤 H A after.signature (WpFn 𝓤 H (𝓣 .C) (𝓣 .Λ) function) (after.spec 𝓤 H A mem run)
   position-after-meets known-start known-step =
-      meets-by 𝓤 H A W after.ended (stays params) (all-go 𝓤 H A W params) (after.clauses 𝓤 H A mem run) 𝓣 function (λ κs. spells κs params) (λ κs. all-told κs params)
+      meets-by 𝓤 H A W after.ended (stays params) (all-go 𝓤 H A W params) (after.clauses 𝓤 H A mem run) 𝓣 function
+      (λ κs. spells κs params) (λ κs. all-told κs params)
       (λ κs qs bounds a g are. via 𝓤 _ (fst∗ 𝓤 _ (emp 𝓤))
       (walk 𝓤 H A W mem run κs qs (a .0) (a .1 .0) (a .1 .1 .0) (a .1 .1 .1 .0) (a .1 .1 .1 .1 .0) 𝓣 (fmOf 𝓤 H (W .laws) 𝓣) known-start known-step are))
 
@@ -256,5 +265,7 @@ position-after-spec 𝓤 H 𝓜 𝓖 𝓡 =
     entered 𝓤 H (tripleOf 𝓤 H (𝓖 .A) after.signature (after.spec 𝓤 H (𝓖 .A) (𝓜 .mem) (𝓡 .run)))
     (tables 𝓤 H 𝓜 𝓡 code.env .C) (tables 𝓤 H 𝓜 𝓡 code.env .Λ) #lifeline-reader·position-after code.function (code.unfolded 𝓤 H 𝓜 𝓡)
     (position-after-meets 𝓤 H (𝓖 .A) (givenOf 𝓤 H 𝓜 𝓖) (𝓜 .mem) (𝓡 .run) (tablesOf 𝓤 H 𝓜 (tables 𝓤 H 𝓜 𝓡 code.env))
-    (cited 𝓤 H (Start 𝓤 H (𝓖 .A) (𝓜 .mem) (𝓡 .run)) 𝓜 𝓡 code.env #lifeline-reader·start start-def.routine code.calls-lifeline-reader·start (start-thm.met 𝓤 H 𝓜 𝓖 𝓡))
-    (cited 𝓤 H (Step 𝓤 H (𝓖 .A) (𝓜 .mem) (𝓡 .run)) 𝓜 𝓡 code.env #lifeline-reader·step step-def.routine code.calls-lifeline-reader·step (step-thm.met 𝓤 H 𝓜 𝓖 𝓡)))
+    (cited 𝓤 H (Start 𝓤 H (𝓖 .A) (𝓜 .mem) (𝓡 .run)) 𝓜 𝓡 code.env
+    #lifeline-reader·start start-def.routine code.calls-lifeline-reader·start (start-thm.met 𝓤 H 𝓜 𝓖 𝓡))
+    (cited 𝓤 H (Step 𝓤 H (𝓖 .A) (𝓜 .mem) (𝓡 .run)) 𝓜 𝓡 code.env
+    #lifeline-reader·step step-def.routine code.calls-lifeline-reader·step (step-thm.met 𝓤 H 𝓜 𝓖 𝓡)))

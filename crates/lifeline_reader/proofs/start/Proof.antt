@@ -100,7 +100,8 @@ module _ {M : Type 1} (𝓤 : URA M) (H : Heap 𝓤) (A : Atoms 𝓤) (W : Given
     exits : startMeaning r ≡ found → ent 𝓤 (⋆ 𝓤 H A Had) (Post (started-val made))
     exits e =
         qed W Had ∵
-        suffices ! _ (ends-at 𝓤 H A start.ended (stays params) (start.clauses 𝓤 H A mem run) W bound (started-val made) made (tt, (tt, (tt, (tt, tt)))) (tt, (tt, (tt, (tt, tt))))) $
+        suffices ! _ (ends-at 𝓤 H A start.ended (stays params) (start.clauses 𝓤 H A mem run) W bound (started-val made) made
+        (tt, (tt, (tt, (tt, tt)))) (tt, (tt, (tt, (tt, tt))))) $
         says ! (ap (λ (b : Start). lineAt s (b .position)) e, ap (λ (b : Start). b .check) e) $
         frame ! $ nothing ! $ passes ! kept 0 $ move ! (1 ∷ []) $ frame ! $ fsplit ! $ keep ! (0 ∷ []) $ by ! makes
 
@@ -124,9 +125,11 @@ module _ {M : Type 1} (𝓤 : URA M) (H : Heap 𝓤) (A : Atoms 𝓤) (W : Given
         ends ! 2 (holds _ ∷ holds _ ∷ holds _ ∷ holds _ ∷ holds _ ∷ holds _ ∷ holds _ ∷ []) refl refl $ by ! (exits r is e))))
 
 module _ {M : Type 1} (𝓤 : URA M) (H : Heap 𝓤) (A : Atoms 𝓤) (W : Given 𝓤 H A) (mem : Memory → SProp 𝓤) (run : Routine → Fun 𝓤) (𝓣 : Tables 𝓤 H) where
-  start-meets : Triple 𝓤 (𝓣 .C #lifeline·cohort·start-at) (StartAt 𝓤 H A mem run) → Meets 𝓤 H A start.signature (WpFn 𝓤 H (𝓣 .C) (𝓣 .Λ) code.function) (start.spec 𝓤 H A mem run)
+  start-meets : Triple 𝓤 (𝓣 .C #lifeline·cohort·start-at) (StartAt 𝓤 H A mem run)
+      → Meets 𝓤 H A start.signature (WpFn 𝓤 H (𝓣 .C) (𝓣 .Λ) code.function) (start.spec 𝓤 H A mem run)
   start-meets known =
-      meets-by 𝓤 H A W start.ended (stays params) (all-go 𝓤 H A W params) (start.clauses 𝓤 H A mem run) 𝓣 code.function (λ κs. spells κs params) (λ κs. all-told κs params)
+      meets-by 𝓤 H A W start.ended (stays params) (all-go 𝓤 H A W params) (start.clauses 𝓤 H A mem run) 𝓣 code.function
+      (λ κs. spells κs params) (λ κs. all-told κs params)
       (λ κs qs bounds a g are. via 𝓤 _ (fst∗ 𝓤 _ (emp 𝓤))
       (walk 𝓤 H A W mem run κs qs (a .0) (a .1 .0) (a .1 .1 .0) (a .1 .1 .1 .0) (𝓣 .C) (𝓣 .Λ) (fmOf 𝓤 H (W .laws) 𝓣) known are))
 
@@ -136,4 +139,5 @@ start-spec 𝓤 H 𝓜 𝓖 𝓡 =
     entered 𝓤 H (tripleOf 𝓤 H (𝓖 .A) start.signature (start.spec 𝓤 H (𝓖 .A) (𝓜 .mem) (𝓡 .run)))
     (tables 𝓤 H 𝓜 𝓡 code.env .C) (tables 𝓤 H 𝓜 𝓡 code.env .Λ) #lifeline-reader·start code.function (code.unfolded 𝓤 H 𝓜 𝓡)
     (start-meets 𝓤 H (𝓖 .A) (givenOf 𝓤 H 𝓜 𝓖) (𝓜 .mem) (𝓡 .run) (tablesOf 𝓤 H 𝓜 (tables 𝓤 H 𝓜 𝓡 code.env))
-    (cited 𝓤 H (StartAt 𝓤 H (𝓖 .A) (𝓜 .mem) (𝓡 .run)) 𝓜 𝓡 code.env #lifeline·cohort·start-at start-at-def.routine code.calls-lifeline·cohort·start-at (start-at-thm.met 𝓤 H 𝓜 𝓖 𝓡)))
+    (cited 𝓤 H (StartAt 𝓤 H (𝓖 .A) (𝓜 .mem) (𝓡 .run)) 𝓜 𝓡 code.env
+    #lifeline·cohort·start-at start-at-def.routine code.calls-lifeline·cohort·start-at (start-at-thm.met 𝓤 H 𝓜 𝓖 𝓡)))

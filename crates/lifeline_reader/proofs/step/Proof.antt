@@ -45,7 +45,8 @@ abbrev α : Lfts 2 → NamedLft
 
 abbrev params : List (Param 2)
 params =
-    row (λ κs. L.the-row (α κs)) (λ κs x f. refl) (λ κs. LL.vals (L.the-type (α κs)) (L′.the-laws (α κs))) (λ κs. LL.tells (L.the-type (α κs)) (L′.the-laws (α κs)))
+    row (λ κs. L.the-row (α κs)) (λ κs x f. refl) (λ κs. LL.vals (L.the-type (α κs)) (L′.the-laws (α κs)))
+    (λ κs. LL.tells (L.the-type (α κs)) (L′.the-laws (α κs)))
     (λ M 𝓤 H A W κs. LL.lawful (L.the-type (α κs)) (L′.the-laws (α κs)) 𝓤 H A W) ∷ lent 1 tt u8 ∷ []
 
 -- the contract that the proof cites
@@ -105,7 +106,8 @@ module _ {M : Type 1} (𝓤 : URA M) (H : Heap 𝓤) (A : Atoms 𝓤) (W : Given
     makes : ent 𝓤 (sem 𝓤 H A Run) (sem 𝓤 H A (S.the-row (α κs) .own made (stepped-val made ∷ [])))
     makes =
         let had = LL.owed B.the-type B′.the-laws r _ is in
-        qed W (‵ Run ∷ []) ∵ use1 W (‵ (L.the-row (α κs) .own (made .line) (L′.lowered (made .line) ∷ []))) (line-made 𝓤 H A W (κs .0) (d .run) (r .position) _ (had .0)) $
+        qed W (‵ Run ∷ []) ∵ use1 W (‵ (L.the-row (α κs) .own (made .line) (L′.lowered (made .line) ∷ [])))
+        (line-made 𝓤 H A W (κs .0) (d .run) (r .position) _ (had .0)) $
         nothing ! $ owned-by ! F.the-row (Is F.the-row) (EL.makes F.the-type F′.the-plain 𝓤 H A) (r .status) _ (had .1 .0) $ fjoin ! $ move ! (1 ∷ 0 ∷ []) $ fjoin ! $
         by ! (own-shut 𝓤 H A W (S.the-type (α κs)) (S′.the-laws (α κs)) (made .line, (r .status, tt)))
 
@@ -133,7 +135,8 @@ module _ {M : Type 1} (𝓤 : URA M) (H : Heap 𝓤) (A : Atoms 𝓤) (W : Given
         -- [true; what the parameters own; what the run owns; the tokens; the locals]
         owned-by ! P.the-row (Is P.the-row) (LL.makes P.the-type P′.the-plain 𝓤 H A) (positionOf d) _ (LL.owes P.the-type P′.the-laws (positionOf d) had) $ fjoin ! $
         passes ! kept 1 $ move ! (2 ∷ 0 ∷ []) $ fjoin ! $ move ! (2 ∷ 0 ∷ []) $
-        calls-met ! fm step-at.ended (step-at.clauses 𝓤 H A mem run) known to (id⊢ 𝓤 _) (and-then ! (arg ! 2 refl) (and-then ! (arg ! 2 refl) (and-then ! (arg ! 2 refl) (no-more !))))
+        calls-met ! fm step-at.ended (step-at.clauses 𝓤 H A mem run) known to (id⊢ 𝓤 _)
+        (and-then ! (arg ! 2 refl) (and-then ! (arg ! 2 refl) (and-then ! (arg ! 2 refl) (no-more !))))
         answer-val (LL.tells B.the-type B′.the-laws) (λ r is ws. heard ! (stepMeaning r ≡ found) (λ e. drop ! $ drop ! $
         -- [the tokens; what the parameters own; the locals]
         let got = LL.lawful B.the-type B′.the-laws 𝓤 H A W .typed r _ is .0 in
@@ -143,13 +146,17 @@ module _ {M : Type 1} (𝓤 : URA M) (H : Heap 𝓤) (A : Atoms 𝓤) (W : Given
         (and-then ! (inner ! 2 refl refl (sub ! 1 refl (sub ! 0 refl (whole !)))) (and-then ! (inner ! 2 refl refl (sub ! 2 refl (sub ! 0 refl (whole !)))) (no-more !))))))
         refl (tt, (wt .1 .0, got .1 .0)) $
         sets ! 2 (agg ! (and-then ! (arg ! 2 refl) (and-then ! (field ! 2 refl (sub ! 1 refl (whole !))) (no-more !)))) refl (got .0, ((wt .1 .0, got .1 .0), (got .1 .1 .0, tt))) $
-        ends ! 2 (holds _ ∷ holds _ ∷ holds _ ∷ holds _ ∷ holds _ ∷ holds _ ∷ holds _ ∷ holds _ ∷ holds _ ∷ holds _ ∷ holds _ ∷ []) refl refl $ by ! (exits r is e))))
+        ends ! 2 (holds _ ∷ holds _ ∷ holds _ ∷ holds _ ∷ holds _ ∷ holds _ ∷ holds _ ∷ holds _ ∷ holds _ ∷ holds _ ∷ holds _ ∷ []) refl refl $
+        by ! (exits r is e))))
 
 module _ {M : Type 1} (𝓤 : URA M) (H : Heap 𝓤) (A : Atoms 𝓤) (W : Given 𝓤 H A) (mem : Memory → SProp 𝓤) (run : Routine → Fun 𝓤) (𝓣 : Tables 𝓤 H) where
-  step-meets : Triple 𝓤 (𝓣 .C #lifeline·cohort·step-at) (StepAt 𝓤 H A mem run) → Meets 𝓤 H A step.signature (WpFn 𝓤 H (𝓣 .C) (𝓣 .Λ) code.function) (step.spec 𝓤 H A mem run)
+  step-meets : Triple 𝓤 (𝓣 .C #lifeline·cohort·step-at) (StepAt 𝓤 H A mem run)
+      → Meets 𝓤 H A step.signature (WpFn 𝓤 H (𝓣 .C) (𝓣 .Λ) code.function) (step.spec 𝓤 H A mem run)
   step-meets known =
-      meets-by 𝓤 H A W step.ended (stays params) (all-go 𝓤 H A W params) (step.clauses 𝓤 H A mem run) 𝓣 code.function (λ κs. spells κs params) (λ κs. all-told κs params)
-      (λ κs qs bounds a g are. via 𝓤 _ (fst∗ 𝓤 _ (emp 𝓤)) (walk 𝓤 H A W mem run κs qs (a .0) (a .1 .0) (𝓣 .C) (𝓣 .Λ) (fmOf 𝓤 H (W .laws) 𝓣) known are))
+      meets-by 𝓤 H A W step.ended (stays params) (all-go 𝓤 H A W params) (step.clauses 𝓤 H A mem run) 𝓣 code.function
+      (λ κs. spells κs params) (λ κs. all-told κs params)
+      (λ κs qs bounds a g are. via 𝓤 _ (fst∗ 𝓤 _ (emp 𝓤))
+      (walk 𝓤 H A W mem run κs qs (a .0) (a .1 .0) (𝓣 .C) (𝓣 .Λ) (fmOf 𝓤 H (W .laws) 𝓣) known are))
 
 pub step-spec : {M : Type 1} → stated.statement M
 unfolding code.routine tablesOf
@@ -157,4 +164,5 @@ step-spec 𝓤 H 𝓜 𝓖 𝓡 =
     entered 𝓤 H (tripleOf 𝓤 H (𝓖 .A) step.signature (step.spec 𝓤 H (𝓖 .A) (𝓜 .mem) (𝓡 .run)))
     (tables 𝓤 H 𝓜 𝓡 code.env .C) (tables 𝓤 H 𝓜 𝓡 code.env .Λ) #lifeline-reader·step code.function (code.unfolded 𝓤 H 𝓜 𝓡)
     (step-meets 𝓤 H (𝓖 .A) (givenOf 𝓤 H 𝓜 𝓖) (𝓜 .mem) (𝓡 .run) (tablesOf 𝓤 H 𝓜 (tables 𝓤 H 𝓜 𝓡 code.env))
-    (cited 𝓤 H (StepAt 𝓤 H (𝓖 .A) (𝓜 .mem) (𝓡 .run)) 𝓜 𝓡 code.env #lifeline·cohort·step-at step-at-def.routine code.calls-lifeline·cohort·step-at (step-at-thm.met 𝓤 H 𝓜 𝓖 𝓡)))
+    (cited 𝓤 H (StepAt 𝓤 H (𝓖 .A) (𝓜 .mem) (𝓡 .run)) 𝓜 𝓡 code.env
+    #lifeline·cohort·step-at step-at-def.routine code.calls-lifeline·cohort·step-at (step-at-thm.met 𝓤 H 𝓜 𝓖 𝓡)))
