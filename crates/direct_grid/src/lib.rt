@@ -18,7 +18,7 @@ fn answer_all(run: &[u8], history: &[u8], records: [Point; 119]) -> [Point; 119]
     let mut points = records;
     let mut i: usize = 0;
     while i < n {
-        points[i] = grid_record::answered(run, history, points[i]);
+        points[i] = grid_record::direct_record(run, history, points[i]);
         i += 1;
     }
     points

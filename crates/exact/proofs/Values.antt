@@ -31,7 +31,8 @@ pub quarters-more : {v : ℤ} {q : Fraction} {m n : ℕ} → WithinQuarters v q 
 quarters-more {q = q} h k = record { proper = h .proper; near = omega (arith, h .near, mul-le-mul-right (q .den) k) }
 
 -- a sum of outcomes is as far from the exact sum as its terms are together
-total-within : (term : ℕ → Outcome ℤ) (exact : ℕ → Fraction) (m : ℕ → ℕ) (n : ℕ) → ((k : ℕ) (t : ℤ) → k < n → term k ≡ value t → Within t (exact k) (m k)) →
+total-within : (term : ℕ → Outcome ℤ) (exact : ℕ → Fraction) (m : ℕ → ℕ) (n : ℕ) →
+    ((k : ℕ) (t : ℤ) → k < n → term k ≡ value t → Within t (exact k) (m k)) →
     (total : ℤ) → sumOf term n ≡ value total → Within total (sumᶠ exact n) (sumℕ m n)
 unfolding sumOf
 total-within term exact m n near total h =

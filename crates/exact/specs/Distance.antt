@@ -70,7 +70,8 @@ pub record Demand3 (run history : List ℕ) : Type 0 where
   pub rate : (age year : ℕ) (q : ℤ) → rateEnquiry run history age year ≡ value q → Improving (basisWith run history) age year →
       Within q (exactRate (basisWith run history) age year) (rateDistance (basisWith run history) (yearsTo (basisWith run history) year))
   -- survivorship after n years 2d ≤ 2n(K + 1)
-  pub survivorship : (kind : Kind) (age n year : ℕ) (s : ℤ) → survivorshipEnquiry run history kind age n year ≡ value s → ImprovingOver (basisWith run history) kind age n year →
+  pub survivorship : (kind : Kind) (age n year : ℕ) (s : ℤ) → survivorshipEnquiry run history kind age n year ≡ value s →
+      ImprovingOver (basisWith run history) kind age n year →
       let K = largestYears (basisWith run history) kind n year in
       Within s (exactSurvivors (basisWith run history) kind age n year) (survivorsDistance n (rateDistance (basisWith run history) K))
   -- expectation 4d ≤ 2N(N + 1)(K + 1), N = 150 − age − deferment

@@ -37,7 +37,8 @@ module _ (b : Basis) where
   answers-set (suc i) (p ∷ points) past h = ap (λ (rest : List Point). answeredOf b p ∷ rest) (answers-set i points past (le-of-suc-le-suc h))
 
 -- the list after the grid is that with as many records answered as its checks say
-pub grid-is : (run history : List ℕ) (points : List Point) → answers (basisWith run history) (recordsOf (gridCheck run history (length points))) points ≡ gridOf run history points
+pub grid-is : (run history : List ℕ) (points : List Point)
+    → answers (basisWith run history) (recordsOf (gridCheck run history (length points))) points ≡ gridOf run history points
 unfolding gridOf
 grid-is run history points = refl
 

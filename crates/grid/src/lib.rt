@@ -63,7 +63,7 @@ fn fill_records(run: &[u8], history: &[u8], table: &[u32], n: usize, points: &mu
 {
     let mut i: usize = 0;
     while i < n {
-        points[i] = swept_points::points::answered(run, history, table, points[i]);
+        points[i] = swept_points::points::swept_record(run, history, table, points[i]);
         i = i + 1;
     }
 }

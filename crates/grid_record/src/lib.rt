@@ -33,7 +33,7 @@ pub fn recorded(p: Point, a: PointAnswer) -> Point
     }
 }
 
-pub fn answered(run: &[u8], history: &[u8], p: Point) -> Point
+pub fn direct_record(run: &[u8], history: &[u8], p: Point) -> Point
     requires { ⌜ Workable (now run) (now history) ⌝ }
     ensures { λ r. ⌜ r ≡ answeredOf (basisWith (now (run .entry)) (now (history .entry))) p ⌝ }
 {

@@ -26,7 +26,8 @@ use Rattle.handed_out.specs.HandedOut.{AnnuityNear}
 use Rattle.handed_out.proofs.Natural.{Natural, expectation-natural, annuity-natural}
 
 -- what holds of every value holds of the number in the answer
-pub handed : (P : ℤ → Type 0) (work : Outcome ℤ) → RefusedBy numbers work → ((v : ℤ) → work ≡ value v → Natural v) → ((v : ℤ) → work ≡ value v → P v) →
+pub handed : (P : ℤ → Type 0) (work : Outcome ℤ) → RefusedBy numbers work →
+    ((v : ℤ) → work ≡ value v → Natural v) → ((v : ℤ) → work ≡ value v → P v) →
     answerOf work .refusal .number ≡ 0 → P (pos (answerOf work .value))
 handed P work numbered natural near none = near (pos (answerOf work .value)) (value-handed work numbered natural none)
 
@@ -75,11 +76,13 @@ module _ (run history : List ℕ) where
 
     -- ---- work that passes the checks of its enquiry is its answer
     module _ (p : valuationCheck run history age deferment year ≡ passed) where
-      pub survivorship-asked : (s : ℤ) → survivorsOf (basisWith run history) kind age deferment year ≡ value s → survivorshipEnquiry run history kind age deferment year ≡ value s
+      pub survivorship-asked : (s : ℤ) → survivorsOf (basisWith run history) kind age deferment year ≡ value s
+          → survivorshipEnquiry run history kind age deferment year ≡ value s
       unfolding survivorshipEnquiry
       survivorship-asked s h = rw (p, h) refl
 
-      pub expectation-asked : (e : ℤ) → expectationOf (basisWith run history) kind age deferment year ≡ value e → expectationEnquiry run history kind age deferment year ≡ value e
+      pub expectation-asked : (e : ℤ) → expectationOf (basisWith run history) kind age deferment year ≡ value e
+          → expectationEnquiry run history kind age deferment year ≡ value e
       unfolding expectationEnquiry
       expectation-asked e h = rw (p, h) refl
 

@@ -74,4 +74,5 @@ module _ (run history : List ℕ) (age year : ℕ) where
       let h = started unrefused in
       let s = steps-are-survivorship run history age year n h a in
       let answer = survivorship-asked run history Cohort age n year (asked n h a) (pos (s .0)) (s .2) in
-      rw (ap (λ (x : Position). x .survivors) (s .1)) (λ improving. within-more (demand-3 run history .survivorship Cohort age n year (pos (s .0)) answer improving) (omega arith))
+      rw (ap (λ (x : Position). x .survivors) (s .1))
+      (λ improving. within-more (demand-3 run history .survivorship Cohort age n year (pos (s .0)) answer improving) (omega arith))

@@ -85,7 +85,8 @@ module _ (run history : List ℕ) (accepted : runAndHistoryCheck run history ≡
         cohortAnnuity = annuity-of (q .age) (q .deferment) (q .year) (w .0) Cohort (four .3) _ (four .7) (ap (λ (l : List ℕ). getD l 3 0) same);
       }
 
-  pub point-near : (q : Question) → pointOf (basisWith run history) q .refusal .number ≡ 0 → ResultsNear (basisWith run history) q (pointOf (basisWith run history) q .results)
+  pub point-near : (q : Question) → pointOf (basisWith run history) q .refusal .number ≡ 0
+      → ResultsNear (basisWith run history) q (pointOf (basisWith run history) q .results)
   unfolding pointOf
   point-near q answered =
       let w = zero-is-none .point (workOn (basisWith run history) q) (numbered-refusals run history .point q .0) answered in

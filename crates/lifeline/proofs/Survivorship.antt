@@ -39,7 +39,8 @@ module _ (run history : List ℕ) (age year : ℕ) where
   years-on n s = positionAt (age + n) (year + n) s
 
   -- the next step, from the position that the steps so far have come to
-  after-suc : (n : ℕ) (p : Position) (s : Step) → positionAfter run history age year n ≡ p → stepAt run history p ≡ s → positionAfter run history age year (suc n) ≡ s .position
+  after-suc : (n : ℕ) (p : Position) (s : Step)
+      → positionAfter run history age year n ≡ p → stepAt run history p ≡ s → positionAfter run history age year (suc n) ≡ s .position
   unfolding positionAfter
   after-suc n p s h e = ap (λ (x : Position). stepAt run history x .position) h ∙ ap (λ (x : Step). x .position) e
 
@@ -81,7 +82,8 @@ module _ (run history : List ℕ) (age year : ℕ) where
       step-year run history (years-on k s) passes (ne-eqb (age + k) 150 (λ g. omega (arith, v .age-high)))
       ∙ ap (yearLater (years-on k s)) (sym (survivors-next (basisWith run history) Cohort age k year (pos s) _ refl e refl))
 
-  and-one : (k : ℕ) → Advances run history age year k → stepAt run history (positionAfter run history age year k) .says ≡ value advanced → Advances run history age year (suc k)
+  and-one : (k : ℕ) → Advances run history age year k
+      → stepAt run history (positionAfter run history age year k) .says ≡ value advanced → Advances run history age year (suc k)
   and-one k before last j l = by (decLt j k)
     where
       by : Dec (j < k) → stepAt run history (positionAfter run history age year j) .says ≡ value advanced

@@ -32,7 +32,8 @@ module _ {M : Type 1} (𝓤 : URA M) (H : Heap 𝓤) (A : Atoms 𝓤) (W : Given
   abbrev Own : Fml
   Own = ShrSlice (named 0) κ u8 .own s (sliceVal (s .ptr) (length (s .now)) ∷ [])
 
-  pub line-made : (p : Position) (vs : List Val) → Is P.the-row p vs → ent 𝓤 (sem 𝓤 H A Own) (sem 𝓤 H A (L.the-row α .own (lineAt s p) (L′.lowered (lineAt s p) ∷ [])))
+  pub line-made : (p : Position) (vs : List Val) → Is P.the-row p vs
+      → ent 𝓤 (sem 𝓤 H A Own) (sem 𝓤 H A (L.the-row α .own (lineAt s p) (L′.lowered (lineAt s p) ∷ [])))
   line-made p vs is =
       let had = LL.owed P.the-type P′.the-laws p vs is in
       qed W (‵ Own ∷ []) ∵ nothing ! $ number ! w64 (p .survivors) (had .1 .1 .0 .1) $ number ! w32 (p .year) (had .1 .0 .1) $ number ! w32 (p .age) (had .0 .1) $

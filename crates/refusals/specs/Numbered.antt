@@ -64,7 +64,8 @@ pub record NumberedRefusals (run history : List ℕ) : Type 0 where
   -- the small set and the grid, each as a whole; then a point and a record
   pub smallSet : (questions : Questions) → smallSetOf run history questions .refusal ≡ refusalOf (runAndHistoryCheck run history)
   pub grid : (count : ℕ) → RefusesBy numbers (gridCheck run history count)
-  pub point : (q : Question) → RefusedBy recordNumbers (workOn (basisWith run history) q) × (pointOf (basisWith run history) q ≡ pointAnswerOf (workOn (basisWith run history) q))
+  pub point : (q : Question) →
+      RefusedBy recordNumbers (workOn (basisWith run history) q) × (pointOf (basisWith run history) q ≡ pointAnswerOf (workOn (basisWith run history) q))
   pub gridRecord : (p : Point) → answeredOf (basisWith run history) p .refusal ≡ pointOf (basisWith run history) (questionOf p) .refusal .number
   -- a lifeline's start and step
   pub start : (age year : ℕ) → RefusesBy numbers (startAt run history age year .check)

@@ -104,7 +104,7 @@ pub fn swept_point(run: &[u8], history: &[u8], table: &[u32], q: Question) -> Po
 }
 
 // A record of the grid with its answer in place of what it held.
-pub fn answered(run: &[u8], history: &[u8], table: &[u32], p: Point) -> Point
+pub fn swept_record(run: &[u8], history: &[u8], table: &[u32], p: Point) -> Point
     requires { ⌜ Tabled (now run) (now history) (now table) ⌝ }
     ensures { λ r. ⌜ r ≡ answeredOf (basisWith (now (run .entry)) (now (history .entry))) p ⌝ }
 {

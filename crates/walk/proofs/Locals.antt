@@ -80,7 +80,7 @@ module _ {M : Type 1} (𝓤 : URA M) (H : Heap 𝓤) (A : Atoms 𝓤) where
   apart (e ∷ E) [] Γ Δ = apart E [] (‵ (froom (e .0) (e .1) 0) ∷ ‵ (fdies (e .0) (e .1)) ∷ Γ) Δ
   apart (e ∷ E) (c ∷ cs) Γ Δ = apart E cs (‵ (cell (e .0) (e .1) c) ∷ ‵ (fdies (e .0) (e .1)) ∷ Γ) Δ
 
-  swap : (P Q R : SProp 𝓤) → ent 𝓤 (sep 𝓤 P (sep 𝓤 Q R)) (sep 𝓤 Q (sep 𝓤 P R))
+  pub swap : (P Q R : SProp 𝓤) → ent 𝓤 (sep 𝓤 P (sep 𝓤 Q R)) (sep 𝓤 Q (sep 𝓤 P R))
   swap P Q R = via 𝓤 (sep 𝓤 (sep 𝓤 P Q) R) (assoc′ 𝓤 P Q R) (via 𝓤 (sep 𝓤 (sep 𝓤 Q P) R) (monoL 𝓤 R (comm∗ 𝓤 P Q)) (assoc∗ 𝓤 Q P R))
 
   turned : (Δ Γ : List (Item 𝓤)) → ent 𝓤 (⋆ 𝓤 H A (Δ ++ Γ)) (⋆ 𝓤 H A (Γ ++ Δ))
@@ -107,7 +107,8 @@ module _ {M : Type 1} (𝓤 : URA M) (H : Heap 𝓤) (A : Atoms 𝓤) where
         (monoR 𝓤 (sem 𝓤 H A (cell τ b c)) (via 𝓤 (sep 𝓤 (H .dies τ b) (⋆ 𝓤 H A Γ)) (pop 𝓤 H A (‵ (fdies τ b)) Γ) (monoR 𝓤 (H .dies τ b) h)))
         (via 𝓤 (sep 𝓤 (H .room τ b 0) (sep 𝓤 (H .dies τ b) P)) (monoL 𝓤 (sep 𝓤 (H .dies τ b) P) (room τ b c)) (assoc′ 𝓤 (H .room τ b 0) (H .dies τ b) P))
 
-    behind : (τ : Ty) (b : ℕ) (c c′ : Content) (Γ Γ′ : List (Item 𝓤)) → ent 𝓤 (sem 𝓤 H A (cell τ b c)) (sem 𝓤 H A (cell τ b c′)) → ent 𝓤 (⋆ 𝓤 H A Γ) (⋆ 𝓤 H A Γ′)
+    behind : (τ : Ty) (b : ℕ) (c c′ : Content) (Γ Γ′ : List (Item 𝓤))
+        → ent 𝓤 (sem 𝓤 H A (cell τ b c)) (sem 𝓤 H A (cell τ b c′)) → ent 𝓤 (⋆ 𝓤 H A Γ) (⋆ 𝓤 H A Γ′)
         → ent 𝓤 (⋆ 𝓤 H A (‵ (cell τ b c) ∷ ‵ (fdies τ b) ∷ Γ)) (⋆ 𝓤 H A (‵ (cell τ b c′) ∷ ‵ (fdies τ b) ∷ Γ′))
     behind τ b c c′ Γ Γ′ g h =
         via 𝓤 (sep 𝓤 (sem 𝓤 H A (cell τ b c′)) (⋆ 𝓤 H A (‵ (fdies τ b) ∷ Γ))) (monoL 𝓤 (⋆ 𝓤 H A (‵ (fdies τ b) ∷ Γ)) g)
@@ -115,7 +116,8 @@ module _ {M : Type 1} (𝓤 : URA M) (H : Heap 𝓤) (A : Atoms 𝓤) where
         (via 𝓤 (sep 𝓤 (H .dies τ b) (⋆ 𝓤 H A Γ)) (pop 𝓤 H A (‵ (fdies τ b)) Γ)
         (via 𝓤 (sep 𝓤 (H .dies τ b) (⋆ 𝓤 H A Γ′)) (monoR 𝓤 (H .dies τ b) h) (push 𝓤 H A (‵ (fdies τ b)) Γ′))))
 
-    all-freed : (E : Env 𝓤 H) (cs : List Content) (Γ : List (Item 𝓤)) (P : SProp 𝓤) → ent 𝓤 (⋆ 𝓤 H A Γ) P → ent 𝓤 (⋆ 𝓤 H A (locals E cs Γ)) (release 𝓤 H E P)
+    all-freed : (E : Env 𝓤 H) (cs : List Content) (Γ : List (Item 𝓤)) (P : SProp 𝓤)
+        → ent 𝓤 (⋆ 𝓤 H A Γ) P → ent 𝓤 (⋆ 𝓤 H A (locals E cs Γ)) (release 𝓤 H E P)
     all-freed [] cs Γ P h = h
     all-freed (e ∷ E) [] Γ P h =
         let X : SProp 𝓤 = sep 𝓤 (H .room (e .0) (e .1) 0) (H .dies (e .0) (e .1)) in
@@ -133,21 +135,26 @@ module _ {M : Type 1} (𝓤 : URA M) (H : Heap 𝓤) (A : Atoms 𝓤) where
     emptied (e ∷ E) [] (c ∷ temps) Γ Γ′ h = emptied E [] temps _ _ (behind (e .0) (e .1) c empty Γ Γ′ (room (e .0) (e .1) c) h)
 
     -- ---- the arguments stored
-    out : (E : Env 𝓤 H) (cs : List Content) (i : Item 𝓤) (Γ : List (Item 𝓤)) → ent 𝓤 (⋆ 𝓤 H A (locals E cs (i ∷ Γ))) (sep 𝓤 (mean 𝓤 H A i) (⋆ 𝓤 H A (locals E cs Γ)))
+    out : (E : Env 𝓤 H) (cs : List Content) (i : Item 𝓤) (Γ : List (Item 𝓤))
+        → ent 𝓤 (⋆ 𝓤 H A (locals E cs (i ∷ Γ))) (sep 𝓤 (mean 𝓤 H A i) (⋆ 𝓤 H A (locals E cs Γ)))
     out E cs i Γ =
         subst (λ (Δ : List (Item 𝓤)). ent 𝓤 (⋆ 𝓤 H A Δ) (sep 𝓤 (mean 𝓤 H A i) (⋆ 𝓤 H A (locals E cs Γ)))) (apart E cs [] (i ∷ Γ))
         (via 𝓤 (⋆ 𝓤 H A (i ∷ Γ ++ locals E cs [])) (turned (locals E cs []) (i ∷ Γ))
         (via 𝓤 (sep 𝓤 (mean 𝓤 H A i) (⋆ 𝓤 H A (Γ ++ locals E cs []))) (pop 𝓤 H A i (Γ ++ locals E cs []))
-        (monoR 𝓤 (mean 𝓤 H A i) (subst (λ (Δ : List (Item 𝓤)). ent 𝓤 (⋆ 𝓤 H A (Γ ++ locals E cs [])) (⋆ 𝓤 H A Δ)) (apart E cs [] Γ) (turned Γ (locals E cs []))))))
+        (monoR 𝓤 (mean 𝓤 H A i) (subst (λ (Δ : List (Item 𝓤)). ent 𝓤 (⋆ 𝓤 H A (Γ ++ locals E cs [])) (⋆ 𝓤 H A Δ))
+        (apart E cs [] Γ) (turned Γ (locals E cs []))))))
 
-    back-in : (E : Env 𝓤 H) (cs : List Content) (i : Item 𝓤) (Γ : List (Item 𝓤)) → ent 𝓤 (sep 𝓤 (mean 𝓤 H A i) (⋆ 𝓤 H A (locals E cs Γ))) (⋆ 𝓤 H A (locals E cs (i ∷ Γ)))
+    back-in : (E : Env 𝓤 H) (cs : List Content) (i : Item 𝓤) (Γ : List (Item 𝓤))
+        → ent 𝓤 (sep 𝓤 (mean 𝓤 H A i) (⋆ 𝓤 H A (locals E cs Γ))) (⋆ 𝓤 H A (locals E cs (i ∷ Γ)))
     back-in E cs i Γ =
         subst (λ (Δ : List (Item 𝓤)). ent 𝓤 (sep 𝓤 (mean 𝓤 H A i) (⋆ 𝓤 H A (locals E cs Γ))) (⋆ 𝓤 H A Δ)) (apart E cs [] (i ∷ Γ))
         (via 𝓤 (sep 𝓤 (mean 𝓤 H A i) (⋆ 𝓤 H A (Γ ++ locals E cs [])))
-        (monoR 𝓤 (mean 𝓤 H A i) (subst (λ (Δ : List (Item 𝓤)). ent 𝓤 (⋆ 𝓤 H A Δ) (⋆ 𝓤 H A (Γ ++ locals E cs []))) (apart E cs [] Γ) (turned (locals E cs []) Γ)))
+        (monoR 𝓤 (mean 𝓤 H A i) (subst (λ (Δ : List (Item 𝓤)). ent 𝓤 (⋆ 𝓤 H A Δ) (⋆ 𝓤 H A (Γ ++ locals E cs [])))
+        (apart E cs [] Γ) (turned (locals E cs []) Γ)))
         (via 𝓤 (⋆ 𝓤 H A (i ∷ Γ ++ locals E cs [])) (push 𝓤 H A i (Γ ++ locals E cs [])) (turned (i ∷ Γ) (locals E cs []))))
 
-    all-stored : (ls : List Local) (l : ℕ → ℕ) (vs : List Val) (Γ : List (Item 𝓤)) (P : SProp 𝓤) → Typed ls vs → ent 𝓤 (⋆ 𝓤 H A (locals (blocks ls l) (holding vs) Γ)) P
+    all-stored : (ls : List Local) (l : ℕ → ℕ) (vs : List Val) (Γ : List (Item 𝓤)) (P : SProp 𝓤)
+        → Typed ls vs → ent 𝓤 (⋆ 𝓤 H A (locals (blocks ls l) (holding vs) Γ)) P
         → ent 𝓤 (⋆ 𝓤 H A (locals (blocks ls l) [] Γ)) (pass 𝓤 H (blocks ls l) vs P)
     all-stored [] l [] Γ P ts h = h
     all-stored (local τ x ∷ ls) l [] Γ P ts h = h
@@ -160,7 +167,8 @@ module _ {M : Type 1} (𝓤 : URA M) (H : Heap 𝓤) (A : Atoms 𝓤) where
         (via 𝓤 (sep 𝓤 (H .room τ (l 0) 0) rest) (out E [] (‵ (froom τ (l 0) 0)) (‵ (fdies τ (l 0)) ∷ Γ))
         (monoR 𝓤 (H .room τ (l 0) 0) (wandI 𝓤 rest at (pass 𝓤 H E vs P)
         (via 𝓤 (sep 𝓤 at rest) (comm∗ 𝓤 rest at)
-        (via 𝓤 (⋆ 𝓤 H A (locals E [] (‵ (fat fullShare τ (l 0) 0 v) ∷ ‵ (fdies τ (l 0)) ∷ Γ))) (back-in E [] (‵ (fat fullShare τ (l 0) 0 v)) (‵ (fdies τ (l 0)) ∷ Γ))
+        (via 𝓤 (⋆ 𝓤 H A (locals E [] (‵ (fat fullShare τ (l 0) 0 v) ∷ ‵ (fdies τ (l 0)) ∷ Γ)))
+        (back-in E [] (‵ (fat fullShare τ (l 0) 0 v)) (‵ (fdies τ (l 0)) ∷ Γ))
         (all-stored ls (λ i. l (suc i)) vs _ P (ts .1) h))))))
         (guardI 𝓤 (T (hasTy τ v) × WT v) (sep 𝓤 (H .room τ (l 0) 0) (wand 𝓤 at (pass 𝓤 H E vs P))) (ts .0))
 
@@ -208,7 +216,8 @@ module _ {M : Type 1} {𝓤 : URA M} {H : Heap 𝓤} {A : Atoms 𝓤} {K : Type 
     empties t n E kept temps {G} e = step (λ s. record {
       prf = subst (λ (Δ : List (Item 𝓤)). ent 𝓤 (⋆ 𝓤 H A Δ) (aim 𝓤 H G)) (front-back n Γ)
           (subst (λ (Δ : List (Item 𝓤)). ent 𝓤 (⋆ 𝓤 H A (front n Γ ++ Δ)) (aim 𝓤 H G)) (sym e)
-          (via 𝓤 (sep 𝓤 (⋆ 𝓤 H A (front n Γ)) (⋆ 𝓤 H A (locals 𝓤 H A E (kept ++ temps) []))) (⊢++ 𝓤 H A (front n Γ) (locals 𝓤 H A E (kept ++ temps) []))
+          (via 𝓤 (sep 𝓤 (⋆ 𝓤 H A (front n Γ)) (⋆ 𝓤 H A (locals 𝓤 H A E (kept ++ temps) [])))
+          (⊢++ 𝓤 H A (front n Γ) (locals 𝓤 H A E (kept ++ temps) []))
           (via 𝓤 (sep 𝓤 (⋆ 𝓤 H A (front n Γ)) (⋆ 𝓤 H A (locals 𝓤 H A E kept [])))
           (monoR 𝓤 (⋆ 𝓤 H A (front n Γ)) (emptied 𝓤 H A W E kept temps [] [] (id⊢ 𝓤 (⋆ 𝓤 H A []))))
           (via 𝓤 (⋆ 𝓤 H A (front n Γ ++ locals 𝓤 H A E kept [])) (++⊢ 𝓤 H A (front n Γ) (locals 𝓤 H A E kept [])) (s .prf)))));

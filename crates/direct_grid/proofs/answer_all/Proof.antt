@@ -35,18 +35,18 @@ loop-holds c =
       s .good .1 .1 .0 .1 .0 .1,
     )
 
-mul-answered : tie.Need-mul-answered Inv-loop μ-loop
-mul-answered c =
+mul-direct-record : tie.Need-mul-direct-record Inv-loop μ-loop
+mul-direct-record c =
     let a = c .before .before .before .before .before .args in
     record { fits = omega (arith, c .before .loop .inv .1, records-fit (a .run .now) (a .history .now) 119) }
 
-array-copy-out-answered : tie.Need-array-copy-out-answered Inv-loop μ-loop
-array-copy-out-answered c =
+array-copy-out-direct-record : tie.Need-array-copy-out-direct-record Inv-loop μ-loop
+array-copy-out-direct-record c =
     let a = c .before .before .before .before .before .args in
     omega (arith, c .before .loop .inv .1, records-fit (a .run .now) (a .history .now) 119)
 
-answered-requires : tie.Need-answered-requires Inv-loop μ-loop
-answered-requires c κs =
+direct-record-requires : tie.Need-direct-record-requires Inv-loop μ-loop
+direct-record-requires c κs =
     let l = c .before .before in
     let a = l .before .before .before .before .args in
     turn-accepted (a .run .now) (a .history .now) 119 (l .loop .i) (omega (arith, l .loop .inv .1))
@@ -74,7 +74,7 @@ loop-again c =
     let here = answers-set b i (a .records) blank few ∙ ap (λ (k : ℕ). answers b k (a .records)) (sym (add-one i)) in (
       omega arith,
       l .loop .inv .1,
-      ap (λ (p : Point). set (l .loop .points) i p) (c .answered .ensures)
+      ap (λ (p : Point). set (l .loop .points) i p) (c .direct-record .ensures)
           ∙ subst (λ (points : List Point). set points i (answeredOf b (getD points i blank)) ≡ answers b (i + 1) (a .records)) (sym (l .loop .inv .2)) here,
       l .loop .inv .3,
     )
@@ -92,5 +92,5 @@ returns c =
 pub answer-all-spec : {M : Type 1} → statement M
 answer-all-spec =
     tie.close
-    (tie.spec Inv-loop μ-loop (search needs) loop-holds mul-answered array-copy-out-answered answered-requires
+    (tie.spec Inv-loop μ-loop (search needs) loop-holds mul-direct-record array-copy-out-direct-record direct-record-requires
     mul-points array-set-from-points (search needs) (search needs) loop-again returns)
