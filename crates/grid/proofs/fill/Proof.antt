@@ -16,7 +16,7 @@ use denote.Struct.Laws as LL
 use denote.Enum.Laws as EL
 use Rattle.walk.proofs.Locals.{values, Content, empty, holds, locals, blocks, enters, empties}
 use Rattle.walk.proofs.Statements.{number as number-before, number-typed, slice-typed, spot, arg, field, sets, gets, ends, takes, places}
-use Rattle.walk.proofs.Params.{Param, lent, gives, slots, stays, spells, all-told, all-go, all-lawful}
+use Rattle.walk.proofs.Params.{Param, lent, gives, slots, stays, spells, all-lawful}
 use Rattle.walk.proofs.Calls.{Shared, owned, passes, parted, calls-met}
 use Rattle.walk.proofs.Meets.{meets-by}
 use Rattle.history.specs.History.{basisWith}
@@ -150,16 +150,9 @@ module _ {M : Type 1} (𝓤 : URA M) (H : Heap 𝓤) (A : Atoms 𝓤) (W : Given
     y = record { ptr = (c, 0); name = δ; now = l }
 
     abbrev to-begin : Begin 𝓤 H A at-mem run .Ghost
-    to-begin = (
-      (
-        (κ₀, (κ₁, (ν ∷ [], tt))),
-        (q₀, (q₁, (fullShare, tt))),
-        tt,
-        (s₀, (s₁, (length xs, (y, tt)))),
-        (at .0, (at .1 .0, (vint w64 (length xs) ∷ [], (val y ∷ [], tt)))),
-      ),
-      tt,
-    )
+    to-begin =
+        let vs : Vals begin.signature (κ₀, (κ₁, (ν ∷ [], tt))) = (at .0, (at .1 .0, (vint w64 (length xs) ∷ [], (val y ∷ [], tt)))) in
+        (((κ₀, (κ₁, (ν ∷ [], tt))), (q₀, (q₁, (fullShare, tt))), tt, (s₀, (s₁, (length xs, (y, tt)))), vs), tt)
 
     begin-back : (r : List ℕ)
         → ent 𝓤 (⋆ 𝓤 H A (Tokens (‵ (Mine ν) ⊛ ‵ ftrue) ∷ ‵ (finally u32 δ r) ∷ ‵ (flent (ν ∷ []) (Held u32 (length l) c 0 δ)) ∷ []))
@@ -312,8 +305,7 @@ module _ {M : Type 1} (𝓤 : URA M) (H : Heap 𝓤) (A : Atoms 𝓤) (W : Given
   fill-meets : Triple 𝓤 (𝓣 .C #grid·begin-grid) (Begin 𝓤 H A mem run) → Triple 𝓤 (𝓣 .C #grid·fill-records) (Records 𝓤 H A mem run)
       → Meets 𝓤 H A fill.signature (WpFn 𝓤 H (𝓣 .C) (𝓣 .Λ) function) (fill.spec 𝓤 H A mem run)
   fill-meets known-begin known-records =
-      meets-by 𝓤 H A W fill.ended (stays params) (all-go 𝓤 H A W params) (fill.clauses 𝓤 H A mem run) 𝓣 function
-      (λ κs. spells κs params) (λ κs. all-told κs params)
+      meets-by 𝓤 H A W 3 [] params (fill.signature .result) (fill.clauses 𝓤 H A mem run) 𝓣 function
       (λ κs qs bounds a g are. via 𝓤 _ (fst∗ 𝓤 _ (emp 𝓤))
       (walk 𝓤 H A W mem run (κs .0) (κs .1 .0) (κs .1 .1 .0) (qs .0) (qs .1 .0) (qs .1 .1 .0) (a .0) (a .1 .0)
       (a .1 .1 .0 .ptr .0) (a .1 .1 .0 .ptr .1) (a .1 .1 .0 .name) (a .1 .1 .0 .now) (𝓣 .C) (𝓣 .Λ) (fmOf 𝓤 H (W .laws) 𝓣) known-begin known-records are))
