@@ -12,7 +12,7 @@ use denote.Enum.Laws as EL
 use Rattle.walk.proofs.Locals.{holds, enters}
 use Rattle.lifeline_reader.proofs.Made.{line-made}
 use Rattle.walk.proofs.Statements.{arg, field, inner, sets, gets, ends}
-use Rattle.walk.proofs.Params.{Param, row, lent, slots, stays, spells, all-lawful}
+use Rattle.walk.proofs.Params.{Param, row, lent, slots, stays, all-lawful}
 use Rattle.walk.proofs.Calls.{tokens, Shared, owned, passes, field-owned, calls-met}
 use Rattle.walk.proofs.Meets.{meets-by}
 use Rattle.lifeline.specs.Said.{Step, stepMeaning}
