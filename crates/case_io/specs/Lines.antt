@@ -1,16 +1,11 @@
 -- The lines printed by the programs that run the cases of the reference model.
-use Prim.Native.Nat.{ℕ, zero, suc, _-_}
+use Prim.Native.Nat.{ℕ, zero, suc}
 use mathlib.Core.Bool.{cond}
 use mathlib.Core.List.{List, [], _++_}
 use lib.Dec.{eqb}
-use lib.ListN.{length, getD, replicate}
-use Rattle.reply_text.specs.declared.ReplyText.{ReplyText}
+use lib.ListN.{length, getD}
 use Rattle.reply_text.specs.Ascii.{ascii}
 use Rattle.reply_text.specs.Decimal.{digitsOf}
-
--- a line by value: at the start of 192 bytes, 0 in every byte behind it, and its length
-unfoldable pub byValue : List ℕ → ReplyText
-byValue line = record { bytes = line ++ replicate (192 - length line) 0; len = length line }
 
 -- a number behind a word
 unfoldable pub namedLine : List ℕ → ℕ → List ℕ

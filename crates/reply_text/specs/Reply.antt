@@ -32,6 +32,6 @@ refusalLine r = ascii "refused " ++ digitsOf (r .number) ++ ascii " " ++ digitsO
 unfoldable pub replyOf : Question → PointAnswer → List ℕ
 replyOf q a = cond (eqb (a .refusal .number) 0) (questionText q ++ ascii " " ++ resultsText (a .results) ++ ascii "\n") (refusalLine (a .refusal))
 
--- the same by value: the line at the start of 192 bytes, 0 in every byte behind it, and its length
-unfoldable pub replyText : Question → PointAnswer → ReplyText
-replyText q a = let line = replyOf q a in record { bytes = line ++ replicate (192 - length line) 0; len = length line }
+-- a line by value: at the start of 192 bytes, 0 in every byte behind it, and its length
+unfoldable pub byValue : List ℕ → ReplyText
+byValue line = record { bytes = line ++ replicate (192 - length line) 0; len = length line }

@@ -5,7 +5,7 @@ ghost use Prim.Native.Nat.{_+_, _≤_};
 ghost use lib.ListN.{length};
 ghost use Rattle.reply_text.specs.Ascii.{ascii};
 ghost use Rattle.reply_text.specs.Put.{Put};
-ghost use Rattle.reply_text.specs.Reply.{headerLine, questionText, resultsText, refusalLine, replyOf, replyText};
+ghost use Rattle.reply_text.specs.Reply.{headerLine, questionText, resultsText, refusalLine, replyOf, byValue};
 use crate::ReplyText;
 use crate::digits;
 use model_points::PointAnswer;
@@ -75,7 +75,7 @@ pub fn put_reply(out: &mut [u8], at: usize, q: Question, a: PointAnswer) -> usiz
 
 // The same by value, with no precondition; the bytes behind the reply are 0.
 pub fn reply_of(q: Question, a: PointAnswer) -> ReplyText
-    ensures { λ r. ⌜ r ≡ replyText q a ⌝ }
+    ensures { λ r. ⌜ r ≡ byValue (replyOf q a) ⌝ }
 {
     let mut bytes = [0u8; 192];
     let len = put_reply(&mut bytes, 0, q, a);

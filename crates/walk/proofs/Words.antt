@@ -18,8 +18,8 @@ pub use ghost.Atoms.{Atoms, sem}
 pub use contract.Monad.{Fun, fact, factI}
 pub use contract.Lifetimes.{Lfts, Shares}
 unfoldable pub use contract.Running.{givenOf, tables, tablesOf}
-pub use types.Kit.{Given, Item, ‵, raw, _⊛_, ⋆, put, some, later, atRet, _$_, _∵_, !, qed, now as at-once, by, move, keep, drop, use1, use2, use3, split}
-pub use types.Kit.{split3, join, group, pick, rewrite, fsplit, fjoin, feqL, suffices, frame, await, updating, done, runs, prop, anyQ, Sq, feqI}
+pub use types.Kit.{Given, Item, ‵, raw, _⊛_, ⋆, put, some, later, atRet, _$_, _∵_, !, qed, by, move, keep, drop, use1, use3, split, split3, join, group, pick}
+pub use types.Kit.{rewrite, fsplit, fjoin, feqL, suffices, frame, await, done, runs, prop, anyQ, Sq, feqI}
 pub use types.Tokens.{lft-new, lft-end, lent-back}
 pub use types.Part.{agg, rep, whole, sub, look-in}
 pub use types.Run.{forget, stop, hop, fld, from, lit, addr, of-opd, and-then, no-more, exec, look-raw, store-raw, unit-lit, bin, first, blocks as into-block}

@@ -6,7 +6,8 @@ use borrow.Author.Needs.{needs}
 use Rattle.reply_text.specs.Decimal.{digitsOf}
 use Rattle.reply_text.specs.Put.{Put}
 use Rattle.reply_text.proofs.Puts.{then, being, in-zeros}
-use Rattle.case_io.specs.Lines.{byValue, namedLine}
+use Rattle.reply_text.specs.Reply.{byValue}
+use Rattle.case_io.specs.Lines.{namedLine}
 use Rattle.case_io.proofs.print_named.Statement.{statement}
 use Rattle.case_io.proofs.print_named.Tie as tie
 

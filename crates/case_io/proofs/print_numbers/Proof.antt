@@ -11,7 +11,8 @@ use Rattle.reply_text.specs.Ascii.{ascii}
 use Rattle.reply_text.specs.Decimal.{digitsOf}
 use Rattle.reply_text.specs.Put.{Put}
 use Rattle.reply_text.proofs.Puts.{nothing, then, being, in-zeros}
-use Rattle.case_io.specs.Lines.{byValue, firstNumbers, numbersLine}
+use Rattle.reply_text.specs.Reply.{byValue}
+use Rattle.case_io.specs.Lines.{firstNumbers, numbersLine}
 use Rattle.case_io.proofs.print_numbers.Statement.{statement}
 use Rattle.case_io.proofs.print_numbers.Tie as tie
 

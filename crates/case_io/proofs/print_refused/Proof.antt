@@ -2,7 +2,7 @@
 use mathlib.Core.Path.{_∙_}
 use borrow.Author.Needs.{needs}
 use Rattle.reply_text.proofs.Puts.{in-zeros}
-use Rattle.case_io.specs.Lines.{byValue}
+use Rattle.reply_text.specs.Reply.{byValue}
 use Rattle.case_io.proofs.print_refused.Statement.{statement}
 use Rattle.case_io.proofs.print_refused.Tie as tie
 

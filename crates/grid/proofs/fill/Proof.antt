@@ -4,20 +4,20 @@
 -- contract: what the first says of its result and of the row is what the second asks. Assumes nothing.
 use Rattle.walk.proofs.Words.{_≡_, refl, sym, ap, subst, _∙_, ℕ, _≤_, _<_, List, [], _∷_, lit<, length, replicate, length-replicate, URA, fullShare, Ty, Fn}
 use Rattle.walk.proofs.Words.{local, valueLocal, memorySlot, named, erased, imm, mut, w8, w64, tyInt, tyUnit, tyRef, Val, vunit, vint, SProp, ent, emp, via}
-use Rattle.walk.proofs.Words.{fst∗, assoc∗, id⊢, Lft, Share, GName, Fml, ftrue, fat, froom, flft, flent, Memory, Routine, Heap, Env, Calls, Loops, Wp, atReturn}
+use Rattle.walk.proofs.Words.{fst∗, assoc∗, id⊢, Lft, Share, GName, ftrue, fat, froom, flft, flent, Memory, Routine, Heap, Env, Calls, Loops, Wp, atReturn}
 use Rattle.walk.proofs.Words.{WpFn, Tables, Atoms, Fun, fact, factI, Lfts, givenOf, tables, tablesOf, Given, Item, ‵, raw, _⊛_, ⋆, put, some, later, atRet, _$_}
-use Rattle.walk.proofs.Words.{_∵_, !, qed, at-once, by, move, keep, drop, use1, use2, use3, split, split3, join, group, pick, rewrite, fsplit, fjoin, feqL}
-use Rattle.walk.proofs.Words.{suffices, frame, await, updating, done, lft-new, lft-end, lent-back, agg, rep, whole, sub, look-in, forget, stop, hop, fld, from}
-use Rattle.walk.proofs.Words.{lit, addr, of-opd, and-then, no-more, exec, cells, FmC, fmOf, flat, owns, Is, Ises, Are, valss, all-typed, mem, pointee}
-use Rattle.walk.proofs.Words.{nothing-tells, u8, u32, RefT, now, typesAt, sliceTy, sliceVal, MutSlice, ShrSlice, Room, finally, slice-vals, shr-slice-copy}
-use Rattle.walk.proofs.Words.{Held, lends-slice, lends-shr-slice, owned-by, heard, nothing, Contract, Triple, Args, Vals, onEntry, Meets, tripleOf, entered}
-use Rattle.walk.proofs.Words.{cited, says, onExit, walkOf, ends-at}
+use Rattle.walk.proofs.Words.{_∵_, !, qed, by, move, keep, drop, use1, use3, split, split3, join, group, pick, rewrite, fsplit, fjoin, feqL, suffices, frame}
+use Rattle.walk.proofs.Words.{await, done, lft-new, lft-end, lent-back, agg, rep, whole, sub, look-in, forget, stop, hop, fld, from, lit, addr, of-opd}
+use Rattle.walk.proofs.Words.{and-then, no-more, exec, cells, FmC, fmOf, flat, owns, Is, Ises, Are, valss, all-typed, mem, pointee, nothing-tells, u8, u32}
+use Rattle.walk.proofs.Words.{RefT, now, typesAt, sliceTy, sliceVal, MutSlice, ShrSlice, Room, finally, slice-vals, shr-slice-copy, Held, lends-slice}
+use Rattle.walk.proofs.Words.{lends-shr-slice, owned-by, heard, nothing, Contract, Triple, Args, Vals, onEntry, Meets, tripleOf, entered, cited, says, onExit}
+use Rattle.walk.proofs.Words.{walkOf, ends-at}
 use denote.Struct.Laws as LL
 use denote.Enum.Laws as EL
 use Rattle.walk.proofs.Locals.{values, Content, empty, holds, locals, blocks, enters, empties}
 use Rattle.walk.proofs.Statements.{number as number-before, number-typed, slice-typed, spot, arg, field, sets, gets, ends, takes, places}
-use Rattle.walk.proofs.Params.{Param, lent, gives, slots, stays, spells, all-told, all-go, all-lawful}
-use Rattle.walk.proofs.Calls.{Shared, owned, passes, parted, calls-met}
+use Rattle.walk.proofs.Params.{Param, lent, gives, slots, stays, spells, all-lawful}
+use Rattle.walk.proofs.Calls.{tokens, Shared, owned, passes, parted, calls-met}
 use Rattle.walk.proofs.Meets.{meets-by}
 use Rattle.history.specs.History.{basisWith}
 use Rattle.factor_table.specs.FactorTable.{tableLength, Tabled}
@@ -130,66 +130,34 @@ module _ {M : Type 1} (𝓤 : URA M) (H : Heap 𝓤) (A : Atoms 𝓤) (W : Given
   abbrev Had : List (Item 𝓤) → List (Item 𝓤)
   Had Γ = Listed ∷ Two ∷ ‵ (owned 𝓤 H A kept) ∷ Γ
 
-  -- tokens in the order of a signature: the run's, the history's, and then more; at the end the list's; that of a lifetime ν, which is made for a call, is whole
-  abbrev Tokens : Item 𝓤 → Item 𝓤
-  Tokens more = ‵ (flft κ₀ q₀) ⊛ ‵ (flft κ₁ q₁) ⊛ more
-
-  abbrev Last : Item 𝓤
-  Last = ‵ (flft κ₂ q₂) ⊛ ‵ ftrue
-
-  abbrev Mine : ℕ → Fml
-  Mine ν = flft (ν ∷ []) fullShare
+  abbrev Tokens : Item 𝓤
+  Tokens = tokens 𝓤 H A 3 κs (q₀, (q₁, (q₂, tt)))
 
   -- what the checks say of the grid
   abbrev found : Finding × ℕ
   found = gridStart (gridCheck (now s₀) (now s₁) (length xs))
 
-  -- ---- the calls, with the row of numbers l lent from (c, 0) for the lifetime ν under the name δ: what each is passed, and how the row comes back
+  -- ---- the calls, with the row of numbers l lent from (c, 0) for the lifetime ν under the name δ: what each is passed
   module _ (ν : ℕ) (δ : GName) (c : ℕ) (l : List ℕ) where
     abbrev y : RefT (List ℕ)
     y = record { ptr = (c, 0); name = δ; now = l }
 
     abbrev to-begin : Begin 𝓤 H A at-mem run .Ghost
-    to-begin = (
-      (
-        (κ₀, (κ₁, (ν ∷ [], tt))),
-        (q₀, (q₁, (fullShare, tt))),
-        tt,
-        (s₀, (s₁, (length xs, (y, tt)))),
-        (at .0, (at .1 .0, (vint w64 (length xs) ∷ [], (val y ∷ [], tt)))),
-      ),
-      tt,
-    )
-
-    begin-back : (r : List ℕ)
-        → ent 𝓤 (⋆ 𝓤 H A (Tokens (‵ (Mine ν) ⊛ ‵ ftrue) ∷ ‵ (finally u32 δ r) ∷ ‵ (flent (ν ∷ []) (Held u32 (length l) c 0 δ)) ∷ []))
-        (H .⇛ (⋆ 𝓤 H A (Two ∷ ‵ (Row r c) ∷ [])))
-    begin-back r =
-        qed W (Tokens (‵ (Mine ν) ⊛ ‵ ftrue) ∷ ‵ (finally u32 δ r) ∷ ‵ (flent (ν ∷ []) (Held u32 (length l) c 0 δ)) ∷ []) ∵
-        updating ! $ split ! $ move ! (1 ∷ []) $ split ! $ move ! (2 ∷ 0 ∷ []) $ join ! $ move ! (1 ∷ []) $ split ! $
-        -- [ν's token; true; the two tokens; the row's last list; the lender's part]
-        lft-end ! tt $ move ! (0 ∷ 4 ∷ 3 ∷ []) $ use3 W (later (‵ (Row r c))) (row-back 𝓤 H A W ν (length l) c δ r) $
-        await ! tt $ at-once ! $ keep ! (2 ∷ 0 ∷ []) $ done !
+    to-begin =
+        let vs : Vals begin.signature (κ₀, (κ₁, (ν ∷ [], tt))) = (at .0, (at .1 .0, (vint w64 (length xs) ∷ [], (val y ∷ [], tt)))) in
+        (((κ₀, (κ₁, (ν ∷ [], tt))), (q₀, (q₁, (fullShare, tt))), tt, (s₀, (s₁, (length xs, (y, tt)))), vs), tt)
 
     abbrev to-records : ℕ → Records 𝓤 H A at-mem run .Ghost
     to-records n =
         let vs : Vals records.signature (κ₀, (κ₁, (ν ∷ [], (κ₂, tt)))) = (at .0, (at .1 .0, (val y ∷ [], (vint w64 n ∷ [], (at .1 .1 .0, tt))))) in
         (((κ₀, (κ₁, (ν ∷ [], (κ₂, tt)))), (q₀, (q₁, (fullShare, (q₂, tt)))), tt, (s₀, (s₁, (y, (n, (x, tt))))), vs), tt)
 
-    records-back : length l ≡ tableLength → ent 𝓤 (⋆ 𝓤 H A (Tokens (‵ (Mine ν) ⊛ Last) ∷ ‵ (flent (ν ∷ []) (Row l c)) ∷ []))
-        (H .⇛ (⋆ 𝓤 H A (Tokens Last ∷ ‵ (froom array-ty c 0) ∷ [])))
-    records-back long =
-        qed W (Tokens (‵ (Mine ν) ⊛ Last) ∷ ‵ (flent (ν ∷ []) (Row l c)) ∷ []) ∵ updating ! $ split ! $ move ! (1 ∷ []) $ split ! $ move ! (1 ∷ []) $ split ! $
-        -- [ν's token; the list's and true; the history's; the run's; the lender's part]
-        lft-end ! tt $ move ! (2 ∷ 1 ∷ []) $ join ! $ move ! (2 ∷ 0 ∷ []) $ join ! $ move ! (1 ∷ 2 ∷ []) $ lent-back ! tt $
-        use1 W (‵ (froom array-ty c 0)) (row-room 𝓤 H A W tableLength l c long) $ at-once ! $ move ! (1 ∷ 0 ∷ []) $ done !
-
   -- ---- the exit
   exits : (r : Check) (w : Val) (zs : List Point) → Is F.the-row r (w ∷ []) → finding r ≡ gridCheck (now s₀) (now s₁) (length xs)
       → zs ≡ gridOf (now s₀) (now s₁) xs → length zs ≡ length xs
-      → ent 𝓤 (⋆ 𝓤 H A (Tokens Last ∷ ‵ (owned 𝓤 H A kept) ∷ ‵ (finally P.the-row γ zs) ∷ [])) (Post w)
+      → ent 𝓤 (⋆ 𝓤 H A (Tokens ∷ ‵ (owned 𝓤 H A kept) ∷ ‵ (finally P.the-row γ zs) ∷ [])) (Post w)
   exits r w zs is e f same =
-      qed W (Tokens Last ∷ ‵ (owned 𝓤 H A kept) ∷ ‵ (finally P.the-row γ zs) ∷ []) ∵
+      qed W (Tokens ∷ ‵ (owned 𝓤 H A kept) ∷ ‵ (finally P.the-row γ zs) ∷ []) ∵
       suffices ! _ (ends-at 𝓤 H A fill.ended (stays params) (fill.clauses 𝓤 H A at-mem run) W bound w r (tt, (tt, (zs, tt))) (tt, (tt, (same, tt)))) $
       suffices ! _ (assoc∗ 𝓤 (onExit 𝓤 H A fill.ended (stays params) κs (q₀, (q₁, (q₂, tt))) at w r a (tt, (tt, (zs, tt)))) (fact 𝓤 _) (fact 𝓤 _)) $
       says ! f $ says ! e $ frame ! $ nothing ! $ move ! (2 ∷ 0 ∷ 1 ∷ []) $ fjoin ! $ passes ! kept 1 $ passes ! kept 0 $ frame ! $ drop ! $
@@ -210,11 +178,11 @@ module _ {M : Type 1} (𝓤 : URA M) (H : Heap 𝓤) (A : Atoms 𝓤) (W : Given
     module _ (f : GridStart) (is : Is G.the-row f (start-val f ∷ [])) (f-is : gridStartMeaning f ≡ found) where
       -- ---- after both calls: the check is returned
       returned : (zs : List Point) → length zs ≡ length xs → zs ≡ gridOf (now s₀) (now s₁) xs
-          → ent 𝓤 (⋆ 𝓤 H A (Tokens Last ∷ ‵ (owned 𝓤 H A kept) ∷ ‵ (finally P.the-row γ zs) ∷ locals 𝓤 H A En (state (holds (start-val f))) []))
+          → ent 𝓤 (⋆ 𝓤 H A (Tokens ∷ ‵ (owned 𝓤 H A kept) ∷ ‵ (finally P.the-row γ zs) ∷ locals 𝓤 H A En (state (holds (start-val f))) []))
           (Wp 𝓤 H C Λ En parts.t-11 (atReturn 𝓤 H En Post))
       returned zs same e =
           let known = LL.owed G.the-type G′.the-laws f _ is .0 in
-          qed W (Tokens Last ∷ ‵ (owned 𝓤 H A kept) ∷ ‵ (finally P.the-row γ zs) ∷ locals 𝓤 H A En (state (holds (start-val f))) []) ∵
+          qed W (Tokens ∷ ‵ (owned 𝓤 H A kept) ∷ ‵ (finally P.the-row γ zs) ∷ locals 𝓤 H A En (state (holds (start-val f))) []) ∵
           exec ! C Λ En parts.t-11 (atRet En Post) $
           sets ! 3 (of-opd ! (field ! 3 refl (sub ! 0 refl (whole !)))) refl (EL.lawful F.the-type F′.the-laws 𝓤 H A W tt .typed (f .check) _ known .0) $
           ends ! 3 (holds _ ∷ holds _ ∷ holds _ ∷ holds _ ∷ empty ∷ holds _ ∷ []) refl refl $
@@ -252,9 +220,10 @@ module _ {M : Type 1} (𝓤 : URA M) (H : Heap 𝓤) (A : Atoms 𝓤) (W : Given
           fsplit ! $ drop ! $ fsplit ! $ drop ! $ fsplit ! $ drop ! $ fsplit ! $ drop ! $ fsplit ! $ fsplit ! $ move ! (1 ∷ []) $ feqL ! (λ same.
           -- [the last list; true; the result; the tokens; what the slices own; the lender's part; the locals]
           move ! (1 ∷ []) $ drop ! $ move ! (1 ∷ []) $ drop ! $
-          gets ! 4 refl (tt, tt) $ move ! (1 ∷ 3 ∷ []) $
-          use2 W (later (Tokens Last ⊛ ‵ (froom array-ty (l 4) 0))) (records-back ν δ (l 4) r long) $ await ! tt $ split ! $
-          move ! (1 ∷ 0 ∷ 3 ∷ []) $ places ! (spot 𝓤 H A En 3 4) $
+          gets ! 4 refl (tt, tt) $
+          -- ν ends, and the row is room for the array
+          move ! (1 ∷ []) $ split3 ! $ move ! (2 ∷ []) $ split ! $ lft-end ! tt $ move ! (2 ∷ 3 ∷ 1 ∷ []) $ group ! 3 $ move ! (1 ∷ 4 ∷ []) $ lent-back ! tt $
+          use1 W (‵ (froom array-ty (l 4) 0)) (row-room 𝓤 H A W tableLength r (l 4) long) $ move ! (0 ∷ 1 ∷ 3 ∷ []) $ places ! (spot 𝓤 H A En 3 4) $
           empties ! 3 En (state (holds (start-val f))) (empty ∷ empty ∷ empty ∷ holds _ ∷ holds _ ∷ holds _ ∷ holds _ ∷ holds _ ∷ []) refl $
           by ! (returned (ws .1 .1 .1 .1 .0) same (e ∙ ap (λ (k : ℕ). answers (basisWith (now s₀) (now s₁)) k xs) count ∙ grid-is (now s₀) (now s₁) xs)))))))
 
@@ -286,10 +255,12 @@ module _ {M : Type 1} (𝓤 : URA M) (H : Heap 𝓤) (A : Atoms 𝓤) (W : Given
         -- [the row's last list; true; the result; the tokens; what the slices own; the lender's part; the list; the locals]
         move ! (1 ∷ []) $ drop ! $ move ! (1 ∷ []) $ drop ! $
         gets ! 5 refl (LL.lawful G.the-type G′.the-laws 𝓤 H A W .typed f _ is .0) $
-        move ! (1 ∷ 0 ∷ 3 ∷ []) $ use3 W (later (Two ⊛ ‵ (Row (ws .1 .1 .1 .0) (l 4)))) (begin-back ν δ (l 4) r (ws .1 .1 .1 .0)) $ await ! tt $ split ! $
-        -- [the slices' tokens; the row; what the slices own; the list; the locals]
+        -- ν ends, and the row comes back at its last list
+        move ! (1 ∷ []) $ split3 ! $ join ! $ move ! (1 ∷ []) $ split ! $ lft-end ! tt $ move ! (0 ∷ 5 ∷ 3 ∷ []) $
+        use3 W (later (‵ (Row (ws .1 .1 .1 .0) (l 4)))) (row-back 𝓤 H A W ν (length r) (l 4) δ (ws .1 .1 .1 .0)) $ await ! tt $ move ! (1 ∷ []) $ drop ! $
+        -- [the row; the slices' tokens; what the slices own; the list; the locals]
         forget ! (spot 𝓤 H A En 4 6) refl $ forget ! (spot 𝓤 H A En 4 7) refl $ forget ! (spot 𝓤 H A En 4 8) refl $
-        move ! (1 ∷ 3 ∷ 0 ∷ []) $ by ! (fills f is f-is known-records room (ws .1 .1 .1 .0) (same ∙ long) ready)))))))
+        move ! (0 ∷ 3 ∷ 1 ∷ []) $ by ! (fills f is f-is known-records room (ws .1 .1 .1 .0) (same ∙ long) ready)))))))
 
   -- ---- the entry, and the array
   walk : (C : Calls 𝓤 H) (Λ : Loops 𝓤 H) → FmC 𝓤 H (W .laws) C → Triple 𝓤 (C #grid·begin-grid) (Begin 𝓤 H A at-mem run)
@@ -297,7 +268,7 @@ module _ {M : Type 1} (𝓤 : URA M) (H : Heap 𝓤) (A : Atoms 𝓤) (W : Given
       → Are (typesAt (slots params) κs) (Ises (typesAt (slots params) κs)) a at
       → ent 𝓤 (onEntry 𝓤 H A fill.signature κs (q₀, (q₁, (q₂, tt))) a at) (WpFn 𝓤 H C Λ function (flat (typesAt (slots params) κs) at) Post)
   walk C Λ fm known-begin known-records are =
-      qed W (Tokens Last ∷ ‵ (owns (typesAt (slots params) κs) a at) ∷ []) ∵
+      qed W (Tokens ∷ ‵ (owns (typesAt (slots params) κs) a at) ∷ []) ∵
       split3 ! $ move ! (2 ∷ []) $ split ! $ move ! (2 ∷ 3 ∷ []) $ join ! $ move ! (3 ∷ []) $ parted ! kept $
       -- [what the slices own; the list; the slices' tokens; the list's token; true]
       move ! (1 ∷ []) $ fsplit ! $ move ! (4 ∷ 0 ∷ []) $ join ! $ keep ! (0 ∷ 3 ∷ 2 ∷ []) $
@@ -312,8 +283,7 @@ module _ {M : Type 1} (𝓤 : URA M) (H : Heap 𝓤) (A : Atoms 𝓤) (W : Given
   fill-meets : Triple 𝓤 (𝓣 .C #grid·begin-grid) (Begin 𝓤 H A mem run) → Triple 𝓤 (𝓣 .C #grid·fill-records) (Records 𝓤 H A mem run)
       → Meets 𝓤 H A fill.signature (WpFn 𝓤 H (𝓣 .C) (𝓣 .Λ) function) (fill.spec 𝓤 H A mem run)
   fill-meets known-begin known-records =
-      meets-by 𝓤 H A W fill.ended (stays params) (all-go 𝓤 H A W params) (fill.clauses 𝓤 H A mem run) 𝓣 function
-      (λ κs. spells κs params) (λ κs. all-told κs params)
+      meets-by 𝓤 H A W 3 [] params (fill.signature .result) (fill.clauses 𝓤 H A mem run) 𝓣 function
       (λ κs qs bounds a g are. via 𝓤 _ (fst∗ 𝓤 _ (emp 𝓤))
       (walk 𝓤 H A W mem run (κs .0) (κs .1 .0) (κs .1 .1 .0) (qs .0) (qs .1 .0) (qs .1 .1 .0) (a .0) (a .1 .0)
       (a .1 .1 .0 .ptr .0) (a .1 .1 .0 .ptr .1) (a .1 .1 .0 .name) (a .1 .1 .0 .now) (𝓣 .C) (𝓣 .Λ) (fmOf 𝓤 H (W .laws) 𝓣) known-begin known-records are))

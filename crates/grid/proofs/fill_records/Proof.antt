@@ -18,7 +18,7 @@ use Rattle.walk.proofs.Locals.{values, Content, empty, holds, holding, locals, 
 use Rattle.walk.proofs.Statements.{number-typed, spot, arg, field, pointed, puts, sets, resets-last, gets, ends}
 use Rattle.walk.proofs.Tests.{tests}
 use Rattle.walk.proofs.Counting.{Upto, Nearer, nearer-wf, next, next-nearer}
-use Rattle.walk.proofs.Params.{Param, lent, lends, number, slots, stays, spells, all-told, all-go, all-lawful}
+use Rattle.walk.proofs.Params.{Param, lent, lends, number, slots, stays, spells, all-lawful}
 use Rattle.walk.proofs.Calls.{tokens, Shared, owned, passes, parted, calls-met}
 use Rattle.walk.proofs.Meets.{meets-by}
 use Rattle.basis.specs.Basis.{Basis}
@@ -270,8 +270,7 @@ module _ {M : Type 1} (𝓤 : URA M) (H : Heap 𝓤) (A : Atoms 𝓤) (W : Given
     (known : Triple 𝓤 (𝓣 .C #swept-points·points·swept-record) (Swept 𝓤 H A mem run)) where
   fill-records-meets : Meets 𝓤 H A fill.signature (WpFn 𝓤 H (𝓣 .C) (𝓣 .Λ) function) (fill.spec 𝓤 H A mem run)
   fill-records-meets =
-      meets-by 𝓤 H A W fill.ended (stays params) (all-go 𝓤 H A W params) (fill.clauses 𝓤 H A mem run) 𝓣 function
-      (λ κs. spells κs params) (λ κs. all-told κs params)
+      meets-by 𝓤 H A W 4 [] params (fill.signature .result) (fill.clauses 𝓤 H A mem run) 𝓣 function
       (λ κs qs bounds a g are. needs 𝓤 ((a .1 .1 .1 .0 ≤ length (now (a .1 .1 .1 .1 .0)))
       × (0 < a .1 .1 .1 .0 → Workable (now (a .0)) (now (a .1 .0)) × FactorTable (basisWith (now (a .0)) (now (a .1 .0))) (now (a .1 .1 .0)))) _ (λ asked.
       walk 𝓤 H A W mem run (κs .0) (κs .1 .0) (κs .1 .1 .0) (κs .1 .1 .1 .0) (qs .0) (qs .1 .0) (qs .1 .1 .0) (qs .1 .1 .1 .0)

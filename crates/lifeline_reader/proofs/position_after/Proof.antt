@@ -20,7 +20,7 @@ use Rattle.walk.proofs.Locals.{values, Content, empty, holds, holding, locals, 
 use Rattle.walk.proofs.Statements.{number-typed, spot, arg, field, sets, resets, resets-last, gets, ends}
 use Rattle.walk.proofs.Tests.{tests}
 use Rattle.walk.proofs.Counting.{Upto, Nearer, nearer-wf, next, next-nearer}
-use Rattle.walk.proofs.Params.{Param, lent, number, slots, stays, spells, all-told, all-go, all-lawful}
+use Rattle.walk.proofs.Params.{Param, lent, number, slots, stays, spells, all-lawful}
 use Rattle.walk.proofs.Calls.{tokens, Shared, owned, passes, field-owned, calls-met}
 use Rattle.walk.proofs.Meets.{meets-by}
 use Rattle.lifeline_reader.proofs.Lifeline as L
@@ -254,8 +254,7 @@ module _ {M : Type 1} (𝓤 : URA M) (H : Heap 𝓤) (A : Atoms 𝓤) (W : Given
   position-after-meets : Triple 𝓤 (𝓣 .C #lifeline-reader·start) (Start 𝓤 H A mem run) → Triple 𝓤 (𝓣 .C #lifeline-reader·step) (Step 𝓤 H A mem run)
       → Meets 𝓤 H A after.signature (WpFn 𝓤 H (𝓣 .C) (𝓣 .Λ) function) (after.spec 𝓤 H A mem run)
   position-after-meets known-start known-step =
-      meets-by 𝓤 H A W after.ended (stays params) (all-go 𝓤 H A W params) (after.clauses 𝓤 H A mem run) 𝓣 function
-      (λ κs. spells κs params) (λ κs. all-told κs params)
+      meets-by 𝓤 H A W 2 [] params (after.signature .result) (after.clauses 𝓤 H A mem run) 𝓣 function
       (λ κs qs bounds a g are. via 𝓤 _ (fst∗ 𝓤 _ (emp 𝓤))
       (walk 𝓤 H A W mem run κs qs (a .0) (a .1 .0) (a .1 .1 .0) (a .1 .1 .1 .0) (a .1 .1 .1 .1 .0) 𝓣 (fmOf 𝓤 H (W .laws) 𝓣) known-start known-step are))
 

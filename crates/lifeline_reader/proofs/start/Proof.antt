@@ -11,7 +11,7 @@ use denote.Enum.Laws as EL
 use Rattle.walk.proofs.Locals.{holds, enters}
 use Rattle.lifeline_reader.proofs.Made.{line-made}
 use Rattle.walk.proofs.Statements.{arg, field, inner, sets, gets, ends}
-use Rattle.walk.proofs.Params.{Param, lent, number, slots, stays, spells, all-told, all-go, all-lawful}
+use Rattle.walk.proofs.Params.{Param, lent, number, slots, stays, spells, all-lawful}
 use Rattle.walk.proofs.Calls.{tokens, Shared, owned, passes, calls-met}
 use Rattle.walk.proofs.Meets.{meets-by}
 use Rattle.lifeline.specs.Said.{Start, startMeaning}
@@ -128,8 +128,7 @@ module _ {M : Type 1} (𝓤 : URA M) (H : Heap 𝓤) (A : Atoms 𝓤) (W : Given
   start-meets : Triple 𝓤 (𝓣 .C #lifeline·cohort·start-at) (StartAt 𝓤 H A mem run)
       → Meets 𝓤 H A start.signature (WpFn 𝓤 H (𝓣 .C) (𝓣 .Λ) code.function) (start.spec 𝓤 H A mem run)
   start-meets known =
-      meets-by 𝓤 H A W start.ended (stays params) (all-go 𝓤 H A W params) (start.clauses 𝓤 H A mem run) 𝓣 code.function
-      (λ κs. spells κs params) (λ κs. all-told κs params)
+      meets-by 𝓤 H A W 2 [] params (start.signature .result) (start.clauses 𝓤 H A mem run) 𝓣 code.function
       (λ κs qs bounds a g are. via 𝓤 _ (fst∗ 𝓤 _ (emp 𝓤))
       (walk 𝓤 H A W mem run κs qs (a .0) (a .1 .0) (a .1 .1 .0) (a .1 .1 .1 .0) (𝓣 .C) (𝓣 .Λ) (fmOf 𝓤 H (W .laws) 𝓣) known are))
 

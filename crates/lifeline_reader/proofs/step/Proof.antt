@@ -12,7 +12,7 @@ use denote.Enum.Laws as EL
 use Rattle.walk.proofs.Locals.{holds, enters}
 use Rattle.lifeline_reader.proofs.Made.{line-made}
 use Rattle.walk.proofs.Statements.{arg, field, inner, sets, gets, ends}
-use Rattle.walk.proofs.Params.{Param, row, lent, slots, stays, spells, all-told, all-go, all-lawful}
+use Rattle.walk.proofs.Params.{Param, row, lent, slots, stays, all-lawful}
 use Rattle.walk.proofs.Calls.{tokens, Shared, owned, passes, field-owned, calls-met}
 use Rattle.walk.proofs.Meets.{meets-by}
 use Rattle.lifeline.specs.Said.{Step, stepMeaning}
@@ -153,8 +153,7 @@ module _ {M : Type 1} (𝓤 : URA M) (H : Heap 𝓤) (A : Atoms 𝓤) (W : Given
   step-meets : Triple 𝓤 (𝓣 .C #lifeline·cohort·step-at) (StepAt 𝓤 H A mem run)
       → Meets 𝓤 H A step.signature (WpFn 𝓤 H (𝓣 .C) (𝓣 .Λ) code.function) (step.spec 𝓤 H A mem run)
   step-meets known =
-      meets-by 𝓤 H A W step.ended (stays params) (all-go 𝓤 H A W params) (step.clauses 𝓤 H A mem run) 𝓣 code.function
-      (λ κs. spells κs params) (λ κs. all-told κs params)
+      meets-by 𝓤 H A W 2 [] params (step.signature .result) (step.clauses 𝓤 H A mem run) 𝓣 code.function
       (λ κs qs bounds a g are. via 𝓤 _ (fst∗ 𝓤 _ (emp 𝓤))
       (walk 𝓤 H A W mem run κs qs (a .0) (a .1 .0) (𝓣 .C) (𝓣 .Λ) (fmOf 𝓤 H (W .laws) 𝓣) known are))
 
