@@ -10,7 +10,7 @@ use denote.Struct.Laws as LL
 use denote.Enum.Laws as EL
 use Rattle.walk.proofs.Locals.{holds, enters}
 use Rattle.walk.proofs.Statements.{arg, field, sets, gets, ends}
-use Rattle.walk.proofs.Params.{Param, lent, gives, slots, stays, spells, all-told, all-go, all-lawful}
+use Rattle.walk.proofs.Params.{Param, lent, gives, slots, stays, spells, all-lawful}
 use Rattle.walk.proofs.Calls.{tokens, Shared, owned, passes, parted, calls-met}
 use Rattle.walk.proofs.Meets.{meets-by}
 use Rattle.outcome.specs.declared.Refusal.{Refusal}
@@ -126,8 +126,7 @@ module _ {M : Type 1} (𝓤 : URA M) (H : Heap 𝓤) (A : Atoms 𝓤) (W : Given
   grid-meets : Triple 𝓤 (𝓣 .C #grid·fill) (Fill 𝓤 H A mem run) → Triple 𝓤 (𝓣 .C #engine·answers·refusal-of) (RefusalOf 𝓤 H A mem run)
       → Meets 𝓤 H A grid.signature (WpFn 𝓤 H (𝓣 .C) (𝓣 .Λ) code.function) (grid.spec 𝓤 H A mem run)
   grid-meets known-fill known-refusal =
-      meets-by 𝓤 H A W grid.ended (stays params) (all-go 𝓤 H A W params) (grid.clauses 𝓤 H A mem run) 𝓣 code.function
-      (λ κs. spells κs params) (λ κs. all-told κs params)
+      meets-by 𝓤 H A W 3 [] params (grid.signature .result) (grid.clauses 𝓤 H A mem run) 𝓣 code.function
       (λ κs qs bounds a g are. via 𝓤 _ (fst∗ 𝓤 _ (emp 𝓤))
       (walk 𝓤 H A W mem run κs qs (a .0) (a .1 .0) (a .1 .1 .0) (𝓣 .C) (𝓣 .Λ) (fmOf 𝓤 H (W .laws) 𝓣) known-fill known-refusal are))
 
