@@ -4,15 +4,11 @@ use mathlib.Core.Bool.{Bool, true, false, cond}
 use Prim.Native.Nat.{ℕ, _*_, _-_}
 use native.Mathlib.Omega.{arith}
 use lib.Dec.{ltb}
-use lib.IntN.{ℤ, pos, _+ℤ_, _-ℤ_, _*ℤ_}
+use lib.IntN.{ℤ, pos, _*ℤ_}
 use Rattle.arithmetic.specs.Fraction.{_over_, whole}
 use Rattle.arithmetic.proofs.Difference.{parts, ring, ⊖-eq}
 use Rattle.component.specs.Component.{slopeOf}
-use Rattle.component.specs.PerCent.{WeightInPerCent}
-
--- 100T + (8P − 200)n
-abbrev printedSlope : ℕ → ℕ → ℕ → ℤ
-printedSlope T P n = pos (100 * T) +ℤ (pos (8 * P) -ℤ pos 200) *ℤ pos n
+use Rattle.component.specs.PerCent.{printedSlope, WeightInPerCent}
 
 slope-is : (T P n : ℕ) → slopeOf T (100 * P) n ≡ pos 100 *ℤ printedSlope T P n
 slope-is T P n = simp ring (⊖-eq _ _ _ _ (omega arith))

@@ -8,10 +8,13 @@ use Rattle.arithmetic.specs.Fraction.{Fraction, _over_, whole}
 use Rattle.basis.specs.declared.Convergence.{Convergence}
 use Rattle.component.specs.Component.{weightOf, terms}
 
+-- 100T + (8P − 200)n
+abbrev pub printedSlope : ℕ → ℕ → ℕ → ℤ
+printedSlope T P n = pos (100 * T) +ℤ (pos (8 * P) -ℤ pos 200) *ℤ pos n
+
 -- (T − n)² × (100T + (8P − 200)n) / (100T³) if n is below T, otherwise 0
 abbrev pub printedWeight : ℕ → ℕ → ℕ → Fraction
-printedWeight T P n =
-    cond (ltb n T) ((pos ((T - n) * (T - n)) *ℤ (pos (100 * T) +ℤ (pos (8 * P) -ℤ pos 200) *ℤ pos n)) over (100 * (T * T * T))) (whole (pos 0))
+printedWeight T P n = cond (ltb n T) ((pos ((T - n) * (T - n)) *ℤ printedSlope T P n) over (100 * (T * T * T))) (whole (pos 0))
 
 -- the terms I, L, T and P, with P in per cent
 abbrev pub termsInPerCent : ℤ → ℤ → ℕ → ℕ → Convergence
