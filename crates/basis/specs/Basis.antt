@@ -1,5 +1,5 @@
 -- The basis that a data run stands for, and its limits (01, "The basis file").
-use Prim.Native.Nat.{ℕ, _-_, _≤_, _<_}
+use Prim.Native.Nat.{ℕ, _*_, _-_, _≤_, _<_}
 use mathlib.Core.Path.{_≡_}
 use mathlib.Core.List.{List}
 use lib.ListN.{length, take}
@@ -28,14 +28,14 @@ pub record Basis : Type 0 where
   pub byBirthYear : ℕ → Convergence
   pub actual : ℕ → ℕ → ℤ
 
--- I, L, T and P at one place of four tables
+-- I, L, T and P at one place of four tables, P in hundredths of a per cent, of which each P of the form counts its own
 abbrev pub termsAt : Form → List ℕ → ℕ → ℕ → ℕ → ℕ → ℕ → Convergence
 termsAt form run initial long period remaining place =
     record {
       initial = entryAt SignedWord run initial place;
       long = entryAt SignedWord run long place;
       period = natAbs (entryAt Byte run period place);
-      remaining = natAbs (entryAt (form .proportion) run remaining place);
+      remaining = form .hundredths * natAbs (entryAt (form .proportion) run remaining place);
     }
 
 -- at an age from 20, and at a birth year from 1842

@@ -50,6 +50,13 @@ pub fn base_rate(run: &[u8], age: u32) -> u32
     little_endian::read_u32(run, layout::BASE_RATES_AT + 4 * (age as usize - 20))
 }
 
+// A P of the run, in hundredths of a per cent.
+fn hundredths(proportion: u8) -> u16
+    ensures { λ r. ⌜ r ≡ mpb1 .hundredths * proportion ⌝ }
+{
+    layout::PROPORTION_HUNDREDTHS * (proportion as u16)
+}
+
 // The terms at one place of four tables.
 fn terms_at(
     run: &[u8],
@@ -70,7 +77,7 @@ fn terms_at(
         initial: little_endian::read_i32(run, initial + 4 * place),
         long: little_endian::read_i32(run, long + 4 * place),
         period: run[period + place],
-        remaining: run[remaining + place],
+        remaining: hundredths(run[remaining + place]),
     }
 }
 

@@ -13,10 +13,9 @@ use Rattle.arithmetic.specs.Fraction.{Fraction, _over_, whole, _+ᶠ_, _*ᶠ_}
 use Rattle.arithmetic.specs.MixedNumbers.{mixedOf}
 use Rattle.arithmetic.specs.declared.Mixed.{Mixed}
 use Rattle.arithmetic.proofs.Difference.{natAbs-add}
-use Rattle.arithmetic.proofs.Rounding.{floor-abs}
 use Rattle.arithmetic.proofs.Remainders.{mixed, remainder-small, parts-are, parts-more}
 use Rattle.component.specs.Component.{slopeOf, weightOf, componentOf, terms}
-use Rattle.component.proofs.Size.{most, divisor, divisor-proper, divisor-small, dividend, dividend-abs}
+use Rattle.component.proofs.Size.{divisor, divisor-proper, divisor-small, dividend, greatestQuotient, quotient-abs}
 use Rattle.basis.specs.Basis.{ConvergenceLimits}
 use Rattle.basis.specs.declared.Convergence.{Convergence}
 
@@ -61,9 +60,9 @@ component-after I L T P n h =
 
 -- ---- how large they are: far within 64 bits
 pub record SmallParts (m : Mixed) : Type 0 where
-  pub whole : natAbs (m .whole) ≤ most + 200_000_000
+  pub whole : natAbs (m .whole) ≤ greatestQuotient + 200_000_000
   pub remainder : m .remainder < m .divisor
-  pub divisor : m .divisor ≤ 12_500_000
+  pub divisor : m .divisor ≤ 1_250_000_000
 
 pub component-small : (c : Convergence) (n : ℕ) → ConvergenceLimits c → SmallParts (mixedOf (componentOf c n))
 component-small c n h = by (decLt n (c .period))
@@ -72,10 +71,10 @@ component-small c n h = by (decLt n (c .period))
     by (yes l) =
         let a = dividend (c .initial) (c .long) (c .period) (c .remaining) n in
         let q = floorDiv a (divisor (c .period)) in
-        let small = dividend-abs (c .initial) (c .long) (c .period) (c .remaining) n h (omega arith) in
+        let small = quotient-abs (c .initial) (c .long) (c .period) (c .remaining) n h (omega arith) in
         rw (component-before (c .initial) (c .long) (c .period) (c .remaining) n l)
         record {
-          whole = omega (arith, natAbs-add (c .long) q, floor-abs a (divisor (c .period)), h .long, small);
+          whole = omega (arith, natAbs-add (c .long) q, h .long, small);
           remainder = remainder-small a (divisor (c .period)) (divisor-proper (c .period) (h .period-low));
           divisor = divisor-small (c .period) (h .period-high);
         }

@@ -1,1 +1,2 @@
 pub mod Component
+pub mod PerCent

@@ -16,33 +16,33 @@ fn excess(initial: i32, long: i32) -> i64
     arithmetic::wide(initial) - arithmetic::wide(long)
 }
 
-// 100T + (8P − 200)n. The two signs are gathered apart, so that only the difference is signed.
+// 10,000T + (8P − 20,000)n, with P in hundredths of a per cent. The two signs are gathered apart, so that only the difference is signed.
 fn slope(period: u64, remaining: u64, years: u64) -> i64
-    requires { ⌜ (period ≤ 50) × (remaining ≤ 150) × (years ≤ period) ⌝ }
+    requires { ⌜ (period ≤ 50) × (remaining ≤ 15_000) × (years ≤ period) ⌝ }
     ensures { λ r. ⌜ r ≡ slopeOf period remaining years ⌝ }
 {
-    let up = 100 * period + 8 * remaining * years;
-    let down = 200 * years;
+    let up = 10_000 * period + 8 * remaining * years;
+    let down = 20_000 * years;
     (up as i64) - (down as i64)
 }
 
-// (I − L) (T − n)² (100T + (8P − 200)n), the dividend over 100T³
+// (I − L) (T − n)² (10,000T + (8P − 20,000)n), the dividend over 10,000T³
 fn weighted(excess: i64, left: u64, slope: i64) -> i64
-    requires { ⌜ (natAbs excess ≤ 400_000_000) × (left ≤ 50) × (natAbs slope ≤ 55_000) ⌝ }
+    requires { ⌜ (natAbs excess ≤ 400_000_000) × (left ≤ 50) × (natAbs slope ≤ 5_500_000) ⌝ }
     ensures { λ r. ⌜ r ≡ excess *ℤ (pos (left * left) *ℤ slope) ⌝ }
 {
     excess * (((left * left) as i64) * slope)
 }
 
 // The component by its four terms. L is whole, so that only what is above it is divided.
-fn converging(initial: i32, long: i32, period: u8, remaining: u8, years: u32) -> Mixed
+fn converging(initial: i32, long: i32, period: u8, remaining: u16, years: u32) -> Mixed
     requires { ⌜ ConvergenceLimits (terms initial long period remaining) ⌝ }
     ensures { λ r. ⌜ r ≡ mixedOf (componentOf (terms initial long period remaining) years) ⌝ }
 {
     let span = period as u64;
     let past = years as u64;
     if past < span {
-        let divisor = 100 * (span * span * span);
+        let divisor = 10_000 * (span * span * span);
         let dividend = weighted(
             excess(initial, long),
             span - past,

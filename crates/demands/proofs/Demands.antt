@@ -18,6 +18,7 @@ use Rattle.arithmetic.proofs.Rounding.{ties-go-up}
 use Rattle.basis_file.proofs.RoundTrip.{round-trips}
 use Rattle.history.proofs.Acceptance.{history-acceptance}
 use Rattle.improvement.proofs.Cases.{actual-answered}
+use Rattle.component.proofs.PerCent.{weight-in-per-cent}
 use Rattle.improvement.proofs.OneRounding.{one-rounding}
 use Rattle.improvement.proofs.LongTerm.{long-term-from-2130}
 use Rattle.improvement.proofs.Edges.{edges}
@@ -153,6 +154,7 @@ module _ (run history : List ℕ) where
         actualAnswered = actual-answered run history;
         edges = edges;
         lines = line-says;
+        weight = weight-in-per-cent;
         ties = ties-go-up;
         oneRounding = one-rounding;
         longTerm = long-term-from-2130 (basisWith run history);

@@ -18,6 +18,7 @@ use Rattle.basis_file.specs.RoundTrips.{RoundTrips}
 use Rattle.history.specs.History.{basisWith, runAndHistoryCheck}
 use Rattle.history.specs.Accepted.{HistoryAcceptance}
 use Rattle.short_form.specs.ShortForm.{shortFormOf, shortCheck, ShortFormStands}
+use Rattle.component.specs.PerCent.{WeightInPerCent}
 use Rattle.improvement.specs.Improvement.{firstYear, improvementOf, improvementNeeded}
 use Rattle.improvement.specs.Answered.{Edges, ActualAnswered}
 use Rattle.improvement.specs.OneRounding.{OneRounding}
@@ -134,6 +135,8 @@ pub record Demand2 (run history : List ℕ) : Type 0 where
       r .refusal .number ≡ 0 → r .value ≡ totalOf (membersAfter year [] (calls ++ call ∷ []))
   -- what the host keeps behind a roll is left alone
   pub furtherKept : FurtherKept
+  -- the weight is the one that 01 prints with P in per cent
+  pub weight : WeightInPerCent
   -- ties go up, and the two components are rounded once (02, change 3)
   pub ties : TiesGoUp
   pub oneRounding : OneRounding

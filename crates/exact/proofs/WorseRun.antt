@@ -130,22 +130,26 @@ base-rate-is age low high =
 terms-are : {i l : ℤ} {t p : ℕ} (i′ l′ : ℤ) (t′ p′ : ℕ) → i ≡ i′ → l ≡ l′ → t ≡ t′ → p ≡ p′ → terms i l t p ≡ terms i′ l′ t′ p′
 terms-are i l t p e f g h = rw (e, f, g, h) refl
 
-by-age-is : (age : ℕ) → 20 ≤ age → age ≤ 150 → basisOf worseRun .byAge age ≡ terms (pos 0) (pos 0) 50 100
+in-hundredths : {byte p : ℕ} → byte ≡ p → mpb1 .hundredths * byte ≡ mpb1 .hundredths * p
+in-hundredths e = ap (λ k. mpb1 .hundredths * k) e
+
+by-age-is : (age : ℕ) → 20 ≤ age → age ≤ 150 → basisOf worseRun .byAge age ≡ terms (pos 0) (pos 0) 50 10_000
 unfolding basisOf signed32
 by-age-is age low high =
     let place = age - 20 in
     terms-are _ _ _ _ (word from-age-rates (ageInitialRatesAt + 4 * place) (omega arith) (omega arith))
     (word from-age-rates (ageLongTermRatesAt + 4 * place) (omega arith) (omega arith))
-    (within from-age-periods (agePeriodsAt + 1 * place) (omega arith) (omega arith)) (within from-age-proportions (ageProportionsAt + 1 * place) (omega arith) (omega arith))
+    (within from-age-periods (agePeriodsAt + 1 * place) (omega arith) (omega arith))
+    (in-hundredths (within from-age-proportions (ageProportionsAt + 1 * place) (omega arith) (omega arith)))
 
 -- a birth year's terms from its initial rate
 by-birth-year-is : (year : ℕ) → 1842 ≤ year → year ≤ 2110 → (z : ℤ) → i32At worseRun (birthYearInitialRatesAt mpb1 + 4 * (year - 1842)) ≡ z
-    → basisOf worseRun .byBirthYear year ≡ terms z (pos 0) 50 100
+    → basisOf worseRun .byBirthYear year ≡ terms z (pos 0) 50 10_000
 unfolding basisOf signed32
 by-birth-year-is year low high z e =
     terms-are _ _ _ _ e (word from-birth-year-long-term-rates (birthYearLongTermRatesAt mpb1 + 4 * (year - 1842)) (omega arith) (omega arith))
     (within from-birth-year-periods (birthYearPeriodsAt mpb1 + 1 * (year - 1842)) (omega arith) (omega arith))
-    (within from-birth-year-proportions (birthYearProportionsAt mpb1 + 1 * (year - 1842)) (omega arith) (omega arith))
+    (in-hundredths (within from-birth-year-proportions (birthYearProportionsAt mpb1 + 1 * (year - 1842)) (omega arith) (omega arith)))
 
 earlier : (year : ℕ) → 1842 ≤ year → year < 1949 → i32At worseRun (birthYearInitialRatesAt mpb1 + 4 * (year - 1842)) ≡ negsuc 0
 unfolding signed32
@@ -167,10 +171,10 @@ one {at = at} h g =
     )
     refl
 
-born-1949 : basisOf worseRun .byBirthYear 1949 ≡ terms (pos 1) (pos 0) 50 100
+born-1949 : basisOf worseRun .byBirthYear 1949 ≡ terms (pos 1) (pos 0) 50 10_000
 born-1949 = by-birth-year-is 1949 (omega arith) (omega arith) (pos 1) (one from-1949 (next from-1949))
 
-born-1950 : basisOf worseRun .byBirthYear 1950 ≡ terms (pos 1) (pos 0) 50 100
+born-1950 : basisOf worseRun .byBirthYear 1950 ≡ terms (pos 1) (pos 0) 50 10_000
 born-1950 = by-birth-year-is 1950 (omega arith) (omega arith) (pos 1) (one from-1950 (next from-1950))
 
 -- ---- it is accepted
@@ -178,10 +182,10 @@ size : length worseRun ≡ runLength mpb1
 unfolding worseRun worseFields worseTables
 size = simp length-times refl
 
-small : (z : ℤ) → natAbs z ≤ rateLimit → ConvergenceLimits (terms z (pos 0) 50 100)
+small : (z : ℤ) → natAbs z ≤ rateLimit → ConvergenceLimits (terms z (pos 0) 50 10_000)
 small z h = record { initial = h; long = omega arith; period-low = omega arith; period-high = omega arith; remaining = omega arith }
 
-limits-of : {c : Convergence} (z : ℤ) → c ≡ terms z (pos 0) 50 100 → natAbs z ≤ rateLimit → ConvergenceLimits c
+limits-of : {c : Convergence} (z : ℤ) → c ≡ terms z (pos 0) 50 10_000 → natAbs z ≤ rateLimit → ConvergenceLimits c
 limits-of z e h = rw e (small z h)
 
 birth-limits : (year : ℕ) → 1842 ≤ year → year ≤ 2110 → ConvergenceLimits (basisOf worseRun .byBirthYear year)
@@ -220,16 +224,16 @@ abbrev W : Basis
 W = basisWith worseRun []
 
 -- the age's components are 0, so that an exact improvement is the birth year's
-born-1948 : basisOf worseRun .byBirthYear 1948 ≡ terms (negsuc 0) (pos 0) 50 100
+born-1948 : basisOf worseRun .byBirthYear 1948 ≡ terms (negsuc 0) (pos 0) 50 10_000
 born-1948 = by-birth-year-is 1948 (omega arith) (omega arith) (negsuc 0) (earlier 1948 (omega arith) (omega arith))
 
-born-1951 : basisOf worseRun .byBirthYear 1951 ≡ terms (negsuc 0) (pos 0) 50 100
+born-1951 : basisOf worseRun .byBirthYear 1951 ≡ terms (negsuc 0) (pos 0) 50 10_000
 born-1951 = by-birth-year-is 1951 (omega arith) (omega arith) (negsuc 0) (later 1951 (omega arith) (omega arith))
 
-at-60 : basisOf worseRun .byAge 60 ≡ terms (pos 0) (pos 0) 50 100
+at-60 : basisOf worseRun .byAge 60 ≡ terms (pos 0) (pos 0) 50 10_000
 at-60 = by-age-is 60 (omega arith) (omega arith)
 
-at-62 : basisOf worseRun .byAge 62 ≡ terms (pos 0) (pos 0) 50 100
+at-62 : basisOf worseRun .byAge 62 ≡ terms (pos 0) (pos 0) 50 10_000
 at-62 = by-age-is 62 (omega arith) (omega arith)
 
 in-2009 : NotBelowZero (exactImprovement W 60 2009)

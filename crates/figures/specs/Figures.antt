@@ -9,7 +9,7 @@ use lib.IntN.{ℤ, pos, negsuc}
 use Rattle.basis.specs.Basis.{Basis}
 use Rattle.outcome.specs.Outcome.{Outcome, value, refused, refusal}
 use Rattle.basis.specs.declared.Convergence.{Convergence}
-use Rattle.component.specs.Component.{terms}
+use Rattle.component.specs.PerCent.{termsInPerCent}
 use Rattle.short_form.specs.ShortForm.{longTermOf}
 use Rattle.improvement.specs.Improvement.{improvementOf, improvementNeeded}
 use Rattle.projection.specs.Projection.{factorOf}
@@ -28,7 +28,8 @@ w gives s = record { worked = w; stated = s }
 abbrev shortForm : ℤ → ℕ → Outcome ℤ
 shortForm S age = value (longTermOf S age)
 
--- ---- the bases of the figures: F and B 2006, one base rate at every age, the same terms at every age and at every birth year
+-- ---- the bases of the figures: F and B 2006, one base rate at every age, the same terms at every age and at every birth year; P is in
+-- per cent, as 01 prints it
 abbrev level : ℕ → ℤ → ℤ → Convergence → Convergence → Basis
 level rate discount addition byAge byBirthYear =
     record {
@@ -44,7 +45,7 @@ level rate discount addition byAge byBirthYear =
 
 -- a component that stays the same: I is L
 abbrev steady : ℤ → Convergence
-steady rate = terms rate rate 20 50
+steady rate = termsInPerCent rate rate 20 50
 
 -- one component, by age or by birth year, the other one zero
 abbrev byAgeAlone : Convergence → Basis
@@ -55,7 +56,7 @@ byBirthYearAlone c = level 0 (pos 0) (pos 0) (steady (pos 0)) c
 
 -- the improvement by a component of I, L, T, P alone, n years after F
 abbrev component : (Convergence → Basis) → ℤ → ℤ → ℕ → ℕ → ℕ → Outcome ℤ
-component alone I L T P n = value (improvementOf (alone (terms I L T P)) 60 (2006 + n))
+component alone I L T P n = value (improvementOf (alone (termsInPerCent I L T P)) 60 (2006 + n))
 
 -- improvement 10,000,000 every year
 abbrev improving : Basis
@@ -67,7 +68,7 @@ worsening = level 0 (pos 0) (negsuc 99_999_999) (steady (negsuc 199_999_999)) (s
 
 -- age I 200,000,000, L −200,000,000, T 4, P 150, all else 0
 abbrev rising : Basis
-rising = level 0 (pos 0) (pos 0) (terms (pos 200_000_000) (negsuc 199_999_999) 4 150) (steady (pos 0))
+rising = level 0 (pos 0) (pos 0) (termsInPerCent (pos 200_000_000) (negsuc 199_999_999) 4 150) (steady (pos 0))
 
 -- rate 100,000,000, discount 200,000,000
 abbrev tenth : Basis

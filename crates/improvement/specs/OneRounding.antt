@@ -5,7 +5,7 @@ use Prim.Native.Nat.{ℕ}
 use lib.Dec.{eqb, ltb}
 use lib.IntN.{ℤ, pos, negsuc}
 use Rattle.basis.specs.Basis.{Basis}
-use Rattle.component.specs.Component.{terms}
+use Rattle.component.specs.PerCent.{termsInPerCent}
 use Rattle.improvement.specs.Improvement.{projectedOf}
 
 -- the initial rates of birth years other than 1947, so that none of them gives both numbers below
@@ -21,8 +21,8 @@ halved byAge byBirthYear =
       addition = pos 0;
       discount = pos 0;
       baseRate = λ age. 0;
-      byAge = λ age. terms byAge (pos 0) 2 50;
-      byBirthYear = λ year. terms (cond (eqb year 1947) byBirthYear (otherBirthYear year)) (pos 0) 2 50;
+      byAge = λ age. termsInPerCent byAge (pos 0) 2 50;
+      byBirthYear = λ year. termsInPerCent (cond (eqb year 1947) byBirthYear (otherBirthYear year)) (pos 0) 2 50;
       actual = λ age year. pos 0;
     }
 

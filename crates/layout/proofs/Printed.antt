@@ -1,4 +1,4 @@
--- The layout's offsets and lengths are the paper's, by computation. Assumes nothing.
+-- The layout's offsets, lengths and limit of P are the paper's, by computation. Assumes nothing.
 use mathlib.Core.Path.{refl}
 use Rattle.layout.specs.Printed.{Printed}
 
@@ -15,4 +15,5 @@ printed =
       birthYearProportions = refl;
       dataRun = refl;
       file = refl;
+      proportionLimit = refl;
     }

@@ -24,15 +24,18 @@ valueAt SignedWord run at = i32At run at
 abbrev pub entryAt : Number → List ℕ → ℕ → ℕ → ℤ
 entryAt kind run offset place = valueAt kind run (offset + widthOf kind * place)
 
--- ---- the form of a data run and of its file: the last letter of its mark, the kind of number of P, and the blocks of the file
+-- ---- the form of a data run and of its file: the last letter of its mark, the kind of number of P, how many hundredths of a per cent
+-- one of its P counts, the greatest P in that counting, and the blocks of the file
 pub record Form : Type 0 where
   pub letter : ℕ
   pub proportion : Number
+  pub hundredths : ℕ
+  pub greatest : ℕ
   pub blocks : ℕ
 
--- MPB1: P is one byte, and there are nine blocks
+-- MPB1: P is one byte of whole per cents, to 150, and there are nine blocks
 abbrev pub mpb1 : Form
-mpb1 = record { letter = 49; proportion = Byte; blocks = 9 }
+mpb1 = record { letter = 49; proportion = Byte; hundredths = 100; greatest = 150; blocks = 9 }
 
 -- the form that the length of a data run or of a file tells
 abbrev pub formOf : ℕ → Form
@@ -126,9 +129,9 @@ greatestDiscount = pos 200_000_000
 abbrev pub rateLimit : ℕ
 rateLimit = 200_000_000
 
--- T from 1 to 50 years, P to 150 per cent
+-- T from 1 to 50 years, P to 150 per cent, in hundredths of a per cent
 abbrev pub longestPeriod : ℕ
 longestPeriod = 50
 
 abbrev pub greatestProportion : ℕ
-greatestProportion = 150
+greatestProportion = 15_000

@@ -1,6 +1,7 @@
--- The offsets and lengths that 01 prints ("The basis file").
+-- The offsets and lengths that 01 prints ("The basis file"), and that a form's limit of P is that of a basis.
+use Prim.Native.Nat.{_*_}
 use mathlib.Core.Path.{_≡_}
-use Rattle.layout.specs.Layout.{mpb1, runLength, fileLength}
+use Rattle.layout.specs.Layout.{mpb1, runLength, fileLength, greatestProportion}
 use Rattle.layout.specs.Layout.{ageInitialRatesAt, ageLongTermRatesAt, agePeriodsAt, ageProportionsAt}
 use Rattle.layout.specs.Layout.{birthYearInitialRatesAt, birthYearLongTermRatesAt, birthYearPeriodsAt, birthYearProportionsAt}
 
@@ -15,3 +16,5 @@ pub record Printed : Type 0 where
   pub birthYearProportions : birthYearProportionsAt mpb1 ≡ 4285
   pub dataRun : runLength mpb1 ≡ 4554
   pub file : fileLength mpb1 ≡ 4608
+  -- 150 per cent
+  pub proportionLimit : mpb1 .hundredths * mpb1 .greatest ≡ greatestProportion

@@ -13,8 +13,13 @@ pub enum Number {
     SignedWord,
 }
 
-// The form MPB1: the last letter of its mark, and the blocks of its file, each with 506 data bytes among its 512.
+// The form MPB1: the last letter of its mark; one P of it, which is a per cent, in hundredths of a per cent; its greatest P; and the
+// blocks of its file, each with 506 data bytes among its 512.
 pub const LAST_LETTER: i64 = 49;
+
+pub const PROPORTION_HUNDREDTHS: u16 = 100;
+
+pub const GREATEST_PROPORTION: i64 = 150;
 
 pub const BLOCKS: usize = 9;
 
@@ -87,8 +92,6 @@ pub const RATE_LIMIT: i64 = 200_000_000;
 pub const LEAST_RATE: i64 = -RATE_LIMIT;
 
 pub const LONGEST_PERIOD: i64 = 50;
-
-pub const GREATEST_PROPORTION: i64 = 150;
 
 // The number that stands at an offset.
 pub fn value_at(run: &[u8], kind: Number, at: usize) -> i64

@@ -34,12 +34,15 @@ most q h = rw (le-leb U q h) refl
 
 module _ (b : Basis) (age : ℕ) where
   -- ---- the factor
+  -- a year after B is the definition's step
+  year-is : {base : ℕ} (k : ℕ) (f : ℤ) → base ≡ b .base →
+      factorFrom age (base + 1 + k) (improvementOf b age (base + 1 + k)) f ≡ factorStep b age k f
+  year-is k f e = cc
+
   -- one year more
   pub turn : {base : ℕ} (k : ℕ) (f : ℤ) (o : Outcome ℤ) → base ≡ b .base → steps (factorStep b age) (pos U) k ≡ value f →
       o ≡ factorFrom age (base + 1 + k) (improvementOf b age (base + 1 + k)) f → steps (factorStep b age) (pos U) (suc k) ≡ o
-  turn k f o e h g =
-      next (factorStep b age) (pos U) k f h
-      ∙ sym (g ∙ ap (λ (n : ℕ). factorFrom age (n + 1 + k) (improvementOf b age (n + 1 + k)) f) e)
+  turn k f o e h g = next (factorStep b age) (pos U) k f h ∙ sym (g ∙ year-is k f e)
 
   -- what the last year gives is the answer
   pub ended : (year n : ℕ) (o : Outcome ℤ) → n ≡ heldYear year - b .base → steps (factorStep b age) (pos U) n ≡ o → o ≡ factorOf b age year

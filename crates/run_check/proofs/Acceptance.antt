@@ -36,7 +36,7 @@ module _ (run : List ℕ) (initial long period remaining n : ℕ) where
         long = size (rateLimit - 1) (entryAt SignedWord run long i) (ls .within i l);
         period-low = least (ts .within i l);
         period-high = most (ts .within i l);
-        remaining = most (ps .within i l);
+        remaining = omega (arith, most (ps .within i l));
       }
 
   module _ (t : Terms) where
@@ -46,12 +46,16 @@ module _ (run : List ℕ) (initial long period remaining n : ℕ) where
     longs : Holds run (rates long n)
     longs = record { within = λ i l. sized (rateLimit - 1) (entryAt SignedWord run long i) (t i l .long) }
 
+    -- a limit in hundredths is one in per cent
+    shares : Holds run (proportions mpb1 remaining n)
+    shares = record { within = λ i l. natural (omega arith) (omega (arith, t i l .remaining)) }
+
     term-rows : {fs : List Field} → AllHold run fs → AllHold run (termFields mpb1 initial long period remaining n ++ fs)
     term-rows rest =
         initials
         and longs
         and record { within = λ i l. natural (t i l .period-low) (t i l .period-high) }
-        and record { within = λ i l. natural {l = 0} (omega arith) (t i l .remaining) }
+        and shares
         and rest
 
 -- ---- the letters of the mark

@@ -13,7 +13,7 @@ use Rattle.layout.specs.Layout.{foundationAt, baseAt, additionAt, discountAt, z
 use Rattle.layout.specs.Layout.{ageInitialRatesAt, ageLongTermRatesAt, agePeriodsAt, ageProportionsAt}
 use Rattle.layout.specs.Layout.{birthYearInitialRatesAt, birthYearLongTermRatesAt, birthYearPeriodsAt, birthYearProportionsAt}
 use Rattle.layout.specs.Layout.{earliestYear, lastFoundationYear, lastBaseYear, additionLimit, leastDiscount, greatestDiscount}
-use Rattle.layout.specs.Layout.{rateLimit, longestPeriod, greatestProportion}
+use Rattle.layout.specs.Layout.{rateLimit, longestPeriod}
 use Rattle.field_check.specs.declared.Field.{Field}
 use Rattle.field_check.specs.Field.{field, fieldsCheck}
 
@@ -44,7 +44,7 @@ singleFields =
 abbrev pub baseRates : Field
 baseRates = field 5 Word (pos 0) (pos U) baseRatesAt ages
 
--- I or L, T, and P
+-- I or L, T, and P, which the file counts as its form does
 abbrev pub rates : ℕ → ℕ → Field
 rates offset count = field 5 SignedWord (negℤ (pos rateLimit)) (pos rateLimit) offset count
 
@@ -52,7 +52,7 @@ abbrev pub periods : ℕ → ℕ → Field
 periods offset count = field 5 Byte (pos 1) (pos longestPeriod) offset count
 
 abbrev pub proportions : Form → ℕ → ℕ → Field
-proportions form offset count = field 5 (form .proportion) (pos 0) (pos greatestProportion) offset count
+proportions form offset count = field 5 (form .proportion) (pos 0) (pos (form .greatest)) offset count
 
 -- the four tables of the terms of improvement
 abbrev pub termFields : Form → ℕ → ℕ → ℕ → ℕ → ℕ → List Field

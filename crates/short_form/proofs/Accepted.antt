@@ -22,7 +22,7 @@ use Rattle.short_form.proofs.Reading.{birth-initial, birth-rate, birth-
 
 -- terms with the house's period and proportion
 abbrev houseTerms : ℤ → ℤ → Convergence
-houseTerms initial long = record { initial = initial; long = long; period = everyPeriod; remaining = everyProportion }
+houseTerms initial long = record { initial = initial; long = long; period = everyPeriod; remaining = mpb1 .hundredths * everyProportion }
 
 module _ (run : List ℕ) (rate : ℤ) (long : length run ≡ runLength mpb1) (h : natAbs rate < 2_147_483_648) where
   age-terms : (i : ℕ) → i < ages

@@ -69,9 +69,9 @@ birthYearsOf run =
 unfoldable pub shortFormOf : List ℕ → ℤ → List ℕ
 shortFormOf run rate = agesOf run rate ++ birthYearsOf run
 
--- ---- what it stands for
+-- ---- what it stands for: P is 50 per cent, in hundredths
 abbrev pub shortTerms : ℤ → ℤ → Convergence
-shortTerms initial long = record { initial = initial; long = long; period = 20; remaining = 50 }
+shortTerms initial long = record { initial = initial; long = long; period = 20; remaining = 5_000 }
 
 -- a basis that differs from another only in long-term rates, T and P
 pub record Shortened (b : Basis) (rate : ℤ) (short : Basis) : Type 0 where

@@ -12,11 +12,10 @@ use Rattle.arithmetic.specs.Fraction.{_over_}
 use Rattle.arithmetic.specs.MixedNumbers.{mixedOf}
 use Rattle.arithmetic.specs.declared.Mixed.{Mixed}
 use Rattle.arithmetic.proofs.Difference.{natAbs-add}
-use Rattle.arithmetic.proofs.Rounding.{floor-abs}
 use Rattle.arithmetic.proofs.Machine.{sfits-abs, back, got}
 use Rattle.arithmetic.proofs.Remainders.{mixed}
 use Rattle.component.specs.Component.{slopeOf}
-use Rattle.component.proofs.Size.{excess-abs, slope-abs, square, cube, divisor, divisor-proper, dividend, dividend-abs}
+use Rattle.component.proofs.Size.{excess-abs, slope-abs, square, cube, divisor, divisor-proper, dividend, quotient-abs}
 use Rattle.component.proofs.Parts.{component-before, component-after}
 use Rattle.component.proofs.converging.Statement.{statement}
 use Rattle.component.proofs.converging.Tie as tie
@@ -32,7 +31,7 @@ module _ (s : tie.Start) where
   excess-small : natAbs (s .args .initial -ℤ s .args .long) ≤ 400_000_000
   excess-small = excess-abs (s .args .initial) (s .args .long) (s .pre .initial) (s .pre .long)
 
-  slope-small : s .args .years < s .args .period → natAbs slope-at ≤ 55_000
+  slope-small : s .args .years < s .args .period → natAbs slope-at ≤ 5_500_000
   unfolding slope-at
   slope-small l = slope-abs (s .args .period) (s .args .remaining) (s .args .years) (s .pre .period-high) (s .pre .remaining) (omega arith)
 
@@ -40,8 +39,8 @@ module _ (s : tie.Start) where
   unfolding dividend-at
   sum-fits l =
       let a = s .args in
-      let small = dividend-abs (a .initial) (a .long) (a .period) (a .remaining) (a .years) (s .pre) (omega arith) in
-      sfits-abs (omega (arith, natAbs-add (a .long) (floorDiv dividend-at (divisor (a .period))), floor-abs dividend-at (divisor (a .period)), small, s .pre .long))
+      let small = quotient-abs (a .initial) (a .long) (a .period) (a .remaining) (a .years) (s .pre) (omega arith) in
+      sfits-abs (omega (arith, natAbs-add (a .long) (floorDiv dividend-at (divisor (a .period))), small, s .pre .long))
 
 -- what the calls gave, read back
 excess-is : (c : tie.After-excess) → let a = c .before .before .args in toZ w64 (ofZ w64 (c .excess .result)) ≡ a .initial -ℤ a .long

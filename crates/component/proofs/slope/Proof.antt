@@ -14,26 +14,26 @@ use Rattle.component.proofs.slope.Statement.{statement}
 use Rattle.component.proofs.slope.Tie as tie
 
 difference : (c : tie.Start) → let a = c .args in
-    toZ w64 (100 * a .period + 8 * a .remaining * a .years) -ℤ toZ w64 (200 * a .years) ≡ slopeOf (a .period) (a .remaining) (a .years)
+    toZ w64 (10_000 * a .period + 8 * a .remaining * a .years) -ℤ toZ w64 (20_000 * a .years) ≡ slopeOf (a .period) (a .remaining) (a .years)
 difference c =
     let a = c .args in
-    let g = grow (a .remaining) (a .years) (c .pre .1) in
-    rw (toZ-pos w64 {n = 100 * a .period + 8 * a .remaining * a .years} (omega arith), toZ-pos w64 {n = 200 * a .years} (omega arith))
+    let g = grow (a .remaining) (a .years) (omega arith) in
+    rw (toZ-pos w64 {n = 10_000 * a .period + 8 * a .remaining * a .years} (omega arith), toZ-pos w64 {n = 20_000 * a .years} (omega arith))
     (slope-is (a .period) (a .remaining) (a .years))
 
 fits : (c : tie.Start) → SFits w64 (slopeOf (c .args .period) (c .args .remaining) (c .args .years))
 fits c =
     let a = c .args in
-    sfits-abs (omega (arith, slope-abs (a .period) (a .remaining) (a .years) (c .pre .0) (c .pre .1) (c .pre .2)))
+    sfits-abs (omega (arith, slope-abs (a .period) (a .remaining) (a .years) (omega arith) (omega arith) (omega arith)))
 
 mul-up-3 : tie.Need-mul-up-3
-mul-up-3 c = omega (arith, grow (c .args .remaining) (c .args .years) (c .pre .1))
+mul-up-3 c = omega (arith, grow (c .args .remaining) (c .args .years) (omega arith))
 
 add-up : tie.Need-add-up
-add-up c = omega (arith, grow (c .args .remaining) (c .args .years) (c .pre .1))
+add-up c = omega (arith, grow (c .args .remaining) (c .args .years) (omega arith))
 
 cast-result : tie.Need-cast-result
-cast-result c = record { sfits = omega (arith, grow (c .args .remaining) (c .args .years) (c .pre .1)) }
+cast-result c = record { sfits = omega (arith, grow (c .args .remaining) (c .args .years) (omega arith)) }
 
 sub-result : tie.Need-sub-result
 sub-result c = rw (difference c) (fits c)

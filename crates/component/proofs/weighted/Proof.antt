@@ -12,21 +12,21 @@ use Rattle.component.proofs.weighted.Statement.{statement}
 use Rattle.component.proofs.weighted.Tie as tie
 
 square-is : (c : tie.Start) → toZ w64 (c .args .left * c .args .left) ≡ pos (c .args .left * c .args .left)
-square-is c = toZ-pos w64 (omega (arith, square (c .args .left) (c .pre .1)))
+square-is c = toZ-pos w64 (omega (arith, square (c .args .left) (omega arith)))
 
 inner-fits : (c : tie.Start) → SFits w64 (pos (c .args .left * c .args .left) *ℤ c .args .slope)
-inner-fits c = sfits-abs (omega (arith, inner-abs (c .args .left) (c .args .slope) (c .pre .1) (c .pre .2)))
+inner-fits c = sfits-abs (omega (arith, inner-abs (c .args .left) (c .args .slope) (omega arith) (omega arith)))
 
 outer-fits : (c : tie.Start) → SFits w64 (c .args .excess *ℤ (pos (c .args .left * c .args .left) *ℤ c .args .slope))
 outer-fits c =
     let a = c .args in
-    sfits-abs (omega (arith, weighted-abs (a .excess) (a .left) (a .slope) (c .pre .0) (c .pre .1) (c .pre .2)))
+    sfits-abs (omega (arith, weighted-abs (a .excess) (a .left) (a .slope) (omega arith) (omega arith) (omega arith)))
 
 mul-result : tie.Need-mul-result
-mul-result c = omega (arith, square (c .args .left) (c .pre .1))
+mul-result c = omega (arith, square (c .args .left) (omega arith))
 
 cast-result : tie.Need-cast-result
-cast-result c = record { sfits = omega (arith, square (c .args .left) (c .pre .1)) }
+cast-result c = record { sfits = omega (arith, square (c .args .left) (omega arith)) }
 
 mul-result-2 : tie.Need-mul-result-2
 mul-result-2 c = rw (square-is c, toZ-ofZ (c .fits .slope)) (inner-fits c)
