@@ -13,17 +13,21 @@ use Rattle.history.specs.History.{basisWith}
 use Rattle.reply_text.specs.Reply.{headerLine}
 use Rattle.enquiry_lines.specs.Lines.{ended, unfinished, lastLine, linesOf, replies}
 use Rattle.enquiry_lines.specs.Output.{filesCheck, printed, outputOf}
+use Rattle.enquiry_lines.specs.State.{emptyAfter, kept, Answered}
+use Rattle.enquiry_lines.specs.declared.Fed.{Fed}
 use Rattle.enquiry_lines.proofs.Parting.{replies-parts, alike-last}
+use Rattle.enquiry_lines.proofs.State.{held-kept, held-complete}
 
 -- of a last line its first 16 bytes are enough
-pub last-reply : (basis : Basis) (n : ℕ) (text kept : List ℕ) → kept ≡ take 16 (unfinished [] text) → n ≡ length (ended [] text) →
-    replies basis 1 (ended [] text) ++ replies basis (n + 1) (lastLine kept) ≡ replies basis 1 (linesOf text)
+pub last-reply : {basis : Basis} {text out : List ℕ} {from : ℕ} {after : List ℕ} {r : Fed} → Answered basis (emptyAfter 0) text out from after r →
+    replies basis 1 (ended [] text) ++ replies basis (r .pending .complete + 1) (lastLine (kept (r .pending))) ≡ replies basis 1 (linesOf text)
 unfolding linesOf
-last-reply basis n text kept k e =
+last-reply {basis} {text} {r = r} a =
     let u = unfinished [] text in
-    let m : n + 1 ≡ 1 + length (ended [] text) = omega arith in
-    let last = alike-last basis (n + 1) kept u (ap (take 16) k ∙ take-take 16 16 u (omega arith)) ∙ ap (λ j. replies basis j (lastLine u)) m in
-    ap (λ r. replies basis 1 (ended [] text) ++ r) last ∙ sym (replies-parts basis 1 (ended [] text) (lastLine u))
+    let n : r .pending .complete + 1 ≡ 1 + length (ended [] text) = omega (arith, held-complete _ _ _ (a .left)) in
+    let alike = ap (take 16) (held-kept _ _ _ (a .left)) ∙ take-take 16 16 u (omega arith) in
+    let last = alike-last basis _ (kept (r .pending)) u alike ∙ ap (λ k. replies basis k (lastLine u)) n in
+    ap (λ l. replies basis 1 (ended [] text) ++ l) last ∙ sym (replies-parts basis 1 (ended [] text) (lastLine u))
 
 module _ (file history text : List ℕ) where
   pub accepted-output : filesCheck file history ≡ passed →
