@@ -15,7 +15,8 @@ use Rattle.enquiry_lines.specs.State.{kept, emptyAfter, replyRoom, Sound
 use Rattle.enquiry_lines.specs.declared.Fed.{Fed}
 use Rattle.enquiry_lines.specs.declared.Pending.{Pending}
 use Rattle.enquiry_lines.proofs.State.{kept-length, sound-empty, sound-grows, pending-is, held-sound, held-kept, held-complete}
-use Rattle.enquiry_lines.proofs.Parting.{ended-one, ended-none, ended-few, unfinished-none, unfinished-more, no-replies, reply-alone, Left, left-next, said-next}
+use Rattle.enquiry_lines.proofs.Parting.{Left, left-next, said-next, ended-one, ended-none, ended-few, unfinished-none, unfinished-more}
+use Rattle.enquiry_lines.proofs.Parting.{no-replies, reply-alone}
 
 -- ---- one byte
 module _ (s : Pending) (b : ℕ) where

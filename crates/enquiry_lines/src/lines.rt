@@ -28,7 +28,8 @@ fn put_line(
 ) -> usize
     requires { ⌜ Tabled (now run) (now history) (now table) ⌝ }
     requires { ⌜ at + replyRoom ≤ length (now out) ⌝ }
-    ensures { λ r. ⌜ Put (now (out .entry)) at (replyTo (basisWith (now (run .entry)) (now (history .entry))) (lineOf number (now (text .entry)))) (now (out .exit)) r ⌝ }
+    ensures { λ r. ⌜ Put (now (out .entry)) at
+        (replyTo (basisWith (now (run .entry)) (now (history .entry))) (lineOf number (now (text .entry)))) (now (out .exit)) r ⌝ }
     ensures { λ r. ⌜ r ≤ at + replyRoom ⌝ }
 {
     match parse::parse_line(text) {
@@ -70,7 +71,8 @@ pub fn feed(
     from: usize,
 ) -> Fed
     requires { ⌜ Ready (now run) (now history) (now table) s (length (now part)) (now out) from ⌝ }
-    ensures { λ r. ⌜ Answered (basisWith (now (run .entry)) (now (history .entry))) s (now (part .entry)) (now (out .entry)) from (now (out .exit)) r ⌝ }
+    ensures { λ r. ⌜ Answered (basisWith (now (run .entry)) (now (history .entry))) s (now (part .entry)) (now (out .entry)) from
+        (now (out .exit)) r ⌝ }
 {
     let mut bytes = s.bytes;
     let mut len = s.len;
@@ -113,7 +115,8 @@ pub fn finish(
     from: usize,
 ) -> usize
     requires { ⌜ Ready (now run) (now history) (now table) s 1 (now out) from ⌝ }
-    ensures { λ r. ⌜ Put (now (out .entry)) from (replies (basisWith (now (run .entry)) (now (history .entry))) (s .complete + 1) (lastLine (kept s))) (now (out .exit)) r ⌝ }
+    ensures { λ r. ⌜ Put (now (out .entry)) from
+        (replies (basisWith (now (run .entry)) (now (history .entry))) (s .complete + 1) (lastLine (kept s))) (now (out .exit)) r ⌝ }
 {
     let len = s.len;
     if len == 0 {

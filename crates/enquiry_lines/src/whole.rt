@@ -28,7 +28,8 @@ fn feed_parts(
     from: usize,
 ) -> Fed
     requires { ⌜ Ready (now run) (now history) (now table) (emptyAfter 0) (length (now text)) (now out) from ⌝ }
-    ensures { λ r. ⌜ Answered (basisWith (now (run .entry)) (now (history .entry))) (emptyAfter 0) (now (text .entry)) (now (out .entry)) from (now (out .exit)) r ⌝ }
+    ensures { λ r. ⌜ Answered (basisWith (now (run .entry)) (now (history .entry))) (emptyAfter 0) (now (text .entry)) (now (out .entry))
+        from (now (out .exit)) r ⌝ }
 {
     let mut pending = lines::begin();
     let mut at = from;

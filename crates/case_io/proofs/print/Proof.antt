@@ -6,17 +6,8 @@ use borrow.Author.Needs.{needs}
 use Rattle.case_io.proofs.print.Statement.{statement}
 use Rattle.case_io.proofs.print.Tie as tie
 
-array-share-prefix-bytes : tie.Need-array-share-prefix-bytes
-array-share-prefix-bytes c = search needs
-
 slice-aggregate-write-all : tie.Need-slice-aggregate-write-all
 slice-aggregate-write-all c = let s = c .before in sym (length-take-le (s .args .length) _ (omega (arith, s .good .0)))
 
-write-all-requires : tie.Need-write-all-requires
-write-all-requires c κs = search needs
-
-returns : tie.Need-returns
-returns c = search needs
-
 pub print-spec : {M : Type 1} → statement M
-print-spec = tie.close (tie.spec array-share-prefix-bytes slice-aggregate-write-all write-all-requires returns)
+print-spec = tie.close (tie.spec (search needs) slice-aggregate-write-all (λ c κs. search needs) (search needs))

@@ -2,7 +2,6 @@
 use mathlib.Core.Path.{refl, _∙_}
 use Prim.Native.Nat.{ℕ}
 use mathlib.Core.List.{List, [], _∷_, _++_, append-assoc}
-use native.Mathlib.Omega.{arith}
 use borrow.Author.Needs.{needs}
 use Rattle.reply_text.specs.Decimal.{digitsOf}
 use Rattle.reply_text.specs.Put.{Put}
@@ -11,24 +10,10 @@ use Rattle.case_io.specs.Lines.{byValue, namedLine}
 use Rattle.case_io.proofs.print_named.Statement.{statement}
 use Rattle.case_io.proofs.print_named.Tie as tie
 
-named : (word : List ℕ) (n : ℕ) {out line after : List ℕ} {at r : ℕ} → Put out 0 word line at → Put line at (digitsOf n ++ 10 ∷ []) after r → Put out 0 (namedLine word n) after r
+named : (word : List ℕ) (n : ℕ) {out line after : List ℕ} {at r : ℕ} →
+    Put out 0 word line at → Put line at (digitsOf n ++ 10 ∷ []) after r → Put out 0 (namedLine word n) after r
 unfolding namedLine
 named word n p q = being (simp append-assoc) refl (then p q)
-
-slice-aggregate-put-text : tie.Need-slice-aggregate-put-text
-slice-aggregate-put-text c = search needs
-
-put-text-requires : tie.Need-put-text-requires
-put-text-requires c κs = search needs
-
-slice-aggregate-put-number : tie.Need-slice-aggregate-put-number
-slice-aggregate-put-number c = search needs
-
-put-number-requires : tie.Need-put-number-requires
-put-number-requires c κs = search needs
-
-print-requires : tie.Need-print-requires
-print-requires c κs = search needs
 
 returns : tie.Need-returns
 unfolding byValue
@@ -39,10 +24,5 @@ returns c =
 pub print-named-spec : {M : Type 1} → statement M
 print-named-spec =
     tie.close
-    (tie.spec
-    slice-aggregate-put-text
-    put-text-requires
-    slice-aggregate-put-number
-    put-number-requires
-    print-requires
+    (tie.spec (search needs) (λ c κs. search needs) (search needs) (λ c κs. search needs) (λ c κs. search needs)
     returns)

@@ -46,38 +46,14 @@ abbrev μ-loop : tie.MeasureT-loop
 loop-holds : tie.Need-loop-holds Inv-loop μ-loop
 loop-holds c = (refl, refl, omega arith, omega arith, none _)
 
-slice-aggregate-put-number : tie.Need-slice-aggregate-put-number Inv-loop μ-loop
-slice-aggregate-put-number c = search needs
-
-mul-put-number : tie.Need-mul-put-number Inv-loop μ-loop
-mul-put-number c = search needs
-
-shared-slice-read-put-number : tie.Need-shared-slice-read-put-number Inv-loop μ-loop
-shared-slice-read-put-number c = search needs
-
-add-separator : tie.Need-add-separator Inv-loop μ-loop
-add-separator c = search needs
-
-separator-requires : tie.Need-separator-requires Inv-loop μ-loop
-separator-requires c κs = search needs
-
 put-number-requires : tie.Need-put-number-requires Inv-loop μ-loop
 put-number-requires c κs = omega arith
-
-add-i : tie.Need-add-i Inv-loop μ-loop
-add-i c = search needs
-
-loop-less : tie.Need-loop-less Inv-loop μ-loop
-loop-less c = search needs
 
 loop-again : tie.Need-loop-again Inv-loop μ-loop
 loop-again c =
     let p = c .before in
     let l = p .before .before .before .before .before .loop in
     (omega arith, omega arith, omega arith, omega arith, turn _ _ _ (p .before .separator .ensures) (l .inv .4) (p .put-number .ensures .0))
-
-print-requires : tie.Need-print-requires Inv-loop μ-loop
-print-requires c κs = search needs
 
 returns : tie.Need-returns Inv-loop μ-loop
 unfolding byValue numbersLine
@@ -86,18 +62,6 @@ returns c = let l = c .before .before .loop in c .print .ensures ∙ in-zeros 19
 pub print-numbers-spec : {M : Type 1} → statement M
 print-numbers-spec =
     tie.close
-    (tie.spec
-    Inv-loop
-    μ-loop
-    loop-holds
-    slice-aggregate-put-number
-    mul-put-number
-    shared-slice-read-put-number
-    add-separator
-    separator-requires
-    put-number-requires
-    add-i
-    loop-less
-    loop-again
-    print-requires
+    (tie.spec Inv-loop μ-loop loop-holds (search needs) (search needs) (search needs) (search needs)
+    (λ c κs. search needs) put-number-requires (search needs) (search needs) loop-again (λ c κs. search needs)
     returns)

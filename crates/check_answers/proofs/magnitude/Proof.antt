@@ -46,9 +46,6 @@ cast-result-2 c =
 returns : tie.Need-returns
 returns c = let b = below c in simp (b .flipped, b .m-is) (omega arith ∙ ap natAbs (sym (b .is)))
 
-returns-2 : tie.Need-returns-2
-returns-2 c = search needs
-
 pub magnitude-spec : {M : Type 1} → statement M
 magnitude-spec =
-    tie.close (tie.spec sub-result cast-result add-result cast-result-2 returns returns-2)
+    tie.close (tie.spec sub-result cast-result add-result cast-result-2 returns (λ c. search needs))

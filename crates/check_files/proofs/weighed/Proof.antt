@@ -6,17 +6,8 @@ use borrow.Author.Needs.{needs}
 use Rattle.check_files.proofs.weighed.Statement.{statement}
 use Rattle.check_files.proofs.weighed.Tie as tie
 
-cast-result : tie.Need-cast-result
-cast-result c = search needs
-
-add-result : tie.Need-add-result
-add-result c = search needs
-
 mul-result : tie.Need-mul-result
 mul-result c = record { fits = lt-of-le-of-lt (mul-le-mul {n₂ = 5000} {m₂ = 255} (omega arith) (omega arith)) (lit< tt) }
 
-returns : tie.Need-returns
-returns c = search needs
-
 pub weighed-spec : {M : Type 1} → statement M
-weighed-spec = tie.close (tie.spec cast-result add-result mul-result returns)
+weighed-spec = tie.close (tie.spec (search needs) (search needs) mul-result (search needs))

@@ -13,7 +13,8 @@ slice-aggregate-write-out c = let f = c .before .before .before .feed in
     sym (length-take-le (f .result .at) (f .last .1 .1 .1 .1 .1 .0) (omega arith))
 
 -- what a block that is read leaves
-fed : (f : tie.After-feed) → let s = f .before .before .before .before .before .before .before .before .before .before .before .before .before .before .before in
+fed : (f : tie.After-feed) →
+    let s = f .before .before .before .before .before .before .before .before .before .before .before .before .before .before .before in
     let a = s .args in
     let part = f .before .before .before .before .before .before .before .before .read .last .1 .0 in
     ReadyForBlocks (a .run .now) (a .history .now) (a .table .now) (f .feed .result .pending) (a .blocks) part (f .feed .last .1 .1 .1 .1 .1 .0)

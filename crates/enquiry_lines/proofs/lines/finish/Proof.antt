@@ -1,9 +1,7 @@
 -- Nothing kept is no line; anything kept is the last line.
-use Prim.Native.Nat.{_+_}
 use mathlib.Core.Path.{sym, _∙_}
 use native.Mathlib.Omega.{arith}
 use borrow.Author.Tests.{eq-eqb, ne-eqb}
-use Rattle.history.specs.History.{basisWith}
 use Rattle.reply_text.proofs.Puts.{nothing}
 use Rattle.enquiry_lines.proofs.Parting.{no-replies, reply-alone}
 use Rattle.enquiry_lines.proofs.State.{kept-length}
