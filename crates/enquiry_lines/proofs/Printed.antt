@@ -19,7 +19,7 @@ use Rattle.enquiry_lines.specs.declared.Fed.{Fed}
 use Rattle.enquiry_lines.specs.declared.Opening.{Opening}
 use Rattle.enquiry_lines.proofs.Parting.{replies-parts, alike-last}
 use Rattle.enquiry_lines.proofs.Opened.{files-passed, opened-run}
-use Rattle.enquiry_lines.proofs.State.{held-kept, held-complete}
+use Rattle.enquiry_lines.proofs.State.{left-part}
 
 -- of a last line its first 16 bytes are enough
 pub last-reply : {basis : Basis} {text out : List ℕ} {from : ℕ} {after : List ℕ} {r : Fed} → Answered basis (emptyAfter 0) text out from after r →
@@ -27,8 +27,8 @@ pub last-reply : {basis : Basis} {text out : List ℕ} {from : ℕ} {after : Lis
 unfolding linesOf
 last-reply {basis} {text} {r = r} a =
     let u = unfinished [] text in
-    let n : r .pending .complete + 1 ≡ 1 + length (ended [] text) = omega (arith, held-complete _ _ _ (a .left)) in
-    let alike = ap (take 16) (held-kept _ _ _ (a .left)) ∙ take-take 16 16 u (omega arith) in
+    let n : r .pending .complete + 1 ≡ 1 + length (ended [] text) = omega (arith, left-part a .complete) in
+    let alike = ap (take 16) (left-part a .begun) ∙ take-take 16 16 u (omega arith) in
     let last = alike-last basis _ (kept (r .pending)) u alike ∙ ap (λ k. replies basis k (lastLine u)) n in
     ap (λ l. replies basis 1 (ended [] text) ++ l) last ∙ sym (replies-parts basis 1 (ended [] text) (lastLine u))
 

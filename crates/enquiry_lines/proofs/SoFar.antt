@@ -14,7 +14,7 @@ use Rattle.enquiry_lines.specs.Lines.{ended, unfinished, replyTo, replie
 use Rattle.enquiry_lines.specs.State.{kept, emptyAfter, replyRoom, Sound, Ready, Answered}
 use Rattle.enquiry_lines.specs.declared.Fed.{Fed}
 use Rattle.enquiry_lines.specs.declared.Pending.{Pending}
-use Rattle.enquiry_lines.proofs.State.{kept-length, sound-empty, sound-grows, pending-is, held-sound, held-kept, held-complete}
+use Rattle.enquiry_lines.proofs.State.{kept-length, sound-empty, sound-grows, pending-is, left-sound, left-part}
 use Rattle.enquiry_lines.proofs.Parting.{Left, left-next, said-next, ended-one, ended-none, ended-few, unfinished-none, unfinished-more}
 use Rattle.enquiry_lines.proofs.Parting.{no-replies, reply-alone}
 
@@ -75,11 +75,11 @@ module _ {run history numbers part first : List ℕ} {from : ℕ} {s : Pending} 
         Put out (r .at) (replies (basisWith run history) (r .pending .complete + 1) (ended (kept (r .pending)) t)) after (next .at) →
         next .at ≤ r .at + replyRoom * length t → Sound (next .pending) → SoFar run history numbers part first from s after next (i + length t)
     turns t grown l next k p m d =
-        let says = said-next (kept s) (s .complete) (take i part) (kept (r .pending)) (r .pending .complete) (h .left) t (basisWith run history) in
+        let says = said-next (h .left) t (basisWith run history) in
         let few = ended-few (kept (r .pending)) t in
         record {
           within = l;
-          left = rw grown at (left-next (kept s) (s .complete) (take i part) (kept (r .pending)) (r .pending .complete) (h .left) t k);
+          left = rw grown at (left-next (h .left) t k);
           put = rw grown at (being says refl (then (h .put) p));
           most = omega arith;
           ready = record { tabled = h .ready .tabled; room = omega arith; sound = d; countable = omega arith };
@@ -92,8 +92,7 @@ module _ {run history numbers part first : List ℕ} {from : ℕ} {s : Pending} 
         let t = take n (drop i part) in
         let size = length-take-le n (drop i part) (rw (length-drop i part) (omega arith)) in
         let grown = sym (take-add i n part) ∙ ap (λ k. take (i + k) part) (sym size) in
-        rw size at (turns t grown (omega arith) next (record { begun = held-kept _ _ _ (a .left); complete = held-complete _ _ _ (a .left) }) (a .put) (a .most)
-        (held-sound _ _ _ (a .left)))
+        rw size at (turns t grown (omega arith) next (left-part a) (a .put) (a .most) (left-sound a))
 
     -- all of it
     pub ends : length part ≤ i → Answered (basisWith run history) s part first from out r

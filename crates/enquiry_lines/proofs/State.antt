@@ -9,8 +9,9 @@ use lib.Seq.{length-take-le, drop-cons, drop-set-lt, take-at, drop-at}
 use Rattle.basis.specs.Basis.{Basis}
 use Rattle.enquiry_lines.specs.declared.Fed.{Fed}
 use Rattle.enquiry_lines.specs.declared.Pending.{Pending}
+use Rattle.enquiry_lines.specs.Lines.{unfinished}
 use Rattle.enquiry_lines.specs.State.{pendingOf, emptyAfter, kept, Sound, Answered}
-use Rattle.enquiry_lines.proofs.Parting.{ended-few}
+use Rattle.enquiry_lines.proofs.Parting.{Left, ended-few}
 
 pub kept-length : (s : Pending) → Sound s → length (kept s) ≡ s .len
 kept-length s h = length-take-le (s .len) (s .bytes) (omega arith)
@@ -52,22 +53,14 @@ module _ (line : List ℕ) (n : ℕ) where
         rest = drop-at (take 16 line) _ (length (take 16 line)) refl;
       }
 
-module _ (line : List ℕ) (n : ℕ) (s : Pending) (e : s ≡ pendingOf line n) where
-  pub held-sound : Sound s
-  held-sound = rw e (pending-sound line n)
-
-  pub held-kept : kept s ≡ take 16 line
-  unfolding pendingOf
-  held-kept = rw e (take-at (take 16 line) _ (length (take 16 line)) refl)
-
-  pub held-complete : s .complete ≡ n
-  unfolding pendingOf
-  held-complete = rw e refl
-
 -- what a part leaves; a line at the most is complete for each of its bytes
 module _ {basis : Basis} {s : Pending} {part out : List ℕ} {from : ℕ} {after : List ℕ} {r : Fed} (a : Answered basis s part out from after r) where
   pub left-sound : Sound (r .pending)
-  left-sound = held-sound _ _ _ (a .left)
+  left-sound = rw (a .left) (pending-sound _ _)
+
+  pub left-part : Left (kept s) (s .complete) part (kept (r .pending)) (r .pending .complete)
+  unfolding pendingOf
+  left-part = rw (a .left) (record { begun = take-at (take 16 (unfinished (kept s) part)) _ _ refl; complete = refl })
 
   pub left-few : r .pending .complete ≤ s .complete + length part
-  left-few = omega (arith, held-complete _ _ _ (a .left), ended-few (kept s) part)
+  left-few = omega (arith, left-part .complete, ended-few (kept s) part)
