@@ -5,7 +5,7 @@ use mathlib.Core.List.{List, _++_, append-nil}
 use native.Mathlib.Omega.{arith}
 use lib.ListN.{length, drop-of-length-le}
 use Rattle.basis.specs.Basis.{basisOf, Accepted}
-use Rattle.outcome.specs.Outcome.{Finding, passed}
+use Rattle.outcome.specs.Outcome.{Finding, passed, finding}
 use Rattle.outcome.proofs.Outcome.{both-passed}
 use Rattle.lent.specs.Lent.{written}
 use Rattle.lent.proofs.Lent.{roomy, filled}
@@ -15,7 +15,8 @@ use Rattle.basis_file.specs.File.{runIn, fileCheck, readCheck}
 use Rattle.basis_file.proofs.RoundTrip.{run-accepted}
 use Rattle.history.specs.History.{historyCheck, runAndHistoryCheck, Workable}
 use Rattle.history.proofs.Acceptance.{accepted-workable}
-use Rattle.enquiry_lines.specs.Output.{filesCheck}
+use Rattle.enquiry_lines.specs.declared.Opening.{Opening}
+use Rattle.enquiry_lines.specs.Output.{filesCheck, Opened}
 
 -- an accepted file's run fills a room of its own length
 module _ (file : List ℕ) (h : fileCheck file ≡ passed) where
@@ -31,14 +32,18 @@ module _ (file : List ℕ) (h : fileCheck file ≡ passed) where
 pub read-check : (file room : List ℕ) → length room ≡ runLength mpb1 → (c : Finding) → c ≡ readCheck file room → fileCheck file ≡ c
 read-check file room l c e = sym (roomy (runLength mpb1) room (fileCheck file) (omega arith)) ∙ sym e
 
--- the run with its history
-module _ (file history : List ℕ) where
-  both : filesCheck file history ≡ passed → (fileCheck file ≡ passed) × (runAndHistoryCheck (runIn file) history ≡ passed)
+-- the run with its history, where the files have passed
+module _ {file history room out run after : List ℕ} {r : Opening} (o : Opened file history room out run after r) (l : length room ≡ runLength mpb1)
+    (h : finding (r .check) ≡ passed) where
+  pub files-passed : filesCheck file history ≡ passed
+  files-passed = sym (o .checked) ∙ h
+
+  both : (fileCheck file ≡ passed) × (historyCheck (basisOf (runIn file)) history ≡ passed)
+  both = both-passed (fileCheck file) (historyCheck (basisOf (runIn file)) history) files-passed
+
+  pub opened-run : run ≡ runIn file
+  opened-run = o .read ∙ run-fills file (both .0) room l (finding (r .check)) h
+
+  pub opened-workable : Workable run history
   unfolding runAndHistoryCheck
-  both h = let p = both-passed (fileCheck file) (historyCheck (basisOf (runIn file)) history) h in (p .0, rw (run-accepted file (p .0)) (p .1))
-
-  pub opened-run : (run : List ℕ) → length run ≡ runLength mpb1 → (c : Finding) → c ≡ filesCheck file history → c ≡ passed → written c (runIn file) run ≡ runIn file
-  opened-run run l c e h = run-fills file (both (sym e ∙ h) .0) run l c h
-
-  pub opened-with : filesCheck file history ≡ passed → Workable (runIn file) history
-  opened-with h = accepted-workable (runIn file) history (both h .1)
+  opened-workable = rw opened-run (accepted-workable (runIn file) history (rw (run-accepted file (both .0)) (both .1)))

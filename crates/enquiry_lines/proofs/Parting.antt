@@ -156,7 +156,7 @@ pub record Left (line : List ℕ) (n : ℕ) (part line′ : List ℕ) (n′ : �
   pub complete : n′ ≡ n + length (ended line part)
 
 -- ---- Two parts, one after the other, are the whole.
-module _ (line : List ℕ) (n : ℕ) (s line′ : List ℕ) (n′ : ℕ) (h : Left line n s line′ n′) (t : List ℕ) where
+module _ {line : List ℕ} {n : ℕ} {s line′ : List ℕ} {n′ : ℕ} (h : Left line n s line′ n′) (t : List ℕ) where
   alike : Alike line′ (unfinished line s)
   alike = ap (take 16) (h .begun) ∙ take-take 16 16 (unfinished line s) (omega arith)
 

@@ -8,29 +8,37 @@ use lib.Seq.{take-take}
 use Rattle.outcome.specs.declared.Refusal.{Refusal}
 use Rattle.basis.specs.Basis.{Basis}
 use Rattle.basis_file.specs.File.{runIn}
-use Rattle.outcome.specs.Outcome.{passed, refusedBy}
+use Rattle.outcome.specs.Outcome.{passed, refusedBy, finding}
+use Rattle.layout.specs.Layout.{mpb1, runLength}
 use Rattle.history.specs.History.{basisWith}
 use Rattle.reply_text.specs.Reply.{headerLine}
 use Rattle.enquiry_lines.specs.Lines.{ended, unfinished, lastLine, linesOf, replies}
-use Rattle.enquiry_lines.specs.Output.{filesCheck, printed, outputOf}
+use Rattle.enquiry_lines.specs.Output.{filesCheck, printed, outputOf, Opened}
+use Rattle.enquiry_lines.specs.State.{emptyAfter, kept, Answered}
+use Rattle.enquiry_lines.specs.declared.Fed.{Fed}
+use Rattle.enquiry_lines.specs.declared.Opening.{Opening}
 use Rattle.enquiry_lines.proofs.Parting.{replies-parts, alike-last}
+use Rattle.enquiry_lines.proofs.Opened.{files-passed, opened-run}
+use Rattle.enquiry_lines.proofs.State.{left-part}
 
 -- of a last line its first 16 bytes are enough
-pub last-reply : (basis : Basis) (n : ℕ) (text kept : List ℕ) → kept ≡ take 16 (unfinished [] text) → n ≡ length (ended [] text) →
-    replies basis 1 (ended [] text) ++ replies basis (n + 1) (lastLine kept) ≡ replies basis 1 (linesOf text)
+pub last-reply : {basis : Basis} {text out : List ℕ} {from : ℕ} {after : List ℕ} {r : Fed} → Answered basis (emptyAfter 0) text out from after r →
+    replies basis 1 (ended [] text) ++ replies basis (r .pending .complete + 1) (lastLine (kept (r .pending))) ≡ replies basis 1 (linesOf text)
 unfolding linesOf
-last-reply basis n text kept k e =
+last-reply {basis} {text} {r = r} a =
     let u = unfinished [] text in
-    let m : n + 1 ≡ 1 + length (ended [] text) = omega arith in
-    let last = alike-last basis (n + 1) kept u (ap (take 16) k ∙ take-take 16 16 u (omega arith)) ∙ ap (λ j. replies basis j (lastLine u)) m in
-    ap (λ r. replies basis 1 (ended [] text) ++ r) last ∙ sym (replies-parts basis 1 (ended [] text) (lastLine u))
+    let n : r .pending .complete + 1 ≡ 1 + length (ended [] text) = omega (arith, left-part a .complete) in
+    let alike = ap (take 16) (left-part a .begun) ∙ take-take 16 16 u (omega arith) in
+    let last = alike-last basis _ (kept (r .pending)) u alike ∙ ap (λ k. replies basis k (lastLine u)) n in
+    ap (λ l. replies basis 1 (ended [] text) ++ l) last ∙ sym (replies-parts basis 1 (ended [] text) (lastLine u))
 
-module _ (file history text : List ℕ) where
-  pub accepted-output : filesCheck file history ≡ passed →
-      printed (filesCheck file history) [] ++ replies (basisWith (runIn file) history) 1 (linesOf text) ≡ outputOf file history text
+module _ {file history room out run after : List ℕ} {r : Opening} (o : Opened file history room out run after r) (text : List ℕ) where
+  pub accepted-output : length room ≡ runLength mpb1 → finding (r .check) ≡ passed →
+      printed (filesCheck file history) [] ++ replies (basisWith run history) 1 (linesOf text) ≡ outputOf file history text
   unfolding outputOf
-  accepted-output e = rw e (ap (λ r. r ++ replies (basisWith (runIn file) history) 1 (linesOf text)) (append-nil headerLine))
+  accepted-output l h =
+      rw (opened-run o l h, files-passed o l h) (ap (λ line. line ++ replies (basisWith (runIn file) history) 1 (linesOf text)) (append-nil headerLine))
 
-  pub refused-output : (r : Refusal) → filesCheck file history ≡ refusedBy r → printed (filesCheck file history) [] ≡ outputOf file history text
+  pub refused-output : (x : Refusal) → finding (r .check) ≡ refusedBy x → printed (filesCheck file history) [] ≡ outputOf file history text
   unfolding outputOf
-  refused-output r e = rw e refl
+  refused-output x h = rw (sym (o .checked) ∙ h) refl

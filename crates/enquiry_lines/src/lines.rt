@@ -1,15 +1,14 @@
 // A text that comes in parts, answered line by line on an accepted data run and its history, from what was worked out of
 // them. The caller gives room for 192 bytes of reply to each byte of a part: an empty line is one byte.
 ghost use mathlib.Core.Path.{_≡_};
-ghost use mathlib.Core.List.{[]};
-ghost use Prim.Native.Nat.{_+_, _*_, _≤_, _<_};
+ghost use Prim.Native.Nat.{_+_, _≤_};
 ghost use lib.ListN.{length};
-ghost use Rattle.history.specs.History.{basisWith, Workable};
-ghost use Rattle.factor_table.specs.FactorTable.{FactorTable, Tabled};
+ghost use Rattle.history.specs.History.{basisWith};
+ghost use Rattle.factor_table.specs.FactorTable.{Tabled};
 ghost use Rattle.enquiry_text.specs.Line.{lineOf};
 ghost use Rattle.reply_text.specs.Put.{Put};
-ghost use Rattle.enquiry_lines.specs.Lines.{ended, unfinished, lastLine, replyTo, replies};
-ghost use Rattle.enquiry_lines.specs.State.{kept, pendingOf, Sound};
+ghost use Rattle.enquiry_lines.specs.Lines.{lastLine, replyTo, replies};
+ghost use Rattle.enquiry_lines.specs.State.{kept, emptyAfter, replyRoom, Ready, Answered};
 use crate::Fed;
 use crate::Pending;
 use enquiry_text::Line;
@@ -27,11 +26,11 @@ fn put_line(
     number: u64,
     text: &[u8],
 ) -> usize
-    requires { ⌜ Workable (now run) (now history) ⌝ }
-    requires { ⌜ FactorTable (basisWith (now run) (now history)) (now table) ⌝ }
-    requires { ⌜ at + 192 ≤ length (now out) ⌝ }
-    ensures { λ r. ⌜ Put (now (out .entry)) at (replyTo (basisWith (now (run .entry)) (now (history .entry))) (lineOf number (now (text .entry)))) (now (out .exit)) r ⌝ }
-    ensures { λ r. ⌜ r ≤ at + 192 ⌝ }
+    requires { ⌜ Tabled (now run) (now history) (now table) ⌝ }
+    requires { ⌜ at + replyRoom ≤ length (now out) ⌝ }
+    ensures { λ r. ⌜ Put (now (out .entry)) at
+        (replyTo (basisWith (now (run .entry)) (now (history .entry))) (lineOf number (now (text .entry)))) (now (out .exit)) r ⌝ }
+    ensures { λ r. ⌜ r ≤ at + replyRoom ⌝ }
 {
     match parse::parse_line(text) {
         Line::Enquiry(q) => {
@@ -51,7 +50,7 @@ fn put_line(
 
 // Nothing read yet.
 pub fn begin() -> Pending
-    ensures { λ r. ⌜ r ≡ pendingOf [] 0 ⌝ }
+    ensures { λ r. ⌜ r ≡ emptyAfter 0 ⌝ }
 {
     Pending {
         bytes: [0; 16],
@@ -71,15 +70,9 @@ pub fn feed(
     out: &mut [u8],
     from: usize,
 ) -> Fed
-    requires { ⌜ Tabled (now run) (now history) (now table) ⌝ }
-    requires { ⌜ from + 192 * length (now part) ≤ length (now out) ⌝ }
-    requires { ⌜ Sound s ⌝ }
-    requires { ⌜ s .complete + length (now part) < 18446744073709551616 ⌝ }
-    ensures { λ r. ⌜ r .pending ≡ pendingOf (unfinished (kept s) (now (part .entry))) (s .complete + length (ended (kept s) (now (part .entry)))) ⌝ }
-    ensures { λ r. ⌜ Put (now (out .entry)) from
-        (replies (basisWith (now (run .entry)) (now (history .entry))) (s .complete + 1) (ended (kept s) (now (part .entry)))) (now (out .exit))
-        (r .at) ⌝ }
-    ensures { λ r. ⌜ r .at ≤ from + 192 * length (now (part .entry)) ⌝ }
+    requires { ⌜ Ready (now run) (now history) (now table) s (length (now part)) (now out) from ⌝ }
+    ensures { λ r. ⌜ Answered (basisWith (now (run .entry)) (now (history .entry))) s (now (part .entry)) (now (out .entry)) from
+        (now (out .exit)) r ⌝ }
 {
     let mut bytes = s.bytes;
     let mut len = s.len;
@@ -121,11 +114,9 @@ pub fn finish(
     out: &mut [u8],
     from: usize,
 ) -> usize
-    requires { ⌜ Tabled (now run) (now history) (now table) ⌝ }
-    requires { ⌜ from + 192 ≤ length (now out) ⌝ }
-    requires { ⌜ Sound s ⌝ }
-    requires { ⌜ s .complete + 1 < 18446744073709551616 ⌝ }
-    ensures { λ r. ⌜ Put (now (out .entry)) from (replies (basisWith (now (run .entry)) (now (history .entry))) (s .complete + 1) (lastLine (kept s))) (now (out .exit)) r ⌝ }
+    requires { ⌜ Ready (now run) (now history) (now table) s 1 (now out) from ⌝ }
+    ensures { λ r. ⌜ Put (now (out .entry)) from
+        (replies (basisWith (now (run .entry)) (now (history .entry))) (s .complete + 1) (lastLine (kept s))) (now (out .exit)) r ⌝ }
 {
     let len = s.len;
     if len == 0 {

@@ -1,14 +1,13 @@
 // The basis file and the history read, and the first line of the output: the header, or the refusal that stands alone.
 ghost use mathlib.Core.Path.{_≡_};
-ghost use mathlib.Core.List.{[]};
 ghost use Prim.Native.Nat.{_≤_};
 ghost use lib.ListN.{length};
 ghost use Rattle.outcome.specs.Outcome.{finding};
 ghost use Rattle.layout.specs.Layout.{mpb1, runLength};
 ghost use Rattle.lent.specs.Lent.{written};
 ghost use Rattle.basis_file.specs.File.{runIn};
-ghost use Rattle.reply_text.specs.Put.{Put};
-ghost use Rattle.enquiry_lines.specs.Output.{filesCheck, printed};
+ghost use Rattle.enquiry_lines.specs.Output.{filesCheck, Opened};
+ghost use Rattle.enquiry_lines.specs.State.{replyRoom};
 use crate::Opening;
 use basis_file::read;
 use outcome::Check;
@@ -36,11 +35,8 @@ fn read_files(file: &[u8], history: &[u8], run: &mut [u8]) -> Check
 // The same, and the opening line at the start of `out`.
 pub fn open_files(file: &[u8], history: &[u8], run: &mut [u8], out: &mut [u8]) -> Opening
     requires { ⌜ length (now run) ≡ runLength mpb1 ⌝ }
-    requires { ⌜ 192 ≤ length (now out) ⌝ }
-    ensures { λ r. ⌜ finding (r .check) ≡ filesCheck (now (file .entry)) (now (history .entry)) ⌝ }
-    ensures { λ r. ⌜ now (run .exit) ≡ written (finding (r .check)) (runIn (now (file .entry))) (now (run .entry)) ⌝ }
-    ensures { λ r. ⌜ Put (now (out .entry)) 0 (printed (filesCheck (now (file .entry)) (now (history .entry))) []) (now (out .exit)) (r .at) ⌝ }
-    ensures { λ r. ⌜ r .at ≤ 192 ⌝ }
+    requires { ⌜ replyRoom ≤ length (now out) ⌝ }
+    ensures { λ r. ⌜ Opened (now (file .entry)) (now (history .entry)) (now (run .entry)) (now (out .entry)) (now (run .exit)) (now (out .exit)) r ⌝ }
 {
     match read_files(file, history, run) {
         Check::Passed => {

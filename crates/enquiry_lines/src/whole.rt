@@ -1,14 +1,10 @@
 // The whole output of the points program for a text that is lent at once, whatever parts it is fed in.
-ghost use mathlib.Core.Path.{_≡_};
-ghost use mathlib.Core.List.{[]};
-ghost use Prim.Native.Nat.{_+_, _*_, _≤_, _<_};
+ghost use Prim.Native.Nat.{_+_, _*_, _≤_};
 ghost use lib.ListN.{length};
 ghost use Rattle.history.specs.History.{basisWith};
-ghost use Rattle.factor_table.specs.FactorTable.{Tabled};
 ghost use Rattle.reply_text.specs.Put.{Put};
-ghost use Rattle.enquiry_lines.specs.Lines.{ended, unfinished, replies};
 ghost use Rattle.enquiry_lines.specs.Output.{outputOf};
-ghost use Rattle.enquiry_lines.specs.State.{pendingOf};
+ghost use Rattle.enquiry_lines.specs.State.{emptyAfter, replyRoom, Ready, Answered};
 use crate::Fed;
 use crate::lines;
 use crate::open_basis;
@@ -31,12 +27,9 @@ fn feed_parts(
     out: &mut [u8],
     from: usize,
 ) -> Fed
-    requires { ⌜ Tabled (now run) (now history) (now table) ⌝ }
-    requires { ⌜ from + 192 * length (now text) ≤ length (now out) ⌝ }
-    requires { ⌜ (length (now text) < 18446744073709551615) × (length (now lengths) < 2305843009213693952) ⌝ }
-    ensures { λ r. ⌜ r .pending ≡ pendingOf (unfinished [] (now (text .entry))) (length (ended [] (now (text .entry)))) ⌝ }
-    ensures { λ r. ⌜ Put (now (out .entry)) from (replies (basisWith (now (run .entry)) (now (history .entry))) 1 (ended [] (now (text .entry)))) (now (out .exit)) (r .at) ⌝ }
-    ensures { λ r. ⌜ r .at ≤ from + 192 * length (now (text .entry)) ⌝ }
+    requires { ⌜ Ready (now run) (now history) (now table) (emptyAfter 0) (length (now text)) (now out) from ⌝ }
+    ensures { λ r. ⌜ Answered (basisWith (now (run .entry)) (now (history .entry))) (emptyAfter 0) (now (text .entry)) (now (out .entry))
+        from (now (out .exit)) r ⌝ }
 {
     let mut pending = lines::begin();
     let mut at = from;
@@ -57,8 +50,7 @@ fn feed_parts(
 // What the points program prints on a basis file, a history file and a text, into the front of `out`: 192 bytes of room for
 // the opening line, for each byte of the text and for a last line that lacks its byte 10.
 pub fn output(file: &[u8], history: &[u8], text: &[u8], lengths: &[usize], out: &mut [u8]) -> usize
-    requires { ⌜ 192 * (length (now text) + 2) ≤ length (now out) ⌝ }
-    requires { ⌜ (length (now text) < 18446744073709551615) × (length (now lengths) < 2305843009213693952) ⌝ }
+    requires { ⌜ replyRoom * (length (now text) + 2) ≤ length (now out) ⌝ }
     ensures { λ r. ⌜ Put (now (out .entry)) 0 (outputOf (now (file .entry)) (now (history .entry)) (now (text .entry))) (now (out .exit)) r ⌝ }
 {
     let mut run = [0u8; layout::RUN_LENGTH];

@@ -5,9 +5,10 @@ ghost use Prim.Native.Nat.{_+_, _*_, _≤_};
 ghost use lib.ListN.{length};
 ghost use Rattle.layout.specs.Layout.{mpb1, runLength, fileLength};
 ghost use Rattle.history.specs.History.{Workable};
-ghost use Rattle.factor_table.specs.FactorTable.{tableLength, Tabled};
+ghost use Rattle.factor_table.specs.FactorTable.{tableLength};
 ghost use Rattle.io.specs.Counts.{Counts};
-ghost use Rattle.enquiry_lines.specs.State.{Sound};
+ghost use Rattle.enquiry_lines.specs.State.{emptyAfter, replyRoom, Ready};
+ghost use Rattle.points.specs.Blocks.{ReadyForBlocks};
 use enquiry_lines::Pending;
 use enquiry_lines::lines;
 use enquiry_lines::open_basis;
@@ -120,10 +121,8 @@ fn answer_block(
     out: &mut [u8],
     blocks: u64,
 ) -> Turn
-    requires { ⌜ Tabled (now run) (now history) (now table) ⌝ }
-    requires { ⌜ (length (now part) ≤ 1024) × (196608 ≤ length (now out)) ⌝ }
-    requires { ⌜ (Sound s) × (s .complete + 1024 * (blocks + 1) ≤ 1024000000000000000) ⌝ }
-    ensures { λ r. ⌜ (Sound (r .pending)) × (r .pending .complete + 1024 * blocks ≤ 1024000000000000000) ⌝ }
+    requires { ⌜ ReadyForBlocks (now run) (now history) (now table) s (blocks + 1) (now part) (now out) ⌝ }
+    ensures { λ r. ⌜ ReadyForBlocks (now (run .entry)) (now (history .entry)) (now (table .entry)) (r .pending) blocks (now (part .exit)) (now (out .exit)) ⌝ }
 {
     let got = libc::read(STDIN_FILENO, part);
     if got < 0 {
@@ -148,9 +147,8 @@ fn answer_block(
 
 // Nothing says that the input ends, so the blocks are counted down from a number that no run uses up.
 fn answer_blocks(run: &[u8], history: &[u8], table: &[u32], part: &mut [u8], out: &mut [u8]) -> Turn
-    requires { ⌜ Tabled (now run) (now history) (now table) ⌝ }
-    requires { ⌜ (length (now part) ≤ 1024) × (196608 ≤ length (now out)) ⌝ }
-    ensures { λ r. ⌜ (Sound (r .pending)) × (r .pending .complete ≤ 1024000000000000000) ⌝ }
+    requires { ⌜ ReadyForBlocks (now run) (now history) (now table) (emptyAfter 0) 1000000000000000 (now part) (now out) ⌝ }
+    ensures { λ r. ⌜ Ready (now (run .entry)) (now (history .entry)) (now (table .entry)) (r .pending) 1024 (now (out .exit)) 0 ⌝ }
 {
     let mut pending = lines::begin();
     let mut is_whole = true;
@@ -176,7 +174,7 @@ fn answer_blocks(run: &[u8], history: &[u8], table: &[u32], part: &mut [u8], out
 // of all ages and years are worked out once, before the first line.
 fn answer_input(run: &[u8], history: &[u8], table: &mut [u32], part: &mut [u8], out: &mut [u8])
     requires { ⌜ Workable (now run) (now history) × (length (now table) ≡ tableLength) ⌝ }
-    requires { ⌜ (length (now part) ≤ 1024) × (196608 ≤ length (now out)) ⌝ }
+    requires { ⌜ (length (now part) ≤ 1024) × (replyRoom * 1024 ≤ length (now out)) ⌝ }
 {
     factor_table::fill_table(run, history, table);
     let t = answer_blocks(run, history, table, part, out);

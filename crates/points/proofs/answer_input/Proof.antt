@@ -6,20 +6,13 @@ use borrow.Author.Needs.{needs}
 use Rattle.points.proofs.answer_input.Statement.{statement}
 use Rattle.points.proofs.answer_input.Tie as tie
 
-finish-requires : tie.Need-finish-requires
-finish-requires c κs = let t = c .before .before .before .before .before .before .before .before in
-    let w = t .before .before .before .before .before .before in
-    let s = w .before .before .before .before .before .before .before in
-    ((s .pre .0 .0, w .fill-table .ensures), (search needs, search needs))
-
 slice-aggregate-write-out : tie.Need-slice-aggregate-write-out
 slice-aggregate-write-out c = let f = c .before .before .before .finish in
-    let p = f .ensures in
-    sym (length-take-le (f .result) (f .last .1 .1 .1 .1 .0) (omega (arith, p .next, p .fits, p .same)))
+    sym (length-take-le (f .result) (f .last .1 .1 .1 .1 .0) (omega arith))
 
 pub answer-input-spec : {M : Type 1} → statement M
 answer-input-spec =
     tie.close
     (tie.spec (λ c κs. search needs) (λ c κs. search needs) (search needs) (search needs) (search needs)
-    (search needs) finish-requires (search needs) slice-aggregate-write-out (search needs) (search needs)
+    (search needs) (λ c κs. search needs) (search needs) slice-aggregate-write-out (search needs) (search needs)
     (search needs) (search needs) (search needs))

@@ -22,7 +22,8 @@ use Rattle.enquiry_lines.proofs.open_basis.read_files.Tie as tie
 decides : (k : tie.After-read-file) → fileCheck (k .before .before .before .before .before .args .file .now) ≡ finding (k .read-file .result)
 decides k = read-check _ (replicate (runLength mpb1) 0) (length-replicate {A = ℕ} (runLength mpb1) 0) _ (k .read-file .ensures .0)
 
-holds : (k : tie.After-read-file) → finding (k .read-file .result) ≡ passed → k .read-file .last .1 .0 ≡ runIn (k .before .before .before .before .before .args .file .now)
+holds : (k : tie.After-read-file) → finding (k .read-file .result) ≡ passed →
+    k .read-file .last .1 .0 ≡ runIn (k .before .before .before .before .before .args .file .now)
 holds k h = k .read-file .ensures .1 ∙ run-fills _ (decides k ∙ h) (replicate (runLength mpb1) 0) (length-replicate {A = ℕ} (runLength mpb1) 0) _ h
 
 judged : (h : tie.After-check-history) →

@@ -1,58 +1,46 @@
 -- What is read is the run that the lines are answered by, and what is put one after the other is the definition's output.
-use mathlib.Core.Path.{_≡_, refl, ap, sym, _∙_}
-use mathlib.Core.List.{[], _++_}
+use mathlib.Core.Path.{_≡_, refl, ap}
 use Prim.Native.Nat.{ℕ}
 use native.Mathlib.Omega.{arith}
-use lib.ListN.{replicate, length-replicate}
+use lib.ListN.{length-replicate}
 use Rattle.factor_table.specs.FactorTable.{tableLength}
 use Rattle.layout.specs.Layout.{mpb1, runLength}
-use Rattle.basis_file.specs.File.{runIn}
 use Rattle.outcome.specs.Outcome.{passed, finding}
-use Rattle.outcome.proofs.Outcome.{found}
-use Rattle.history.specs.History.{basisWith, Workable}
+use Rattle.history.specs.History.{Workable}
 use Rattle.reply_text.proofs.Puts.{being, then}
-use Rattle.enquiry_lines.specs.Lines.{linesOf, replies}
-use Rattle.enquiry_lines.specs.Output.{filesCheck, printed}
-use Rattle.enquiry_lines.proofs.Parting.{ended-few}
-use Rattle.enquiry_lines.proofs.State.{held-sound, held-kept, held-complete}
-use Rattle.enquiry_lines.proofs.Opened.{opened-run, opened-with}
+use Rattle.enquiry_lines.proofs.State.{sound-empty, left-sound, left-few}
+use Rattle.enquiry_lines.proofs.Opened.{opened-workable}
 use Rattle.enquiry_lines.proofs.Printed.{last-reply, accepted-output, refused-output}
 use borrow.Author.Needs.{needs}
 use Rattle.enquiry_lines.proofs.whole.output.Statement.{statement}
 use Rattle.enquiry_lines.proofs.whole.output.Tie as tie
 
--- the run of files that are accepted
-run-is : (o : tie.After-open-files) → finding (o .open-files .result .check) ≡ passed
-    → o .open-files .last .1 .1 .0 ≡ runIn (o .before .before .before .before .before .before .before .before .args .file .now)
-run-is o h =
-    let a = o .before .before .before .before .before .before .before .before .args in
-    o .open-files .ensures .1 .0
-    ∙ opened-run (a .file .now) (a .history .now) (replicate (runLength mpb1) 0) (length-replicate {A = ℕ} (runLength mpb1) 0) _ (o .open-files .ensures .0) h
-
+-- what was worked out of the files that are accepted
 accepted : (o : tie.After-open-files) → finding (o .open-files .result .check) ≡ passed
     → Workable (o .open-files .last .1 .1 .0) (o .before .before .before .before .before .before .before .before .args .history .now)
-accepted o h =
-    let a = o .before .before .before .before .before .before .before .before .args in
-    rw (run-is o h) (opened-with (a .file .now) (a .history .now) (sym (o .open-files .ensures .0) ∙ h))
+accepted o h = opened-workable (o .open-files .ensures) (length-replicate {A = ℕ} (runLength mpb1) 0) h
 
 returns : tie.Need-returns
 returns c = let o = c .before .before .before .before .before in
-    let a = o .before .before .before .before .before .before .before .before .args in
-    let e = found (o .open-files .ensures .0) (c .enum-told2 .given .1) in
-    being (refused-output (a .file .now) (a .history .now) (a .text .now) _ e) refl (o .open-files .ensures .1 .1 .0)
+    let text = o .before .before .before .before .before .before .before .before .args .text .now in
+    being (refused-output (o .open-files .ensures) text _ (ap finding (c .enum-told2 .given .1))) refl (o .open-files .ensures .put)
 
 fill-table-requires : tie.Need-fill-table-requires
 fill-table-requires c κs = let t = c .before .before in
-    let o = t .before .before .before .before .before in
-    (accepted o (ap finding (t .enum-told .given .1)), length-replicate {A = ℕ} tableLength 0)
+    (accepted (t .before .before .before .before .before) (ap finding (t .enum-told .given .1)), length-replicate {A = ℕ} tableLength 0)
 
 feed-parts-requires : tie.Need-feed-parts-requires
 feed-parts-requires c κs = let w = c .before .before .before .before in
     let t = w .before .before .before in
     let o = t .before .before .before .before .before in
     let s = o .before .before .before .before .before .before .before .before in
-    let opened = o .open-files .ensures .1 .1 in
-    ((accepted o (ap finding (t .enum-told .given .1)), w .fill-table .ensures), (omega (arith, opened .0 .same, opened .1, s .pre .0), s .pre .1))
+    let opened = o .open-files .ensures in
+    record {
+      tabled = (accepted o (ap finding (t .enum-told .given .1)), w .fill-table .ensures);
+      room = omega arith;
+      sound = sound-empty 0;
+      countable = omega arith;
+    }
 
 finish-requires : tie.Need-finish-requires
 finish-requires c κs = let f = c .before .before .before .before .before in
@@ -60,30 +48,25 @@ finish-requires c κs = let f = c .before .before .before .before .before in
     let t = w .before .before .before in
     let o = t .before .before .before .before .before in
     let s = o .before .before .before .before .before .before .before .before in
-    let e = f .feed-parts .ensures in
-    let opened = o .open-files .ensures .1 .1 in (
-      (accepted o (ap finding (t .enum-told .given .1)), w .fill-table .ensures),
-      (
-        omega (arith, opened .0 .same, opened .1, e .1 .0 .same, e .1 .1, s .pre .0),
-        (held-sound _ _ _ (e .0), omega (arith, held-complete _ _ _ (e .0), ended-few [] (s .args .text .now), s .pre .1 .0)),
-      ),
-    )
+    let opened = o .open-files .ensures in
+    let fed = f .feed-parts .ensures in
+    record {
+      tabled = (accepted o (ap finding (t .enum-told .given .1)), w .fill-table .ensures);
+      room = omega arith;
+      sound = left-sound fed;
+      countable = omega (arith, left-few fed);
+    }
 
 returns-2 : tie.Need-returns-2
 returns-2 c = let g = c .before .before in
     let f = g .before .before .before .before .before .before in
     let t = f .before .before .before .before .before .before .before .before in
     let o = t .before .before .before .before .before in
-    let a = o .before .before .before .before .before .before .before .before .args in
-    let b = basisWith (o .open-files .last .1 .1 .0) (a .history .now) in
-    let d = f .feed-parts .ensures .0 in
-    let n = f .feed-parts .result .pending .complete in
-    let lines = being (last-reply b n (a .text .now) _ (held-kept _ _ _ d) (held-complete _ _ _ d)) refl (then (f .feed-parts .ensures .1 .0) (g .finish .ensures)) in
-    let all = then (o .open-files .ensures .1 .1 .0) lines in
-    let e = found (o .open-files .ensures .0) (t .enum-told .given .1) in
-    let run = run-is o (ap finding (t .enum-told .given .1)) in
-    let same = ap (λ r. printed (filesCheck (a .file .now) (a .history .now)) [] ++ replies (basisWith r (a .history .now)) 1 (linesOf (a .text .now))) run in
-    being (same ∙ accepted-output (a .file .now) (a .history .now) (a .text .now) e) refl all
+    let text = o .before .before .before .before .before .before .before .before .args .text .now in
+    let opened = o .open-files .ensures in
+    let fed = f .feed-parts .ensures in
+    let all = then (opened .put) (being (last-reply fed) refl (then (fed .put) (g .finish .ensures))) in
+    being (accepted-output opened text (length-replicate {A = ℕ} (runLength mpb1) 0) (ap finding (t .enum-told .given .1))) refl all
 
 pub output-spec : {M : Type 1} → statement M
 output-spec =
