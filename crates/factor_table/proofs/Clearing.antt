@@ -15,12 +15,12 @@ pub record Cleared (from : ℕ) (start numbers : List ℕ) (at : ℕ) : Type 0 w
   pub zeros : (i : ℕ) → from ≤ i → i < at → getD numbers i 0 ≡ 0
   pub kept : KeptBefore from start numbers
 
-module _ (from : ℕ) (start : List ℕ) where
+module _ {from : ℕ} {start : List ℕ} where
   pub cleared-none : Cleared from start start from
   cleared-none = record { same = refl; zeros = λ i l m. absurd (omega arith); kept = λ i l. refl }
 
-  pub cleared-next : (numbers : List ℕ) (at : ℕ) → from ≤ at → at < length start → Cleared from start numbers at → Cleared from start (set numbers at 0) (at + 1)
-  cleared-next numbers at low l c =
+  pub cleared-next : {numbers : List ℕ} {at : ℕ} → Cleared from start numbers at → from ≤ at → at < length start → Cleared from start (set numbers at 0) (at + 1)
+  cleared-next {numbers} {at} c low l =
       rw add-one
       (record {
         same = length-set numbers at 0 ∙ c .same;

@@ -15,12 +15,12 @@ pub record Copied (at : ℕ) (state start numbers : List ℕ) (n : ℕ) : Type 0
   pub stands : (i : ℕ) → i < n → getD numbers (at + i) 0 ≡ getD state i 0
   pub kept : KeptBefore at start numbers
 
-module _ (at : ℕ) (state start : List ℕ) where
+module _ {at : ℕ} {state start : List ℕ} where
   pub copied-none : Copied at state start start 0
   copied-none = record { same = refl; stands = λ i l. absurd (omega arith); kept = λ i l. refl }
 
-  pub copied-next : (numbers : List ℕ) (n : ℕ) → at + n < length start → Copied at state start numbers n → Copied at state start (set numbers (at + n) (getD state n 0)) (n + 1)
-  copied-next numbers n l c =
+  pub copied-next : {numbers : List ℕ} {n : ℕ} → Copied at state start numbers n → at + n < length start → Copied at state start (set numbers (at + n) (getD state n 0)) (n + 1)
+  copied-next {numbers} {n} c l =
       rw add-one
       (record {
         same = length-set numbers (at + n) (getD state n 0) ∙ c .same;

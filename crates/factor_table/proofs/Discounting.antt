@@ -1,7 +1,7 @@
 -- The discounts stored year by year: what the loop knows after some years. Assumes nothing.
 use mathlib.Core.Path.{_≡_, _∙_, ap, sym, refl}
 use mathlib.Core.List.{List}
-use Prim.Native.Nat.{ℕ, suc, _+_, _*_, _-_, _≤_, _<_}
+use Prim.Native.Nat.{ℕ, suc, _+_, _*_, _≤_, _<_}
 use native.Mathlib.Omega.{arith}
 use native.Mathlib.Decide.{decLt}
 use native.Mathlib.Numerals.{add-one}
@@ -23,14 +23,14 @@ pub record Discounted (b : Basis) (start numbers : List ℕ) (j v : ℕ) : Type 
   pub kept : KeptBefore factorsLength start numbers
   pub next : discountAfter b j ≡ pos v
 
-module _ (b : Basis) (start : List ℕ) where
+module _ {b : Basis} {start : List ℕ} where
   pub discounted-none : Discounted b start start 0 U
   unfolding discountAfter
   discounted-none = record { same = refl; stored = λ i l. absurd (omega arith); kept = λ i l. refl; next = refl }
 
-  pub discounted-next : (numbers : List ℕ) (j v w : ℕ) {accumulation : ℕ} → factorsLength + j < length start → accumulation ≡ accumulationOf b → Discounted b start numbers j v
+  pub discounted-next : {numbers : List ℕ} {j v w accumulation : ℕ} → Discounted b start numbers j v → factorsLength + j < length start → accumulation ≡ accumulationOf b
       → pos w ≡ discountNext (pos v) accumulation → Discounted b start (set numbers (factorsLength + j) v) (j + 1) w
-  discounted-next numbers j v w l e d g =
+  discounted-next {numbers} {j} {v} d l e g =
       rw add-one
       (record {
         same = length-set numbers (factorsLength + j) v ∙ d .same;

@@ -11,7 +11,7 @@ use lib.IntN.{ℤ, pos, negsuc, natAbs, _+ℤ_}
 use lib.Signed.{leZ}
 use borrow.Author.Tests.{lt-ltb, le-ltb, leb-true, leb-false, le-leb, lt-leb}
 use Rattle.arithmetic.specs.Fraction.{_+ᶠ_, round}
-use Rattle.basis.specs.Basis.{Basis, basisOf, ConvergenceLimits, Limited}
+use Rattle.basis.specs.Basis.{Basis, basisOf, ConvergenceLimits}
 use Rattle.history.specs.History.{actualOf, basisWith}
 use Rattle.history.proofs.Acceptance.{accepted-workable}
 use Rattle.outcome.specs.Outcome.{value, refused, refusal}
@@ -19,6 +19,7 @@ use Rattle.basis.specs.declared.Convergence.{Convergence}
 use Rattle.component.specs.Component.{componentOf}
 use Rattle.improvement.specs.Improvement.{additionOf, birthTerms, componentsOf, projectedOf, isActual, improvementOf, firstYear, improvementLimit, usable, improvementNeeded}
 use Rattle.improvement.specs.Answered.{ActualAnswered}
+use Rattle.improvement.specs.Checked.{ProjectedCell}
 
 -- ---- the addition and the improvement
 pub addition-after : (b : Basis) (year : ℕ) → b .foundation < year → additionOf b year ≡ b .addition
@@ -29,11 +30,13 @@ pub addition-at : (b : Basis) (year : ℕ) → year ≤ b .foundation → additi
 unfolding additionOf
 addition-at b year h = rw (le-ltb (b .foundation) year h)
 
-pub limits-of : {found terms : Convergence} → found ≡ terms → ConvergenceLimits terms → ConvergenceLimits found
-limits-of e h = rw e h
+-- the terms of a cell are within their limits
+module _ (run : List ℕ) (age year : ℕ) {terms : Convergence} (cell : ProjectedCell run age year) where
+  pub age-limited : terms ≡ basisOf run .byAge age → ConvergenceLimits terms
+  age-limited e = rw e (cell .accepted .limits .byAge age (cell .age-low) (cell .age-high))
 
-pub birth-limited : (b : Basis) (age year : ℕ) → Limited b → 20 ≤ age → age ≤ 150 → 1992 ≤ year → year ≤ 2110 + age → ConvergenceLimits (birthTerms b age year)
-birth-limited b age year l low high from upto = l .byBirthYear _ (omega arith) (omega arith)
+  pub birth-limited : terms ≡ birthTerms (basisOf run) age year → ConvergenceLimits terms
+  birth-limited e = rw e (cell .accepted .limits .byBirthYear _ (omega arith) (omega arith))
 
 pub projected-is : (b : Basis) (age year : ℕ) {attained birth : Convergence} {foundation : ℕ} {addition : ℤ} →
     attained ≡ b .byAge age → birth ≡ birthTerms b age year → foundation ≡ b .foundation → addition ≡ additionOf b year →

@@ -12,7 +12,8 @@ use Rattle.arithmetic.specs.Round.{roundDiv}
 use Rattle.arithmetic.specs.Fraction.{U, lesserℤ}
 use Rattle.arithmetic.proofs.Difference.{rest-natural}
 use Rattle.basis.specs.Basis.{Basis}
-use Rattle.outcome.specs.Outcome.{Outcome, value, andThen, steps}
+use Rattle.outcome.specs.Outcome.{Outcome, value, andThen, steps, meaning}
+use Rattle.outcome.specs.declared.Answer.{Answer}
 use Rattle.outcome.proofs.Outcome.{next, along, came}
 use Rattle.improvement.specs.Improvement.{improvementOf}
 use Rattle.projection.specs.Bounded.{AtMost}
@@ -32,6 +33,10 @@ least q h = rw (lt-leb U q h) refl
 most : (q : ℕ) → U ≤ q → pos U ≡ lesserℤ (pos U) (pos q)
 most q h = rw (le-leb U q h) refl
 
+-- a year's factor is at most 4 × U
+pub year-small : (age year : ℕ) (i f : ℤ) (g : ℕ) → factorFrom age year i f ≡ value (pos g) → g ≤ 4_000_000_000
+year-small age year i f g h = leb-true g 4_000_000_000 (year-value age year i f (pos g) h .2)
+
 module _ (b : Basis) (age : ℕ) where
   -- ---- the factor
   -- a year after B is the definition's step
@@ -40,18 +45,15 @@ module _ (b : Basis) (age : ℕ) where
   year-is k f e = cc
 
   -- one year more
-  pub turn : {base : ℕ} (k : ℕ) (f : ℤ) (o : Outcome ℤ) → base ≡ b .base → steps (factorStep b age) (pos U) k ≡ value f →
-      o ≡ factorFrom age (base + 1 + k) (improvementOf b age (base + 1 + k)) f → steps (factorStep b age) (pos U) (suc k) ≡ o
-  turn k f o e h g = next (factorStep b age) (pos U) k f h ∙ sym (g ∙ year-is k f e)
+  pub turn : {base : ℕ} (k : ℕ) (f : ℤ) {answer case : Answer} → base ≡ b .base → steps (factorStep b age) (pos U) k ≡ value f →
+      meaning answer ≡ factorFrom age (base + 1 + k) (improvementOf b age (base + 1 + k)) f → answer ≡ case →
+      steps (factorStep b age) (pos U) (suc k) ≡ meaning case
+  turn k f e h g told = next (factorStep b age) (pos U) k f h ∙ sym (g ∙ year-is k f e) ∙ ap meaning told
 
   -- what the last year gives is the answer
   pub ended : (year n : ℕ) (o : Outcome ℤ) → n ≡ heldYear year - b .base → steps (factorStep b age) (pos U) n ≡ o → o ≡ factorOf b age year
   unfolding factorOf
   ended year n o e h = sym h ∙ ap (λ (m : ℕ). steps (factorStep b age) (pos U) m) e
-
-  -- a factor is at most 4 × U
-  pub year-small : (year : ℕ) (i f : ℤ) (g : ℕ) → factorFrom age year i f ≡ value (pos g) → g ≤ 4_000_000_000
-  year-small year i f g h = leb-true g 4_000_000_000 (year-value age year i f (pos g) h .2)
 
   factor-small : (year f : ℕ) → factorOf b age year ≡ value (pos f) → f ≤ 4_000_000_000
   unfolding factorOf

@@ -12,8 +12,8 @@ use Rattle.arithmetic.proofs.Difference.{ring, ⊖-eq}
 use Rattle.arithmetic.proofs.Rounding.{round-abs-le}
 use Rattle.basis.specs.Basis.{Basis}
 use Rattle.history.specs.Checked.{Cell}
-use Rattle.history.specs.History.{basisWith, Workable}
-use Rattle.outcome.specs.Outcome.{Outcome, value, refused, andThen}
+use Rattle.outcome.specs.Outcome.{Outcome, value, refused, andThen, meaning}
+use Rattle.outcome.specs.declared.Answer.{Answer}
 use Rattle.outcome.specs.declared.Refusal.{Refusal}
 use Rattle.outcome.proofs.Outcome.{none, next, persists, came, along}
 use Rattle.projection.specs.Projection.{rateOf}
@@ -64,10 +64,10 @@ year-late Period j year = omega arith
 year-late Cohort j year = omega arith
 
 -- the cell of the rate j years on
-pub cell-on : {run history : List ℕ} (age start : ℕ) {year : ℕ} (kind : Kind) (j : ℕ) → Workable run history → 20 ≤ age → age + j ≤ 150 → basisWith run history .base ≤ start →
-    year ≡ yearOn kind j start → Cell run history (age + j) year
-cell-on age start kind j usable low high from e =
-    record { usable = usable; age-low = omega arith; age-high = high; year-low = omega (arith, from, e, year-late kind j start) }
+pub cell-on : {run history : List ℕ} {age start year : ℕ} (kind : Kind) (j : ℕ) → Cell run history age start → age + j ≤ 150 → year ≡ yearOn kind j start →
+    Cell run history (age + j) year
+cell-on {start = start} kind j cell high e =
+    record { usable = cell .usable; age-low = omega arith; age-high = high; year-low = omega (arith, year-late kind j start) }
 
 -- ---- survivorship: at first, one year more, after a refusal, and its size
 module _ (b : Basis) (kind : Kind) (age : ℕ) where
@@ -75,10 +75,12 @@ module _ (b : Basis) (kind : Kind) (age : ℕ) where
   unfolding survivorsOf
   survivors-first year = none (survivorsStep b kind age year) (pos U)
 
-  pub survivors-next : (j year : ℕ) (s : ℤ) (o : Outcome ℤ) {at : ℕ} → at ≡ yearOn kind j year → survivorsOf b kind age j year ≡ value s → o ≡ survivorsAfterYear b (age + j) at s →
-      survivorsOf b kind age (suc j) year ≡ o
+  -- what a year's answer turned out to be is what there is after it
+  pub survivors-next : (j year : ℕ) (s : ℤ) {answer case : Answer} {at : ℕ} → at ≡ yearOn kind j year → survivorsOf b kind age j year ≡ value s
+      → meaning answer ≡ survivorsAfterYear b (age + j) at s → answer ≡ case → survivorsOf b kind age (suc j) year ≡ meaning case
   unfolding survivorsOf
-  survivors-next j year s o e h g = next (survivorsStep b kind age year) (pos U) j s h ∙ sym (g ∙ ap (λ (y : ℕ). survivorsAfterYear b (age + j) y s) e)
+  survivors-next j year s e h g told =
+      next (survivorsStep b kind age year) (pos U) j s h ∙ sym (g ∙ ap (λ (y : ℕ). survivorsAfterYear b (age + j) y s) e) ∙ ap meaning told
 
   pub survivors-refused : (j n year : ℕ) (r : Refusal) → j ≤ n → survivorsOf b kind age j year ≡ refused r → survivorsOf b kind age n year ≡ refused r
   unfolding survivorsOf

@@ -41,13 +41,13 @@ module _ (b : Basis) (year : ℕ) (start : List ℕ) where
           ∙ h ∙ ap (λ (y : ℕ). advancedFactor b (20 + n) year (decoded (20 + n) y)) (m .left n (omega arith)))
 
   -- one age more
-  pub advanced-next : (state : List ℕ) (age x : ℕ) → 20 ≤ age → age ≤ 150 → Advanced b year start state (age - 20) →
+  pub advanced-next : {state : List ℕ} (age x : ℕ) → 20 ≤ age → age ≤ 150 → Advanced b year start state (age - 20) →
       decoded age x ≡ advancedFactor b age year (decoded age (getD state (age - 20) 0)) → Advanced b year start (set state (age - 20) x) (age + 1 - 20)
-  advanced-next state age x low high m h =
+  advanced-next {state} age x low high m h =
       let e : age ≡ 20 + (age - 20) = omega arith in
       let f : age + 1 - 20 ≡ suc (age - 20) = omega arith in
       rw f (more state (age - 20) x (omega arith) m (subst (λ (y : ℕ). decoded y x ≡ advancedFactor b y year (decoded y (getD state (age - 20) 0))) e h))
 
   -- all of them: the state of the next year
-  pub advanced-all : (state : List ℕ) (n : ℕ) → 131 ≤ n → Advanced b year start state n → Encodes state (sweepStep b year (stateIn start))
-  advanced-all state n l m = record { size = m .size; each = λ i k. m .done i (omega arith) ∙ sym (step-is i) }
+  pub advanced-all : {state : List ℕ} {n : ℕ} → Advanced b year start state n → 131 ≤ n → Encodes state (sweepStep b year (stateIn start))
+  advanced-all m l = record { size = m .size; each = λ i k. m .done i (omega arith) ∙ sym (step-is i) }

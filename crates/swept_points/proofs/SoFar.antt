@@ -11,10 +11,10 @@ use Rattle.outcome.specs.declared.Refusal.{Refusal}
 use Rattle.outcome.specs.Outcome.{value, refused, sumOf}
 use Rattle.outcome.proofs.Outcome.{sum-none, sum-next}
 use Rattle.survivorship.specs.declared.Kind.{Kind}
-use Rattle.survivorship.specs.Survivorship.{yearOn, survivorsAfterYear, survivorsOf}
-use Rattle.survivorship.proofs.Survivors.{survivors-next, survivors-refused}
+use Rattle.survivorship.specs.Survivorship.{survivorsOf}
+use Rattle.survivorship.proofs.Survivors.{survivors-refused}
 use Rattle.valuation.specs.Valuation.{discountAfter, payment, paymentAfter, expectationOf, annuityOf}
-use Rattle.valuation.proofs.Lives.{Living, living-first, living-next, lived-refused, lived-last}
+use Rattle.valuation.proofs.Lives.{Living, living-first, lived-refused, lived-last}
 use Rattle.valuation.proofs.Payments.{payment-value, paid-refused, refused-before, paid-last}
 use Rattle.swept_points.specs.Inner.DeferredPayment.{deferredPayment}
 
@@ -60,9 +60,9 @@ pub record SoFar (b : Basis) (kind : Kind) (age from year j s lives payments : �
   pub sum : payments ≤ 4 * U * (j + 1)
   pub made : Made b kind age from year (suc j - from) payments
 
-module _ (b : Basis) (kind : Kind) (age from year : ℕ) where
-  pub so-far-first : (p : ℕ) → (pos p ≡ deferredPayment (discountAfter b 0) from 0 (pos U)) × (p ≤ 4 * U) → SoFar b kind age from year 0 U 0 p
-  so-far-first p d =
+module _ {b : Basis} {kind : Kind} {age from year : ℕ} where
+  pub so-far-first : {p : ℕ} → (pos p ≡ deferredPayment (discountAfter b 0) from 0 (pos U)) × (p ≤ 4 * U) → SoFar b kind age from year 0 U 0 p
+  so-far-first {p} d =
       let living = living-first b kind age year in
       let z : 0 - from ≡ 0 = omega arith in
       let e : 0 + p ≡ p = omega arith in
@@ -72,11 +72,9 @@ module _ (b : Basis) (kind : Kind) (age from year : ℕ) where
         made = rw e at (made-next b kind age from year 0 0 U p (rw z (sum-none _)) (living .survivors) (d .0));
       }
 
-  pub so-far-next : (j s lives payments x p : ℕ) {at : ℕ} → SoFar b kind age from year j s lives payments → at ≡ yearOn kind j year
-      → value (pos x) ≡ survivorsAfterYear b (age + j) at (pos s) →
-      (pos p ≡ deferredPayment (discountAfter b (j + 1)) from (j + 1) (pos x)) × (p ≤ 4 * U) → SoFar b kind age from year (j + 1) x (lives + x) (payments + p)
-  so-far-next j s lives payments x p i e g d =
-      let living = living-next b kind age year j s lives x (i .living) e g in
+  pub so-far-next : {j s lives payments x p : ℕ} → SoFar b kind age from year j s lives payments → Living b kind age year (j + 1) x (lives + x)
+      → (pos p ≡ deferredPayment (discountAfter b (j + 1)) from (j + 1) (pos x)) × (p ≤ 4 * U) → SoFar b kind age from year (j + 1) x (lives + x) (payments + p)
+  so-far-next {j} {payments = payments} {x} {p} i living d =
       let f : suc j ≡ j + 1 = omega arith in
       record {
         living = living;
@@ -85,13 +83,10 @@ module _ (b : Basis) (kind : Kind) (age from year : ℕ) where
       }
 
   -- a rate that is refused refuses both sums
-  module _ (j s lives payments : ℕ) (r : Refusal) {at : ℕ} (i : SoFar b kind age from year j s lives payments) (l : j < 150 - age) (e : at ≡ yearOn kind j year)
-      (g : refused r ≡ survivorsAfterYear b (age + j) at (pos s)) where
-    after : survivorsOf b kind age (suc j) year ≡ refused r
-    after = survivors-next b kind age j year (pos s) (refused r) e (i .living .survivors) g
-
+  module _ {j s lives payments : ℕ} {r : Refusal} (i : SoFar b kind age from year j s lives payments) (l : j < 150 - age)
+      (after : survivorsOf b kind age (suc j) year ≡ refused r) where
     pub expectation-refused : refused r ≡ expectationOf b kind age 0 year
-    expectation-refused = lived-refused b kind age 0 year j s lives r (omega arith) (omega arith) (omega arith) (i .living) e g
+    expectation-refused = lived-refused b kind age 0 year (omega arith) (omega arith) (i .living) (omega arith) after
 
     pub annuity-refused : from ≤ 150 - age → refused r ≡ annuityOf b kind age from year
     annuity-refused m = by (decLt j from)
@@ -103,15 +98,14 @@ module _ (b : Basis) (kind : Kind) (age from year : ℕ) where
             paid-refused b kind age from year j (pos payments) r (omega arith) l (rw f at (i .made)) after
 
   -- at age 150 both sums are whole
-  pub expectation-last : (j s lives payments : ℕ) → j ≡ 150 - age → SoFar b kind age from year j s lives payments
-      → value (pos (500_000_000 + lives)) ≡ expectationOf b kind age 0 year
-  expectation-last j s lives payments e i = lived-last b kind age 0 year j s lives (omega arith) (omega arith) (omega arith) (i .living)
+  module _ {j s lives payments : ℕ} (i : SoFar b kind age from year j s lives payments) (e : j ≡ 150 - age) where
+    pub expectation-last : value (pos (500_000_000 + lives)) ≡ expectationOf b kind age 0 year
+    expectation-last = lived-last b kind age 0 year (omega arith) (omega arith) (i .living) (omega arith)
 
-  pub annuity-last : (j s lives payments : ℕ) → j ≡ 150 - age → from ≤ 150 - age → SoFar b kind age from year j s lives payments
-      → value (pos payments) ≡ annuityOf b kind age from year
-  annuity-last j s lives payments e m i =
-      let f : suc j - from ≡ suc (j - from) = omega arith in
-      paid-last b kind age from year j (pos payments) e (rw f at (i .made))
+    pub annuity-last : from ≤ 150 - age → value (pos payments) ≡ annuityOf b kind age from year
+    annuity-last m =
+        let f : suc j - from ≡ suc (j - from) = omega arith in
+        paid-last b kind age from year j (pos payments) e (rw f at (i .made))
 
 -- ---- the expectation after a deferment is that from the later age in the later year
 pub deferred : (b : Basis) (kind : Kind) (age from year : ℕ) → expectationOf b kind (age + from) 0 (year + from) ≡ expectationOf b kind age from year

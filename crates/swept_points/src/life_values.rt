@@ -1,14 +1,14 @@
 // The values of a life: one loop along its rates gives expectation and annuity.
 ghost use mathlib.Core.Path.{_≡_};
-ghost use Prim.Native.Nat.{_+_, _≤_};
+ghost use Prim.Native.Nat.{_≤_};
 ghost use lib.IntN.{pos};
 ghost use Rattle.outcome.specs.Outcome.{meaning};
 ghost use Rattle.history.specs.Checked.{Cell};
-ghost use Rattle.history.specs.History.{basisWith, Workable};
+ghost use Rattle.history.specs.History.{basisWith};
 ghost use Rattle.survivorship.specs.Survivorship.{survivorsAfterYear};
 ghost use Rattle.valuation.specs.Valuation.{expectationOf, annuityOf};
 ghost use Rattle.factor_table.specs.FactorTable.{FactorTable};
-ghost use Rattle.swept_points.specs.LifeValues.{lifeExpectation, lifeAnnuity};
+ghost use Rattle.swept_points.specs.LifeValues.{LifeFrom, lifeExpectation, lifeAnnuity};
 ghost use Rattle.swept_points.specs.Inner.DeferredPayment.{deferredPayment};
 use arithmetic::HALF_UNIT;
 use arithmetic::UNIT;
@@ -59,8 +59,7 @@ pub fn life_values_from(
     deferment: u32,
     year: u32,
 ) -> LifeValues
-    requires { ⌜ Workable (now run) (now history) × FactorTable (basisWith (now run) (now history)) (now table) × (20 ≤ age) × (age + deferment ≤ 150)
-        × (basisWith (now run) (now history) .base ≤ year) × (year ≤ 2260) ⌝ }
+    requires { ⌜ LifeFrom (now run) (now history) (now table) age deferment year ⌝ }
     ensures { λ r. ⌜ lifeExpectation r ≡ expectationOf (basisWith (now (run .entry)) (now (history .entry))) kind age 0 year ⌝ }
     ensures { λ r. ⌜ lifeAnnuity r ≡ annuityOf (basisWith (now (run .entry)) (now (history .entry))) kind age deferment year ⌝ }
 {

@@ -6,15 +6,14 @@ use native.Mathlib.Numerals.{add-one}
 use lib.IntN.{ℤ, pos, _+ℤ_}
 use Rattle.arithmetic.specs.Fraction.{U}
 use Rattle.arithmetic.proofs.Difference.{parts, ring, ⊖-eq}
-use Rattle.basis.specs.Basis.{Basis, accumulationOf}
+use Rattle.basis.specs.Basis.{Basis}
 use Rattle.outcome.specs.Outcome.{value, refused, sumOf}
 use Rattle.outcome.specs.declared.Refusal.{Refusal}
 use Rattle.outcome.proofs.Outcome.{sum-none, sum-next, sum-refused}
-use Rattle.survivorship.specs.Survivorship.{yearOn, survivorsAfterYear, survivorsOf}
-use Rattle.valuation.specs.Valuation.{discountNext, discountAfter, payment, paymentAfter, annuityOf}
+use Rattle.survivorship.specs.Survivorship.{survivorsOf}
+use Rattle.valuation.specs.Valuation.{discountAfter, payment, paymentAfter, annuityOf}
 use Rattle.survivorship.specs.declared.Kind.{Kind}
-use Rattle.survivorship.proofs.Survivors.{year-small, survivors-next}
-use Rattle.valuation.proofs.Discount.{discount-turn}
+use Rattle.survivorship.proofs.Survivors.{survivors-small}
 
 zero-left : (x : ℤ) → pos 0 +ℤ x ≡ x
 zero-left x = rw (parts x) (simp ring (⊖-eq _ _ _ _ (omega arith)))
@@ -80,33 +79,28 @@ pub record Paying (b : Basis) (kind : Kind) (age from year j s v total : ℕ) : 
   pub discount : discountAfter b j ≡ pos v
   pub paid : Paid b kind age from year j (pos total)
 
-module _ (b : Basis) (kind : Kind) (age from year : ℕ) where
-  pub paying-first : (s v p : ℕ) → from ≤ 150 - age → s ≤ U → survivorsOf b kind age from year ≡ value (pos s) →
-      pos v ≡ discountAfter b from → (pos p ≡ payment (pos v) (pos s)) × (p ≤ 4 * U) →
-      Paying b kind age from year from s v p
-  paying-first s v p l m h k q =
+module _ {b : Basis} {kind : Kind} {age from year : ℕ} where
+  pub paying-first : {s v p : ℕ} → from ≤ 150 - age → survivorsOf b kind age from year ≡ value (pos s) → pos v ≡ discountAfter b from
+      → (pos p ≡ payment (pos v) (pos s)) × (p ≤ 4 * U) → Paying b kind age from year from s v p
+  paying-first {s} {v} {p} l h k q =
       record {
         begun = omega arith;
         within = l;
-        people = m;
+        people = survivors-small b kind age from year s h;
         sum = omega (arith, q .1);
         survivors = h;
         discount = sym k;
         paid = paid-first b kind age from year (pos s) (pos v) (pos p) h (sym k) (q .0);
       }
 
-  pub paying-next : (j s v total x w p : ℕ) {at accumulation : ℕ} → Paying b kind age from year j s v total → j < 150 - age → at ≡ yearOn kind j year
-      → accumulation ≡ accumulationOf b →
-      value (pos x) ≡ survivorsAfterYear b (age + j) at (pos s) → pos w ≡ discountNext (pos v) accumulation → (pos p ≡ payment (pos w) (pos x)) × (p ≤ 4 * U) →
-      Paying b kind age from year (j + 1) x w (total + p)
-  paying-next j s v total x w p {at} i l e f g k q =
-      let h = survivors-next b kind age j year (pos s) (value (pos x)) e (i .survivors) g in
-      let d = discount-turn b j (pos v) f (i .discount) ∙ sym k in
+  pub paying-next : {j s v total x w p : ℕ} → Paying b kind age from year j s v total → j < 150 - age → survivorsOf b kind age (suc j) year ≡ value (pos x)
+      → discountAfter b (suc j) ≡ pos w → (pos p ≡ payment (pos w) (pos x)) × (p ≤ 4 * U) → Paying b kind age from year (j + 1) x w (total + p)
+  paying-next {j} {total = total} {x} {w} {p} i l h d q =
       rw add-one
       (record {
         begun = omega (arith, i .begun);
         within = omega arith;
-        people = year-small b (age + j) at s x (i .people) (sym g);
+        people = survivors-small b kind age (suc j) year x h;
         sum = omega (arith, i .sum, q .1);
         survivors = h;
         discount = d;

@@ -54,7 +54,7 @@ fn annuity_from(
     first: u64,
 ) -> Answer
     requires { ⌜ Life (now run) (now history) age deferment year
-        × (first ≤ 1_000_000_000) × (survivorsOf (basisWith (now run) (now history)) kind age deferment year ≡ value (pos first)) ⌝ }
+        × (survivorsOf (basisWith (now run) (now history)) kind age deferment year ≡ value (pos first)) ⌝ }
     ensures { λ r. ⌜ meaning r ≡ annuityOf (basisWith (now (run .entry)) (now (history .entry))) kind age deferment year ⌝ }
 {
     let accumulation = basis::fields::accumulation(run);

@@ -1,7 +1,6 @@
 -- The years are stored, then the rest of their room is cleared, then the discounts are stored behind it; each keeps what stands before.
 use mathlib.Core.Path.{_∙_}
 use borrow.Author.Needs.{needs}
-use Rattle.history.specs.History.{basisWith}
 use Rattle.valuation.proofs.Discount.{discount-with}
 use Rattle.factor_table.proofs.Discounting.{stored-behind}
 use Rattle.factor_table.proofs.fill_table.Statement.{statement}
@@ -13,8 +12,7 @@ returns c =
     let r = d .before .before .before .before in
     let y = r .before .before .before .before in
     let s = y .before .before .before .before .before in
-    stored-behind (basisWith (s .args .run .now) (s .args .history .now)) (y .store-years .last .1 .1 .0) (r .clear-rest .last .1 .0) (d .store-discounts .last .1 .0)
-    (s .pre .0 .basis .limits .base-low) (search needs) (y .store-years .ensures) (r .clear-rest .ensures .0) (r .clear-rest .ensures .1)
+    stored-behind _ (y .store-years .last .1 .1 .0) (r .clear-rest .last .1 .0) _ (search (needs, s .pre)) (search needs) (y .store-years .ensures) (r .clear-rest .ensures .0) (r .clear-rest .ensures .1)
     (λ j l. d .store-discounts .ensures .0 j l ∙ discount-with (s .args .run .now) (s .args .history .now) j) (d .store-discounts .ensures .1)
 
 pub fill-table-spec : {M : Type 1} → statement M

@@ -13,17 +13,16 @@ use Rattle.improvement.proofs.improvement_at.Tie as tie
 
 actual-improvement-requires : tie.Need-actual-improvement-requires
 actual-improvement-requires c κs =
-    let s = c .before .before .before .before in
-    let r = actual-range (basisOf (s .args .run .now)) (s .args .year) (sym (c .before .is-actual .ensures) ∙ c .if1 .taken) in
-    (s .pre .0 .usable, s .pre .0 .age-low, s .pre .0 .age-high, r .0, r .1)
+    let a = c .before .before .before .before .args in
+    let r = actual-range (basisOf (a .run .now)) (a .year) (sym (c .before .is-actual .ensures) ∙ c .if1 .taken) in
+    search needs
 
 projected-at-requires : tie.Need-projected-at-requires
 projected-at-requires c κs =
-    let s = c .before .before .before .before in
-    let b = basisWith (s .args .run .now) (s .args .history .now) in
-    let p = s .pre .0 in
-    let late = projected-range b (s .args .year) (p .year-low) (sym (c .before .is-actual .ensures) ∙ c .if1 .left) in
-    (record { accepted = p .usable .basis; age-low = p .age-low; age-high = p .age-high; year-low = late; birth-high = p .birth-high }, s .pre .1)
+    let a = c .before .before .before .before .args in
+    let b = basisWith (a .run .now) (a .history .now) in
+    let late = projected-range b (a .year) (search needs) (sym (c .before .is-actual .ensures) ∙ c .if1 .left) in
+    search needs
 
 returns : tie.Need-returns
 unfolding improvementOf

@@ -29,11 +29,11 @@ module _ (s : tie.Start) where
 
   age-proper : 0 < by-age .den
   unfolding by-age
-  age-proper = component-proper (s .args .attained) (s .args .years) (s .pre .0 .period-low)
+  age-proper = component-proper (s .args .attained) (s .args .years) (omega arith)
 
   birth-proper : 0 < by-birth .den
   unfolding by-birth
-  birth-proper = component-proper (s .args .birth) (s .args .years) (s .pre .1 .period-low)
+  birth-proper = component-proper (s .args .birth) (s .args .years) (omega arith)
 
   rounded : ℤ
   rounded = round (by-age +ᶠ by-birth)
@@ -42,8 +42,8 @@ module _ (s : tie.Start) where
   unfolding by-age by-birth rounded
   all-fit =
       let a = s .args in
-      let age = component-small (a .attained) (a .years) (s .pre .0) in
-      let birth = component-small (a .birth) (a .years) (s .pre .1) in
+      let age = component-small (a .attained) (a .years) (search needs) in
+      let birth = component-small (a .birth) (a .years) (search needs) in
       let sum = sum-abs by-age by-birth age-proper birth-proper in
       sfits-abs (omega (arith, natAbs-add rounded (a .addition), abs-fits (s .fits .addition), sum, age .whole, birth .whole))
 
@@ -65,8 +65,8 @@ round-sum-requires : tie.Need-round-sum-requires
 round-sum-requires c κs =
     let s = c .before .before in
     let a = s .args in
-    let age = small-of (c .before .component .ensures) (component-small (a .attained) (a .years) (s .pre .0)) in
-    let birth = small-of (c .component2 .ensures) (component-small (a .birth) (a .years) (s .pre .1)) in (
+    let age = small-of (c .before .component .ensures) (component-small (a .attained) (a .years) (search needs)) in
+    let birth = small-of (c .component2 .ensures) (component-small (a .birth) (a .years) (search needs)) in (
       age .remainder,
       omega (arith, age .divisor),
       omega (arith, age .whole),

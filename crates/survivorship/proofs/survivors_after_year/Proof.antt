@@ -12,7 +12,7 @@ survivors-by-requires : tie.Need-survivors-by-requires
 survivors-by-requires c κs =
     let s = c .before .before .before in
     let b = basisWith (s .args .run .now) (s .args .history .now) in
-    (s .pre .1, rate-bounded b (s .args .age) (s .args .year) (c .rate-at .ensures))
+    (search needs, rate-bounded b (s .args .age) (s .args .year) (c .rate-at .ensures))
 
 returns : tie.Need-returns
 returns c =

@@ -10,7 +10,7 @@ use Rattle.survivorship.proofs.survivors_next.Statement.{statement}
 use Rattle.survivorship.proofs.survivors_next.Tie as tie
 
 room : (c : tie.Start) → c .args .s * (1_000_000_000 - c .args .q) ≤ 1_000_000_000_000_000_000
-room c = mul-le-mul {n₂ = 1_000_000_000} {m₂ = 1_000_000_000} (c .pre .0) (omega arith)
+room c = mul-le-mul {n₂ = 1_000_000_000} {m₂ = 1_000_000_000} (omega arith) (omega arith)
 
 mul-round-div-unsigned : tie.Need-mul-round-div-unsigned
 mul-round-div-unsigned c = record { fits = omega (arith, room c) }
@@ -20,8 +20,8 @@ round-div-unsigned-requires c κs = omega (arith, room c)
 
 returns : tie.Need-returns
 returns c = let a = c .before .args in (
-  ap pos (c .round-div-unsigned .ensures) ∙ next-is (a .s) (a .q) (c .before .pre .1),
-  next-small (a .s) (a .q) (c .round-div-unsigned .result) (c .before .pre .0) (c .round-div-unsigned .ensures),
+  ap pos (c .round-div-unsigned .ensures) ∙ next-is (a .s) (a .q) (omega arith),
+  next-small (a .s) (a .q) (c .round-div-unsigned .result) (omega arith) (c .round-div-unsigned .ensures),
 )
 
 pub survivors-next-spec : {M : Type 1} → statement M

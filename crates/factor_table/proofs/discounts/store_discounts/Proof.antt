@@ -16,36 +16,23 @@ abbrev μ-loop : tie.MeasureT-loop
 μ-loop run numbers₀ accumulation v₀ j₀ numbers v j = 131 - j
 
 loop-holds : tie.Need-loop-holds Inv-loop μ-loop
-loop-holds c = let a = c .before .before .before .args in (omega arith, discounted-none (basisOf (a .run .now)) (a .numbers .now))
+loop-holds c = (omega arith, discounted-none)
 
 cast-numbers : tie.Need-cast-numbers Inv-loop μ-loop
 cast-numbers c =
     let l = c .before in
-    let s = l .before .before .before .before in
-    let b = basisOf (s .args .run .now) in
-    let e = l .before .accumulation .ensures in
-    let ranges = discount-ranges b (s .pre .0 .limits) (l .loop .j) (l .loop .v) (omega arith) (l .loop .inv .1 .next) e in
+    let ranges = discount-ranges _ (search needs) _ _ (omega arith) (l .loop .inv .1 .next) (l .before .accumulation .ensures) in
     record { fits = omega (arith, ranges .0) }
 
 discount-next-requires : tie.Need-discount-next-requires Inv-loop μ-loop
 discount-next-requires c κs =
     let l = c .before in
-    let s = l .before .before .before .before in
-    let b = basisOf (s .args .run .now) in
-    let e = l .before .accumulation .ensures in
-    let ranges = discount-ranges b (s .pre .0 .limits) (l .loop .j) (l .loop .v) (omega arith) (l .loop .inv .1 .next) e in
-    ranges
+    discount-ranges _ (search needs) _ _ (omega arith) (l .loop .inv .1 .next) (l .before .accumulation .ensures)
 
 loop-again : tie.Need-loop-again Inv-loop μ-loop
 loop-again c =
     let l = c .before .before in
-    let s = l .before .before .before .before in
-    let b = basisOf (s .args .run .now) in
-    let e = l .before .accumulation .ensures in (
-      omega arith,
-      discounted-next b (s .args .numbers .now) (l .loop .numbers) (l .loop .j) (l .loop .v) (c .discount-next .result)
-          (omega (arith, s .pre .1)) e (l .loop .inv .1) (c .discount-next .ensures),
-    )
+    (omega arith, discounted-next (l .loop .inv .1) (omega arith) (l .before .accumulation .ensures) (c .discount-next .ensures))
 
 returns : tie.Need-returns Inv-loop μ-loop
 returns c =

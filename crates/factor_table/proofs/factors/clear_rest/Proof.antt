@@ -16,32 +16,13 @@ Inv-loop run numbers₀ years at₀ numbers at =
 abbrev μ-loop : tie.MeasureT-loop
 μ-loop run numbers₀ years at₀ numbers at = factorsLength - at
 
-sub-years : tie.Need-sub-years Inv-loop μ-loop
-sub-years c = omega (arith, c .base-year .ensures, c .before .before .before .pre .0 .limits .base-high)
-
 loop-holds : tie.Need-loop-holds Inv-loop μ-loop
 loop-holds c =
-    let s = c .before .before .before in
-    let b = basisOf (s .args .run .now) in
-    let e : 131 * (2131 - c .base-year .result) ≡ 131 * tableYears b = omega (arith, c .base-year .ensures) in
-    rw e (omega arith, omega (arith, s .pre .0 .limits .base-low), cleared-none (131 * tableYears b) (s .args .numbers .now))
-
-slice-write-numbers : tie.Need-slice-write-numbers Inv-loop μ-loop
-slice-write-numbers c = omega (arith, c .before .loop .inv .2 .same, c .before .before .before .before .before .pre .1)
+    let e : 131 * (2131 - c .base-year .result) ≡ 131 * tableYears (basisOf (c .before .before .before .args .run .now)) = omega arith in
+    rw e (omega arith, omega arith, cleared-none)
 
 loop-again : tie.Need-loop-again Inv-loop μ-loop
-loop-again c =
-    let l = c .before in
-    let s = l .before .before .before .before in
-    let b = basisOf (s .args .run .now) in (
-      omega arith,
-      omega arith,
-      cleared-next (131 * tableYears b) (s .args .numbers .now) (l .loop .numbers) (l .loop .at) (l .loop .inv .0)
-          (omega (arith, s .pre .1)) (l .loop .inv .2),
-    )
-
-same-length : tie.Need-same-length Inv-loop μ-loop
-same-length c = c .before .loop .inv .2 .same
+loop-again c = (omega arith, omega arith, cleared-next (c .before .loop .inv .2) (omega arith) (omega arith))
 
 returns : tie.Need-returns Inv-loop μ-loop
 returns c =
@@ -52,5 +33,5 @@ returns c =
 pub clear-rest-spec : {M : Type 1} → statement M
 clear-rest-spec =
     tie.close
-    (tie.spec Inv-loop μ-loop (λ c κs. search needs) sub-years (search needs) (search needs) loop-holds (search needs)
-    slice-write-numbers (search needs) (search needs) loop-again same-length returns)
+    (tie.spec Inv-loop μ-loop (λ c κs. search needs) (search needs) (search needs) (search needs) loop-holds (search needs)
+    (search needs) (search needs) (search needs) loop-again (search needs) returns)

@@ -21,9 +21,8 @@ place : (c : tie.After-base-year) →
     let age = c .before .before .before .before .args .age in
     (base ≤ n) × (n ≤ 2130) × (131 * (n - base) + (age - 20) < factorsLength)
 place c =
-    let s = c .before .before .before .before in
-    let a = s .args in
-    within (basisOf (a .run .now)) (s .pre .0 .limits) (a .age) (a .year) (s .pre .2) (s .pre .3) _ _ (c .before .held-year .ensures) (c .base-year .ensures)
+    let a = c .before .before .before .before .args in
+    within (basisOf (a .run .now)) (search needs) (a .age) (a .year) (omega arith) (omega arith) _ _ (c .before .held-year .ensures) (c .base-year .ensures)
 
 sub-k : tie.Need-sub-k
 sub-k c = place c .0
@@ -35,7 +34,7 @@ add-at : tie.Need-add-at
 add-at c = record { fits = omega (arith, place c .2) }
 
 shared-slice-read-decoded : tie.Need-shared-slice-read-decoded
-shared-slice-read-decoded c = omega (arith, place (c .before) .2, c .before .before .before .before .before .pre .4)
+shared-slice-read-decoded c = omega (arith, place (c .before) .2)
 
 returns : tie.Need-returns
 returns c =

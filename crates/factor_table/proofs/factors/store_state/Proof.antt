@@ -14,14 +14,10 @@ abbrev μ-loop : tie.MeasureT-loop
 μ-loop state at numbers₀ i₀ numbers i = 131 - i
 
 loop-holds : tie.Need-loop-holds Inv-loop μ-loop
-loop-holds c = let a = c .args in (omega arith, copied-none (a .at) (a .state .now) (a .numbers .now))
+loop-holds c = (omega arith, copied-none)
 
 loop-again : tie.Need-loop-again Inv-loop μ-loop
-loop-again c =
-    let l = c .before .before in
-    let s = l .before in
-    let a = s .args in
-    (omega arith, copied-next (a .at) (a .state .now) (a .numbers .now) (l .loop .numbers) (l .loop .i) (omega (arith, s .pre .1)) (l .loop .inv .1))
+loop-again c = (omega arith, copied-next (c .before .before .loop .inv .1) (omega arith))
 
 returns : tie.Need-returns Inv-loop μ-loop
 returns c =

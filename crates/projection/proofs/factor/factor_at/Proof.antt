@@ -1,12 +1,13 @@
 -- After k years the factor so far is the definition's after k steps; a refusal stands in every later year.
 use mathlib.Core.Path.{_≡_, _∙_, ap, sym}
-use Prim.Native.Nat.{ℕ, suc, _+_, _-_, _≤_}
+use Prim.Native.Nat.{_-_, _≤_}
+use native.Mathlib.Numerals.{add-one}
 use native.Mathlib.Omega.{arith}
 use lib.IntN.{pos}
 use borrow.Author.Needs.{needs}
 use Rattle.arithmetic.specs.Fraction.{U}
 use Rattle.history.specs.History.{basisWith}
-use Rattle.outcome.specs.Outcome.{value, refused, steps, meaning}
+use Rattle.outcome.specs.Outcome.{value, steps, meaning}
 use Rattle.outcome.proofs.Outcome.{persists}
 use Rattle.improvement.proofs.Cases.{first-early}
 use Rattle.projection.specs.Projection.{factorStep}
@@ -37,29 +38,18 @@ returns c =
     let y = c .before .before .before in
     let l = y .before .before in
     let h = l .before in
-    let a = h .before .before .before .before .before .args in
-    let b = basisWith (a .run .now) (a .history .now) in
-    let r = c .before .r .given .0 .0 in
+    let here = turn _ _ _ _ (h .before .base-year .ensures) (l .loop .inv .2) (y .factor-in .ensures) (c .before .r .given .1) in
     let n = h .held-year .result - h .before .base-year .result in
-    let told = sym (ap meaning (c .before .r .given .1)) ∙ y .factor-in .ensures in
-    let here = turn b (a .age) (l .loop .k) (pos (l .loop .factor)) (refused r) (h .before .base-year .ensures) (l .loop .inv .2) told in
-    ended b (a .age) (a .year) n (refused r) (omega (arith, h .held-year .ensures, h .before .base-year .ensures))
-    (persists (factorStep b (a .age)) (pos U) (suc (l .loop .k)) n r (omega arith) here)
+    ended _ _ _ n _ (omega (arith, h .held-year .ensures, h .before .base-year .ensures)) (persists _ _ _ _ _ (omega arith) here)
 
 loop-again : tie.Need-loop-again Inv-loop μ-loop
 loop-again c =
     let y = c .before .before .before in
     let l = y .before .before in
-    let h = l .before in
-    let a = h .before .before .before .before .before .args in
-    let b = basisWith (a .run .now) (a .history .now) in
-    let v = c .before .v .given .0 .0 in
-    let last = pos (l .loop .factor) in
-    let told = sym (ap meaning (c .before .v .given .1)) ∙ y .factor-in .ensures in (
+    let v = c .before .v .given .1 in (
       omega arith,
-      year-small b (a .age) (h .before .base-year .result + 1 + l .loop .k) _ last v (sym told),
-      ap (λ (n : ℕ). steps (factorStep b (a .age)) (pos U) n) (omega arith)
-          ∙ turn b (a .age) (l .loop .k) last (value (pos v)) (h .before .base-year .ensures) (l .loop .inv .2) told,
+      year-small _ _ _ _ _ (sym (y .factor-in .ensures) ∙ ap meaning v),
+      rw add-one (turn _ _ _ _ (l .before .before .base-year .ensures) (l .loop .inv .2) (y .factor-in .ensures) v),
     )
 
 -- stands behind what the year's factor is, so that a year that is not the definition's fails there first
@@ -83,11 +73,8 @@ factor-in-requires c κs =
 
 returns-2 : tie.Need-returns-2 Inv-loop μ-loop
 returns-2 c =
-    let l = c .before in
-    let h = l .before in
-    let a = h .before .before .before .before .before .args in
-    ended (basisWith (a .run .now) (a .history .now)) (a .age) (a .year) (l .loop .k) (value (pos (l .loop .factor)))
-    (omega (arith, h .held-year .ensures, h .before .base-year .ensures)) (l .loop .inv .2)
+    let h = c .before .before in
+    ended _ _ _ _ _ (omega (arith, h .held-year .ensures, h .before .base-year .ensures)) (c .before .loop .inv .2)
 
 pub factor-at-spec : {M : Type 1} → statement M
 factor-at-spec =

@@ -35,16 +35,16 @@ module _ (s : tie.Start) where
 
   small : left i ≤ 1_500_000_000
   unfolding i
-  small = left≤ (s .args .improvement) (s .pre .1)
+  small = left≤ (s .args .improvement) (omega arith)
 
   fits : s .args .factor * left i ≤ 6_000_000_000_000_000_000
   unfolding i
-  fits = product≤ (s .args .factor) (s .args .improvement) (s .pre .0) (s .pre .1)
+  fits = product≤ (s .args .factor) (s .args .improvement) (omega arith) (omega arith)
 
   -- the machine's U − i, and what is read back of it
   minus : pos U -ℤ toZ w64 (ofZ w64 (s .args .improvement)) ≡ pos (left i)
   unfolding i
-  minus = rw (toZ-ofZ (s .fits .improvement)) (left-is (s .args .improvement) (s .pre .1))
+  minus = rw (toZ-ofZ (s .fits .improvement)) (left-is (s .args .improvement) (omega arith))
 
   read : toZ w64 (ofZ w64 (pos U -ℤ toZ w64 (ofZ w64 (s .args .improvement)))) ≡ pos (left i)
   read = ap (λ (z : ℤ). toZ w64 (ofZ w64 z)) minus ∙ toZ-pos w64 (omega (arith, small))
@@ -65,7 +65,7 @@ returns : tie.Need-returns
 unfolding i
 returns c =
     let s = c .before in
-    let whole = left-is (s .args .improvement) (s .pre .1) in
+    let whole = left-is (s .args .improvement) (omega arith) in
     ap pos (rw (read s) at (c .round-div-unsigned .ensures)) ∙ sym (ap (λ (z : ℤ). roundDiv (pos (s .args .factor) *ℤ z) U) whole)
 
 pub factor-next-spec : {M : Type 1} → statement M

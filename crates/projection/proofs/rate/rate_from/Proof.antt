@@ -3,7 +3,7 @@ use Prim.Native.Nat.{_*_, _≤_}
 use native.Mathlib.Omega.{arith}
 use native.Mathlib.Nat.{mul-le-mul}
 use borrow.Author.Needs.{needs}
-use Rattle.basis.specs.Basis.{basisOf}
+use Rattle.basis.specs.Basis.{basisOf, Accepted}
 use Rattle.projection.proofs.Years.{rate-below, rate-above}
 use Rattle.projection.proofs.rate.rate_from.Statement.{statement}
 use Rattle.projection.proofs.rate.rate_from.Tie as tie
@@ -11,8 +11,9 @@ use Rattle.projection.proofs.rate.rate_from.Tie as tie
 room : (c : tie.After-base-rate) → c .base-rate .result * c .before .before .args .factor ≤ 4_000_000_000_000_000_000
 room c =
     let s = c .before .before in
-    let l = s .pre .0 .limits .baseRate (s .args .age) (s .pre .1) (s .pre .2) in
-    mul-le-mul {n₂ = 1_000_000_000} {m₂ = 4_000_000_000} (omega (arith, c .base-rate .ensures)) (s .pre .3)
+    let accepted : Accepted (s .args .run .now) = search needs in
+    let l = accepted .limits .baseRate (s .args .age) (omega arith) (omega arith) in
+    mul-le-mul {n₂ = 1_000_000_000} {m₂ = 4_000_000_000} (omega (arith, c .base-rate .ensures)) (omega arith)
 
 mul-round-div-unsigned : tie.Need-mul-round-div-unsigned
 mul-round-div-unsigned c = record { fits = omega (arith, room c) }
@@ -23,14 +24,12 @@ round-div-unsigned-requires c κs = omega (arith, room c)
 returns : tie.Need-returns
 returns c =
     let d = c .before in
-    let a = d .before .before .before .args in
-    rate-below (basisOf (a .run .now)) (a .age) _ _ _ (d .before .base-rate .ensures) (d .round-div-unsigned .ensures) (c .if1 .taken)
+    rate-below (basisOf (d .before .before .before .args .run .now)) _ _ _ _ (d .before .base-rate .ensures) (d .round-div-unsigned .ensures) (c .if1 .taken)
 
 returns-2 : tie.Need-returns-2
 returns-2 c =
     let d = c .before in
-    let a = d .before .before .before .args in
-    rate-above (basisOf (a .run .now)) (a .age) _ _ _ (d .before .base-rate .ensures) (d .round-div-unsigned .ensures) (c .if1 .left)
+    rate-above (basisOf (d .before .before .before .args .run .now)) _ _ _ _ (d .before .base-rate .ensures) (d .round-div-unsigned .ensures) (c .if1 .left)
 
 pub rate-from-spec : {M : Type 1} → statement M
 rate-from-spec =

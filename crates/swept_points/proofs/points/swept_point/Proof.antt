@@ -11,10 +11,8 @@ use Rattle.swept_points.proofs.points.swept_point.Tie as tie
 swept-results-requires : tie.Need-swept-results-requires
 unfolding ratedFrom
 swept-results-requires c κs =
-    let s = c .before .before .before .before .before .before in
-    let q = s .args .q in
     let passed = found (c .before .before .check-question .ensures) (c .enum-told .given .1) in
-    (question-passed (s .args .run .now) (s .args .history .now) (q .age) (q .deferment) (q .year) (s .pre .0) passed, s .pre .1)
+    (question-passed _ _ _ _ _ (search needs) passed, search needs)
 
 returns : tie.Need-returns
 unfolding ratedFrom

@@ -1,24 +1,16 @@
 -- A refusal within the deferment refuses the first payment; otherwise the payments begin with the survivors at its end.
 use mathlib.Core.Path.{_∙_, ap, sym}
-use native.Mathlib.Omega.{arith}
 use borrow.Author.Needs.{needs}
-use Rattle.history.specs.History.{basisWith}
 use Rattle.outcome.specs.Outcome.{meaning}
 use Rattle.valuation.proofs.Payments.{refused-before}
-use Rattle.survivorship.proofs.Survivors.{survivors-small}
 use Rattle.valuation.proofs.annuity.annuity_at.Statement.{statement}
 use Rattle.valuation.proofs.annuity.annuity_at.Tie as tie
 
 annuity-from-requires : tie.Need-annuity-from-requires
-annuity-from-requires c κs = let s = c .before .before .before .before .before .before in let a = s .args in
-    let h = sym (c .before .before .before .survivors-at .ensures) ∙ ap meaning (c .before .s .given .1) in
-    let small = survivors-small (basisWith (a .run .now) (a .history .now)) (a .kind) (a .age) (a .deferment) (a .year) (c .before .s .given .0 .0) h in
-    (s .pre, omega (arith, small), h)
+annuity-from-requires c κs = (search needs, sym (c .before .before .before .survivors-at .ensures) ∙ ap meaning (c .before .s .given .1))
 
 returns-2 : tie.Need-returns-2
-returns-2 c = let s = c .before .before .before .before .before .before in let a = s .args in
-    refused-before (basisWith (a .run .now) (a .history .now)) (a .kind) (a .age) (a .deferment) (a .year) _
-    (sym (c .before .before .before .survivors-at .ensures) ∙ ap meaning (c .before .r .given .1))
+returns-2 c = refused-before _ _ _ _ _ _ (sym (c .before .before .before .survivors-at .ensures) ∙ ap meaning (c .before .r .given .1))
 
 pub annuity-at-spec : {M : Type 1} → statement M
 annuity-at-spec =

@@ -1,20 +1,23 @@
 -- After j turns of the loop survivors, discount and total are those of `Paying`; the payments to 150 − age are the annuity.
-use mathlib.Core.Path.{_∙_, ap, sym}
-use Prim.Native.Nat.{suc, _+_, _-_}
+use mathlib.Core.Path.{_≡_, _∙_, sym}
+use Prim.Native.Nat.{suc, _-_}
 use native.Mathlib.Omega.{arith}
 use lib.IntN.{pos}
 use borrow.Author.Needs.{needs}
 use Rattle.history.specs.History.{basisWith}
 use Rattle.history.proofs.With.{accumulation-with, limits-with}
-use Rattle.outcome.specs.Outcome.{refused, meaning}
+use Rattle.outcome.specs.Outcome.{value}
+use Rattle.survivorship.specs.Survivorship.{survivorsOf}
+use Rattle.valuation.specs.Valuation.{discountAfter}
 use Rattle.valuation.proofs.Discount.{discount-turn, discount-with, discount-small, discount-ranges}
 use Rattle.valuation.proofs.Payments.{Paying, paying-first, paying-next, paid-refused, paid-last}
-use Rattle.survivorship.proofs.Survivors.{survivors-next, year-small, cell-on}
+use Rattle.survivorship.proofs.Survivors.{survivors-next, survivors-small, cell-on}
 use Rattle.valuation.proofs.annuity.annuity_from.Statement.{statement}
 use Rattle.valuation.proofs.annuity.annuity_from.Tie as tie
 
 abbrev Inv-loop : tie.InvT-loop
-Inv-loop run history kind age deferment year first accumulation last v₀ s₀ j₀ total₀ v s j total = Paying (basisWith run history) kind age deferment year j s v total
+Inv-loop run history kind age deferment year first accumulation last v₀ s₀ j₀ total₀ v s j total =
+    Paying (basisWith run history) kind age deferment year j s v total
 
 abbrev μ-loop : tie.MeasureT-loop
 μ-loop run history kind age deferment year first accumulation last v₀ s₀ j₀ total₀ v s j total = last - j
@@ -22,63 +25,58 @@ abbrev μ-loop : tie.MeasureT-loop
 payment-requires : tie.Need-payment-requires Inv-loop μ-loop
 payment-requires c κs = let s = c .before .before .before .before in let a = s .args in
     let b = basisWith (a .run .now) (a .history .now) in
-    let after = sym (c .discount-after .ensures ∙ discount-with (a .run .now) (a .history .now) (a .deferment)) in
-    let small = discount-small b (limits-with (s .pre .0 .usable)) (a .deferment) (c .discount-after .result) (omega arith) after in
-    (omega (arith, small), omega (arith, s .pre .1))
+    let small = discount-small b (limits-with (search needs)) _ _ (omega arith) (sym (c .discount-after .ensures ∙ discount-with _ _ _)) in
+    (omega (arith, small), survivors-small b (a .kind) (a .age) (a .deferment) (a .year) (a .first) (search needs))
 
 loop-holds : tie.Need-loop-holds Inv-loop μ-loop
-loop-holds c = let d = c .before in let s = d .before .before .before .before in let a = s .args in
-    paying-first (basisWith (a .run .now) (a .history .now)) (a .kind) (a .age) (a .deferment) (a .year) (a .first) (d .discount-after .result) (c .payment .result)
-    (omega arith) (s .pre .1) (s .pre .2) (d .discount-after .ensures ∙ discount-with (a .run .now) (a .history .now) (a .deferment)) (c .payment .ensures)
+loop-holds c = paying-first (omega arith) (search needs) (c .before .discount-after .ensures ∙ discount-with _ _ _) (c .payment .ensures)
 
 survivors-after-year-requires : tie.Need-survivors-after-year-requires Inv-loop μ-loop
 survivors-after-year-requires c κs = let l = c .before .before in let s = l .before .before .before .before .before .before in
-    let life = s .pre .0 in
-    let cell = cell-on (s .args .age) (s .args .year) (s .args .kind) (l .loop .j) (life .usable) (life .age-low) (omega arith) (life .year-low) (c .year-on .ensures) in
-    (cell, l .loop .inv .people)
+    (cell-on (s .args .kind) (l .loop .j) (search needs) (omega arith) (c .year-on .ensures), l .loop .inv .people)
 
 returns : tie.Need-returns Inv-loop μ-loop
-returns c = let y = c .before .before .before in let l = y .before .before .before in let s = l .before .before .before .before .before .before in let a = s .args in
-    let b = basisWith (a .run .now) (a .history .now) in
-    let r = c .before .r .given .0 .0 in
-    let i = l .loop .inv in
-    let g = sym (ap meaning (c .before .r .given .1)) ∙ y .survivors-after-year .ensures in
-    let h = survivors-next b (a .kind) (a .age) (l .loop .j) (a .year) (pos (l .loop .s)) (refused r) (y .before .year-on .ensures) (i .survivors) g in
-    paid-refused b (a .kind) (a .age) (a .deferment) (a .year) (l .loop .j) (pos (l .loop .total)) r (i .begun) (omega arith) (i .paid) h
+returns c = let y = c .before .before .before in let i = y .before .before .before .loop .inv in
+    let h = survivors-next _ _ _ _ _ _ (y .before .year-on .ensures) (i .survivors) (y .survivors-after-year .ensures) (c .before .r .given .1) in
+    paid-refused _ _ _ _ _ _ _ _ (i .begun) (omega arith) (i .paid) h
 
 discount-next-requires : tie.Need-discount-next-requires Inv-loop μ-loop
-discount-next-requires c κs = let l = c .before .before .before .before .before .before in let h = l .before in let s = h .before .before .before .before .before in
-    discount-ranges (basisWith (s .args .run .now) (s .args .history .now)) (limits-with (s .pre .0 .usable)) (l .loop .j) (l .loop .v) (omega arith) (l .loop .inv .discount)
-    (h .before .before .accumulation .ensures ∙ accumulation-with (s .args .run .now) (s .args .history .now))
+discount-next-requires c κs = let l = c .before .before .before .before .before .before in
+    discount-ranges _ (limits-with (search needs)) _ _ (omega arith) (l .loop .inv .discount)
+    (l .before .before .before .accumulation .ensures ∙ accumulation-with _ _)
+
+-- survivors and discount after the year are the definition's
+turned : (c : tie.After-discount-next Inv-loop μ-loop) →
+    let x = c .before .before in
+    let l = x .before .before .before .before .before in
+    let a = l .before .before .before .before .before .before .args in
+    let b = basisWith (a .run .now) (a .history .now) in
+    let j = suc (l .loop .j) in
+    (survivorsOf b (a .kind) (a .age) j (a .year) ≡ value (pos (x .x .given .0 .0))) × (discountAfter b j ≡ pos (c .discount-next .result))
+turned c =
+    let x = c .before .before in
+    let y = x .before .before in
+    let l = y .before .before .before in (
+      survivors-next _ _ _ _ _ _ (y .before .year-on .ensures) (l .loop .inv .survivors) (y .survivors-after-year .ensures) (x .x .given .1),
+      discount-turn _ _ _ (l .before .before .before .accumulation .ensures ∙ accumulation-with _ _) (l .loop .inv .discount) ∙ sym (c .discount-next .ensures),
+    )
 
 payment-requires-2 : tie.Need-payment-requires-2 Inv-loop μ-loop
-payment-requires-2 c κs = let x = c .before .before in let y = x .before .before in
-    let l = y .before .before .before in let h = l .before in let s = h .before .before .before .before .before in
-    let b = basisWith (s .args .run .now) (s .args .history .now) in
-    let g = sym (ap meaning (x .x .given .1)) ∙ y .survivors-after-year .ensures in
-    let accumulation = h .before .before .accumulation .ensures ∙ accumulation-with (s .args .run .now) (s .args .history .now) in
-    let turned = discount-turn b (l .loop .j) (pos (l .loop .v)) accumulation (l .loop .inv .discount) in
-    let small = discount-small b (limits-with (s .pre .0 .usable)) (suc (l .loop .j)) (c .discount-next .result) (omega arith) (turned ∙ sym (c .discount-next .ensures)) in
-    (omega (arith, small), year-small b (s .args .age + l .loop .j) (y .before .year-on .result) (l .loop .s) (x .x .given .0 .0) (l .loop .inv .people) (sym g))
-
-add-total : tie.Need-add-total Inv-loop μ-loop
-add-total c = omega (arith, c .payment2 .ensures .1)
+payment-requires-2 c κs =
+    let s = c .before .before .before .before .before .before .before .before .before .before .before .before .before in
+    let small = discount-small _ (limits-with (search (needs, s .pre))) _ _ (omega arith) (turned c .1) in
+    (omega (arith, small), survivors-small _ _ _ _ _ _ (turned c .0))
 
 loop-again : tie.Need-loop-again Inv-loop μ-loop
-loop-again c = let d = c .before in let x = d .before .before in let y = x .before .before in
-    let l = y .before .before .before in let h = l .before in let s = h .before .before .before .before .before in let a = s .args in
-    let g = sym (ap meaning (x .x .given .1)) ∙ y .survivors-after-year .ensures in
-    paying-next (basisWith (a .run .now) (a .history .now)) (a .kind) (a .age) (a .deferment) (a .year) (l .loop .j) (l .loop .s) (l .loop .v) (l .loop .total)
-    (x .x .given .0 .0) (d .discount-next .result) (c .payment2 .result) (l .loop .inv) (omega arith) (y .before .year-on .ensures)
-    (h .before .before .accumulation .ensures ∙ accumulation-with (s .args .run .now) (s .args .history .now)) g (d .discount-next .ensures) (c .payment2 .ensures)
+loop-again c = let t = turned (c .before) in
+    paying-next (c .before .before .before .before .before .before .before .before .loop .inv) (omega arith) (t .0) (t .1) (c .payment2 .ensures)
 
 returns-2 : tie.Need-returns-2 Inv-loop μ-loop
-returns-2 c = let l = c .before in let s = l .before .before .before .before .before .before in let a = s .args in
-    paid-last (basisWith (a .run .now) (a .history .now)) (a .kind) (a .age) (a .deferment) (a .year) (l .loop .j) (pos (l .loop .total)) (omega arith) (l .loop .inv .paid)
+returns-2 c = paid-last _ _ _ _ _ _ _ (omega arith) (c .before .loop .inv .paid)
 
 pub annuity-from-spec : {M : Type 1} → statement M
 annuity-from-spec =
     tie.close
     (tie.spec Inv-loop μ-loop (λ c κs. search needs) (search needs) (λ c κs. search needs) payment-requires loop-holds
     (search needs) (search needs) survivors-after-year-requires (search needs) (search needs) returns
-    discount-next-requires (search needs) payment-requires-2 add-total (search needs) loop-again returns-2)
+    discount-next-requires (search needs) payment-requires-2 (search needs) (search needs) loop-again returns-2)

@@ -23,7 +23,7 @@ loop-holds c = search needs
 
 discount-next-requires : tie.Need-discount-next-requires Inv-loop μ-loop
 discount-next-requires c κs = let l = c .before in let s = l .before .before .before in
-    discount-ranges (basisOf (s .args .run .now)) (s .pre .0 .limits) (l .loop .j) (l .loop .v) (omega arith) (l .loop .inv .1) (l .before .accumulation .ensures)
+    discount-ranges (basisOf (s .args .run .now)) (search needs) (l .loop .j) (l .loop .v) (omega arith) (l .loop .inv .1) (l .before .accumulation .ensures)
 
 loop-again : tie.Need-loop-again Inv-loop μ-loop
 loop-again c = let l = c .before .before in

@@ -10,7 +10,7 @@ use Rattle.valuation.proofs.annuity.payment.Statement.{statement}
 use Rattle.valuation.proofs.annuity.payment.Tie as tie
 
 room : (c : tie.Start) → c .args .v * c .args .s ≤ 4_000_000_000_000_000_000
-room c = mul-le-mul {n₂ = 4_000_000_000} {m₂ = 1_000_000_000} (c .pre .0) (c .pre .1)
+room c = mul-le-mul {n₂ = 4_000_000_000} {m₂ = 1_000_000_000} (omega arith) (omega arith)
 
 mul-round-div-unsigned : tie.Need-mul-round-div-unsigned
 mul-round-div-unsigned c = record { fits = omega (arith, room c) }
