@@ -19,7 +19,7 @@ use Rattle.enquiry.specs.Enquiry.{valuationCheck, survivorshipEnquiry}
 use Rattle.survivorship.specs.Survivorship.{survivorsAfterYear, survivorsOf}
 use Rattle.question.proofs.Passed.{year-passed, question-parts}
 use Rattle.enquiry.proofs.Passed.{valuation-passed}
-use Rattle.survivorship.proofs.Survivors.{survivors-first, survivors-next, survivors-refused, survivors-natural, survivors-small}
+use Rattle.survivorship.proofs.Survivors.{survivors-first, survivors-on, survivors-refused, survivors-natural, survivors-small}
 use Rattle.lifeline.specs.declared.Position.{Position}
 use Rattle.lifeline.specs.Said.{advanced, ended, Start, Step}
 use Rattle.lifeline.specs.Lifeline.{positionAt, lastYearAt, stepYearCheck, survivorsCheck, positionCheck, stepCheck}
@@ -55,7 +55,7 @@ module _ (run history : List ℕ) (age year : ℕ) where
   steps-survive (suc n) h a =
       let p = steps-survive n h (λ k l. a k (omega arith)) in
       let went = step-advanced run history (years-on n (p .0)) (ap (λ (x : Position). stepAt run history x .says) (sym (p .1)) ∙ a n (omega arith)) .2 in
-      let next = survivors-next (basisWith run history) Cohort age n year (pos (p .0)) (value (went .0)) refl (p .2) (sym (went .1)) in
+      let next = survivors-on (basisWith run history) Cohort age n year (pos (p .0)) (p .2) ∙ went .1 in
       let m = survivors-natural (basisWith run history) Cohort age (suc n) year (went .0) next in
       (m .0, after-suc n _ _ (p .1) (went .2) ∙ position-same (omega arith) (omega arith) (ap natAbs (m .1)), next ∙ ap value (m .1))
 
@@ -80,7 +80,7 @@ module _ (run history : List ℕ) (age year : ℕ) where
       let v = valuation-passed run history age n year h in
       let passes = let-through k s l (survivors-small (basisWith run history) Cohort age k year s e) in
       step-year run history (years-on k s) passes (ne-eqb (age + k) 150 (λ g. omega (arith, v .age-high)))
-      ∙ ap (yearLater (years-on k s)) (sym (survivors-next (basisWith run history) Cohort age k year (pos s) _ refl e refl))
+      ∙ ap (yearLater (years-on k s)) (sym (survivors-on (basisWith run history) Cohort age k year (pos s) e))
 
   and-one : (k : ℕ) → Advances run history age year k
       → stepAt run history (positionAfter run history age year k) .says ≡ value advanced → Advances run history age year (suc k)

@@ -75,12 +75,17 @@ module _ (b : Basis) (kind : Kind) (age : ℕ) where
   unfolding survivorsOf
   survivors-first year = none (survivorsStep b kind age year) (pos U)
 
+  -- one year more, whatever it comes to
+  pub survivors-on : (j year : ℕ) (s : ℤ) → survivorsOf b kind age j year ≡ value s
+      → survivorsOf b kind age (suc j) year ≡ survivorsAfterYear b (age + j) (yearOn kind j year) s
+  unfolding survivorsOf
+  survivors-on j year s h = next (survivorsStep b kind age year) (pos U) j s h
+
   -- what a year's answer turned out to be is what there is after it
   pub survivors-next : (j year : ℕ) (s : ℤ) {answer case : Answer} {at : ℕ} → at ≡ yearOn kind j year → survivorsOf b kind age j year ≡ value s
       → meaning answer ≡ survivorsAfterYear b (age + j) at s → answer ≡ case → survivorsOf b kind age (suc j) year ≡ meaning case
-  unfolding survivorsOf
   survivors-next j year s e h g told =
-      next (survivorsStep b kind age year) (pos U) j s h ∙ sym (g ∙ ap (λ (y : ℕ). survivorsAfterYear b (age + j) y s) e) ∙ ap meaning told
+      survivors-on j year s h ∙ sym (g ∙ ap (λ (y : ℕ). survivorsAfterYear b (age + j) y s) e) ∙ ap meaning told
 
   pub survivors-refused : (j n year : ℕ) (r : Refusal) → j ≤ n → survivorsOf b kind age j year ≡ refused r → survivorsOf b kind age n year ≡ refused r
   unfolding survivorsOf
