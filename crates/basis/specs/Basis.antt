@@ -28,7 +28,7 @@ pub record Basis : Type 0 where
   pub byBirthYear : ℕ → Convergence
   pub actual : ℕ → ℕ → ℤ
 
--- I, L, T and P at one place of four tables, P in hundredths of a per cent, of which each P of the form counts its own
+-- I, L, T and P at one place of four tables; the P of a basis is in hundredths of a per cent, whatever its form counts in (02, change 7)
 abbrev pub termsAt : Form → List ℕ → ℕ → ℕ → ℕ → ℕ → ℕ → Convergence
 termsAt form run initial long period remaining place =
     record {

@@ -13,8 +13,8 @@ pub enum Number {
     SignedWord,
 }
 
-// The form MPB1: the last letter of its mark; one P of it, which is a per cent, in hundredths of a per cent; its greatest P; and the
-// blocks of its file, each with 506 data bytes among its 512.
+// The form MPB1: the last letter of its mark; the hundredths of a per cent that one of its P counts, which is a per cent; its
+// greatest P; and the blocks of its file, each with 506 data bytes among its 512.
 pub const LAST_LETTER: i64 = 49;
 
 pub const PROPORTION_HUNDREDTHS: u16 = 100;
