@@ -12,14 +12,16 @@ slice-aggregate-write-out : tie.Need-slice-aggregate-write-out
 slice-aggregate-write-out c = let f = c .before .before .before .feed in
     sym (length-take-le (f .result .at) (f .last .1 .1 .1 .1 .1 .0) (omega arith))
 
--- what a block that is read leaves
+-- what the call was given, and what a block that is read leaves
+abbrev start : tie.After-feed → tie.Start
+start f = f .before .before .before .before .before .before .before .before .before .before .before .before .before .before .before
+
 fed : (f : tie.After-feed) →
-    let s = f .before .before .before .before .before .before .before .before .before .before .before .before .before .before .before in
-    let a = s .args in
+    let a = start f .args in
     let part = f .before .before .before .before .before .before .before .before .read .last .1 .0 in
     ReadyForBlocks (a .run .now) (a .history .now) (a .table .now) (f .feed .result .pending) (a .blocks) part (f .feed .last .1 .1 .1 .1 .1 .0)
 fed f =
-    let s = f .before .before .before .before .before .before .before .before .before .before .before .before .before .before .before in
+    let s = start f in
     let few = left-few (f .feed .ensures) in
     record {
       ready = record { tabled = s .pre .ready .tabled; room = omega arith; sound = left-sound (f .feed .ensures); countable = omega arith };

@@ -15,15 +15,16 @@ use borrow.Author.Needs.{needs}
 use Rattle.enquiry_lines.proofs.whole.output.Statement.{statement}
 use Rattle.enquiry_lines.proofs.whole.output.Tie as tie
 
--- what was worked out of the files that are accepted
-accepted : (o : tie.After-open-files) → finding (o .open-files .result .check) ≡ passed
-    → Workable (o .open-files .last .1 .1 .0) (o .before .before .before .before .before .before .before .before .args .history .now)
+-- what the call was given
+abbrev start : tie.After-open-files → tie.Start
+start o = o .before .before .before .before .before .before .before .before
+
+accepted : (o : tie.After-open-files) → finding (o .open-files .result .check) ≡ passed → Workable (o .open-files .last .1 .1 .0) (start o .args .history .now)
 accepted o h = opened-workable (o .open-files .ensures) (length-replicate {A = ℕ} (runLength mpb1) 0) h
 
 returns : tie.Need-returns
 returns c = let o = c .before .before .before .before .before in
-    let text = o .before .before .before .before .before .before .before .before .args .text .now in
-    being (refused-output (o .open-files .ensures) text _ (ap finding (c .enum-told2 .given .1))) refl (o .open-files .ensures .put)
+    being (refused-output (o .open-files .ensures) (start o .args .text .now) _ (ap finding (c .enum-told2 .given .1))) refl (o .open-files .ensures .put)
 
 fill-table-requires : tie.Need-fill-table-requires
 fill-table-requires c κs = let t = c .before .before in
@@ -33,7 +34,7 @@ feed-parts-requires : tie.Need-feed-parts-requires
 feed-parts-requires c κs = let w = c .before .before .before .before in
     let t = w .before .before .before in
     let o = t .before .before .before .before .before in
-    let s = o .before .before .before .before .before .before .before .before in
+    let s = start o in
     let opened = o .open-files .ensures in
     record {
       tabled = (accepted o (ap finding (t .enum-told .given .1)), w .fill-table .ensures);
@@ -47,7 +48,7 @@ finish-requires c κs = let f = c .before .before .before .before .before in
     let w = f .before .before .before .before .before in
     let t = w .before .before .before in
     let o = t .before .before .before .before .before in
-    let s = o .before .before .before .before .before .before .before .before in
+    let s = start o in
     let opened = o .open-files .ensures in
     let fed = f .feed-parts .ensures in
     record {
@@ -62,11 +63,10 @@ returns-2 c = let g = c .before .before in
     let f = g .before .before .before .before .before .before in
     let t = f .before .before .before .before .before .before .before .before in
     let o = t .before .before .before .before .before in
-    let text = o .before .before .before .before .before .before .before .before .args .text .now in
     let opened = o .open-files .ensures in
     let fed = f .feed-parts .ensures in
     let all = then (opened .put) (being (last-reply fed) refl (then (fed .put) (g .finish .ensures))) in
-    being (accepted-output opened text (length-replicate {A = ℕ} (runLength mpb1) 0) (ap finding (t .enum-told .given .1))) refl all
+    being (accepted-output opened (start o .args .text .now) (length-replicate {A = ℕ} (runLength mpb1) 0) (ap finding (t .enum-told .given .1))) refl all
 
 pub output-spec : {M : Type 1} → statement M
 output-spec =
