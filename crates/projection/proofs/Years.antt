@@ -41,7 +41,8 @@ module _ (b : Basis) (age : ℕ) where
   -- ---- the factor
   -- one year more
   pub turn : {base : ℕ} (k : ℕ) (f : ℤ) {answer case : Answer} → base ≡ b .base → steps (factorStep b age) (pos U) k ≡ value f →
-      meaning answer ≡ factorFrom age (base + 1 + k) (improvementOf b age (base + 1 + k)) f → answer ≡ case → steps (factorStep b age) (pos U) (suc k) ≡ meaning case
+      meaning answer ≡ factorFrom age (base + 1 + k) (improvementOf b age (base + 1 + k)) f → answer ≡ case →
+      steps (factorStep b age) (pos U) (suc k) ≡ meaning case
   turn k f e h g told =
       next (factorStep b age) (pos U) k f h
       ∙ sym (g ∙ ap (λ (n : ℕ). factorFrom age (n + 1 + k) (improvementOf b age (n + 1 + k)) f) e) ∙ ap meaning told
