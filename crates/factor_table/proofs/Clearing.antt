@@ -19,7 +19,8 @@ module _ {from : ℕ} {start : List ℕ} where
   pub cleared-none : Cleared from start start from
   cleared-none = record { same = refl; zeros = λ i l m. absurd (omega arith); kept = λ i l. refl }
 
-  pub cleared-next : {numbers : List ℕ} {at : ℕ} → Cleared from start numbers at → from ≤ at → at < length start → Cleared from start (set numbers at 0) (at + 1)
+  pub cleared-next : {numbers : List ℕ} {at : ℕ} → Cleared from start numbers at → from ≤ at → at < length start
+      → Cleared from start (set numbers at 0) (at + 1)
   cleared-next {numbers} {at} c low l =
       rw add-one
       (record {

@@ -19,7 +19,8 @@ module _ {at : ℕ} {state start : List ℕ} where
   pub copied-none : Copied at state start start 0
   copied-none = record { same = refl; stands = λ i l. absurd (omega arith); kept = λ i l. refl }
 
-  pub copied-next : {numbers : List ℕ} {n : ℕ} → Copied at state start numbers n → at + n < length start → Copied at state start (set numbers (at + n) (getD state n 0)) (n + 1)
+  pub copied-next : {numbers : List ℕ} {n : ℕ} → Copied at state start numbers n → at + n < length start
+      → Copied at state start (set numbers (at + n) (getD state n 0)) (n + 1)
   copied-next {numbers} {n} c l =
       rw add-one
       (record {

@@ -28,8 +28,8 @@ module _ {b : Basis} {start : List ℕ} where
   unfolding discountAfter
   discounted-none = record { same = refl; stored = λ i l. absurd (omega arith); kept = λ i l. refl; next = refl }
 
-  pub discounted-next : {numbers : List ℕ} {j v w accumulation : ℕ} → Discounted b start numbers j v → factorsLength + j < length start → accumulation ≡ accumulationOf b
-      → pos w ≡ discountNext (pos v) accumulation → Discounted b start (set numbers (factorsLength + j) v) (j + 1) w
+  pub discounted-next : {numbers : List ℕ} {j v w accumulation : ℕ} → Discounted b start numbers j v → factorsLength + j < length start
+      → accumulation ≡ accumulationOf b → pos w ≡ discountNext (pos v) accumulation → Discounted b start (set numbers (factorsLength + j) v) (j + 1) w
   discounted-next {numbers} {j} {v} d l e g =
       rw add-one
       (record {

@@ -23,8 +23,9 @@ module _ {b : Basis} where
   pub sweeping-none : {numbers state : List ℕ} → length numbers ≡ tableLength → Encodes state sweepStart → Sweeping b numbers state 0
   sweeping-none {state = state} h s = record { size = h; years = λ k i l. absurd (omega arith); holds = start-after b state s }
 
-  pub sweeping-next : {numbers state after next : List ℕ} {k at year : ℕ} → Sweeping b numbers state k → at ≡ 131 * k → StandsAt at state after → KeptBefore at numbers after
-      → length after ≡ length numbers → Encodes next (sweepStep b year (stateIn state)) → year ≡ b .base + k → Sweeping b after next (k + 1)
+  pub sweeping-next : {numbers state after next : List ℕ} {k at year : ℕ} → Sweeping b numbers state k → at ≡ 131 * k → StandsAt at state after
+      → KeptBefore at numbers after → length after ≡ length numbers → Encodes next (sweepStep b year (stateIn state))
+      → year ≡ b .base + k → Sweeping b after next (k + 1)
   sweeping-next {state = state} {after} {next} {k} s ea stands kept same g ey =
       rw add-one
       (record { size = same ∙ s .size; years = λ j i l m. by j i l m (decLt j k); holds = step-after b state next k (s .holds) (rw ey at g) })

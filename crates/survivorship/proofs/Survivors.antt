@@ -55,9 +55,6 @@ module _ (b : Basis) (age year : ℕ) where
       let f : g ≡ survivorsNext a (w .0) = cc in
       ((2 * (s * (U - r .0)) + U) / (2 * U), f ∙ next-at s (r .0) e (r .1) (r .2), next-small s (r .0) _ l refl)
 
-  pub year-small : (s r : ℕ) → s ≤ U → survivorsAfterYear b age year (pos s) ≡ value (pos r) → r ≤ U
-  year-small s r l h = let m = year-natural (pos s) (pos r) s refl l h in let e : r ≡ m .0 = cc in omega (arith, m .2)
-
 -- the year of a rate is never before the enquiry's
 pub year-late : (kind : Kind) (j year : ℕ) → year ≤ yearOn kind j year
 year-late Period j year = omega arith
@@ -81,10 +78,10 @@ module _ (b : Basis) (kind : Kind) (age : ℕ) where
   unfolding survivorsOf
   survivors-on j year s h = next (survivorsStep b kind age year) (pos U) j s h
 
-  -- what a year's answer turned out to be is what there is after it
-  pub survivors-next : (j year : ℕ) (s : ℤ) {answer case : Answer} {at : ℕ} → at ≡ yearOn kind j year → survivorsOf b kind age j year ≡ value s
+  -- what the year's answer turned out to be is what there is after it
+  pub survivors-answered : (j year : ℕ) (s : ℤ) {answer case : Answer} {at : ℕ} → at ≡ yearOn kind j year → survivorsOf b kind age j year ≡ value s
       → meaning answer ≡ survivorsAfterYear b (age + j) at s → answer ≡ case → survivorsOf b kind age (suc j) year ≡ meaning case
-  survivors-next j year s e h g told =
+  survivors-answered j year s e h g told =
       survivors-on j year s h ∙ sym (g ∙ ap (λ (y : ℕ). survivorsAfterYear b (age + j) y s) e) ∙ ap meaning told
 
   pub survivors-refused : (j n year : ℕ) (r : Refusal) → j ≤ n → survivorsOf b kind age j year ≡ refused r → survivorsOf b kind age n year ≡ refused r

@@ -3,6 +3,7 @@ use mathlib.Core.Path.{ap, _∙_}
 use Prim.Native.Nat.{_+_}
 use Rattle.lent.specs.Lent.{placed}
 use Rattle.block.proofs.Turns.{built}
+use native.Mathlib.Omega.{arith}
 use borrow.Author.Needs.{needs}
 use Rattle.block.proofs.put_block.Statement.{statement}
 use Rattle.block.proofs.put_block.Tie as tie
@@ -16,7 +17,7 @@ returns c =
     let first = body .before .before .before .before in
     let head = first .before .before .before in
     let s = head .before .before .before in
-    built (s .args .out .now) _ _ (s .args .at) (s .args .place) (s .args .part .now) (s .pre .2) (s .pre .0)
+    built (s .args .out .now) _ _ (s .args .at) (s .args .place) (s .args .part .now) (omega arith) (omega arith)
     (first .put .ensures ∙ ap (placed (s .args .out .now) (s .args .at)) (head .u16-bytes .ensures)) (body .put2 .ensures)
     (sum .check-of .result) _ (sum .check-of .ensures)
     (last .put3 .ensures ∙ ap (placed _ (s .args .at + 508)) (tail .u32-bytes .ensures))

@@ -12,7 +12,8 @@ returns c =
     let r = d .before .before .before .before in
     let y = r .before .before .before .before in
     let s = y .before .before .before .before .before in
-    stored-behind _ (y .store-years .last .1 .1 .0) (r .clear-rest .last .1 .0) _ (search (needs, s .pre)) (search needs) (y .store-years .ensures) (r .clear-rest .ensures .0) (r .clear-rest .ensures .1)
+    stored-behind _ (y .store-years .last .1 .1 .0) (r .clear-rest .last .1 .0) _ (search (needs, s .pre)) (search needs)
+    (y .store-years .ensures) (r .clear-rest .ensures .0) (r .clear-rest .ensures .1)
     (λ j l. d .store-discounts .ensures .0 j l ∙ discount-with (s .args .run .now) (s .args .history .now) j) (d .store-discounts .ensures .1)
 
 pub fill-table-spec : {M : Type 1} → statement M

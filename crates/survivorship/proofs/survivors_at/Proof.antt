@@ -8,7 +8,7 @@ use borrow.Author.Needs.{needs}
 use Rattle.history.specs.History.{basisWith}
 use Rattle.outcome.specs.Outcome.{value}
 use Rattle.survivorship.specs.Survivorship.{survivorsOf}
-use Rattle.survivorship.proofs.Survivors.{survivors-first, survivors-next, survivors-refused, survivors-small, cell-on}
+use Rattle.survivorship.proofs.Survivors.{survivors-first, survivors-answered, survivors-refused, survivors-small, cell-on}
 use Rattle.survivorship.proofs.survivors_at.Statement.{statement}
 use Rattle.survivorship.proofs.survivors_at.Tie as tie
 
@@ -29,12 +29,12 @@ survivors-after-year-requires c κs = let l = c .before .before in (
 
 returns : tie.Need-returns Inv-loop μ-loop
 returns c = let y = c .before .before .before in let l = y .before .before .before in
-    let h = survivors-next _ _ _ _ _ _ (y .before .year-on .ensures) (l .loop .inv .1) (y .survivors-after-year .ensures) (c .before .r .given .1) in
+    let h = survivors-answered _ _ _ _ _ _ (y .before .year-on .ensures) (l .loop .inv .1) (y .survivors-after-year .ensures) (c .before .r .given .1) in
     sym (survivors-refused _ _ _ _ _ _ _ (omega arith) h)
 
 loop-again : tie.Need-loop-again Inv-loop μ-loop
 loop-again c = let y = c .before .before .before in let l = y .before .before .before in
-    let h = survivors-next _ _ _ _ _ _ (y .before .year-on .ensures) (l .loop .inv .1) (y .survivors-after-year .ensures) (c .before .v .given .1) in
+    let h = survivors-answered _ _ _ _ _ _ (y .before .year-on .ensures) (l .loop .inv .1) (y .survivors-after-year .ensures) (c .before .v .given .1) in
     (omega arith, rw add-one h)
 
 returns-2 : tie.Need-returns-2 Inv-loop μ-loop

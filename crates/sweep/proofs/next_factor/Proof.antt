@@ -15,8 +15,11 @@ use Rattle.sweep.proofs.next_factor.Tie as tie
 factor-in-requires : tie.Need-factor-in-requires
 factor-in-requires c κs =
     let a = c .before .before .before .args in
-    let early = first-early (basisWith (a .run .now) (a .history .now)) in
-    (record { usable = search needs; age-low = search needs; age-high = search needs; year-low = omega arith; birth-high = omega arith }, search needs, search needs)
+    let early = first-early (basisWith (a .run .now) (a .history .now)) in (
+      record { usable = search needs; age-low = search needs; age-high = search needs; year-low = omega arith; birth-high = omega arith },
+      search needs,
+      search needs,
+    )
 
 cast-result : tie.Need-cast-result
 cast-result c =

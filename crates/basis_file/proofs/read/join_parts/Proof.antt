@@ -64,8 +64,8 @@ loop-again c =
     let m : length (l .loop .run) ≡ runLength mpb1 = omega arith in
     let e = c .before .before .put .ensures ∙ ap (placed (l .loop .run) (506 * b)) (part-is f (512 * b + 2) 506) in (
       omega arith,
-      join-length (mpb1 .blocks) f (l .loop .run) b _ (omega arith) (s .pre .0) m e ∙ l .loop .inv .1,
-      join-turn (mpb1 .blocks) f (l .loop .run) b _ (omega arith) (s .pre .0) m e ∙ l .loop .inv .2,
+      join-length (mpb1 .blocks) f (l .loop .run) b _ (omega arith) (omega arith) m e ∙ l .loop .inv .1,
+      join-turn (mpb1 .blocks) f (l .loop .run) b _ (omega arith) (omega arith) m e ∙ l .loop .inv .2,
     )
 
 same-length : tie.Need-same-length Inv-loop μ-loop
@@ -76,7 +76,7 @@ returns c =
     let l = c .before in
     let s = l .before .before .before in
     let f = s .args .file .now in
-    let n = run-length f (s .pre .0) in
+    let n = run-length f (omega arith) in
     sym (join-end (mpb1 .blocks) f (l .loop .run) (l .loop .b) (omega arith)) ∙ l .loop .inv .2 ∙ placed-whole (s .args .run .now) (runIn f) (omega arith)
 
 pub join-parts-spec : {M : Type 1} → statement M

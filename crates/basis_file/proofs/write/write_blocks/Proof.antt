@@ -60,8 +60,8 @@ loop-again c =
     let m : fileLength mpb1 ≤ length (l .loop .file) = omega arith in
     let e = c .before .before .put-block .ensures ∙ ap (λ x. placed (l .loop .file) (512 * b) (blockOf b x)) (part-is r (506 * b) 506) in (
       omega arith,
-      write-length (mpb1 .blocks) r (l .loop .file) b _ (omega arith) (s .pre .0) m e ∙ l .loop .inv .1,
-      write-turn (mpb1 .blocks) r (l .loop .file) b _ (omega arith) (s .pre .0) m e ∙ l .loop .inv .2,
+      write-length (mpb1 .blocks) r (l .loop .file) b _ (omega arith) (omega arith) m e ∙ l .loop .inv .1,
+      write-turn (mpb1 .blocks) r (l .loop .file) b _ (omega arith) (omega arith) m e ∙ l .loop .inv .2,
     )
 
 same-length : tie.Need-same-length Inv-loop μ-loop

@@ -56,8 +56,8 @@ loop-again c =
     let turn-4 = year-turn (a .history .now) firstRemaining secondRemaining (a .years) k (l .loop .k) in
     let turn-5 = year-turn (a .history .now) youngerAges olderAges (a .years) k (l .loop .k) in (
       omega (arith, before),
-      turn-4 (s .pre .0) before next (omega arith) (omega arith) refl refl (sym (p .0)) (l .loop .inv .1) refl,
-      turn-5 (s .pre .0) before next (omega arith) (omega arith) refl refl (sym (p .1)) (l .loop .inv .2) refl,
+      turn-4 (omega arith) before next (omega arith) (omega arith) refl refl (sym (p .0)) (l .loop .inv .1) refl,
+      turn-5 (omega arith) before next (omega arith) (omega arith) refl refl (sym (p .1)) (l .loop .inv .2) refl,
     )
 
 loop-again-2 : tie.Need-loop-again-2 Inv-loop μ-loop
@@ -79,9 +79,9 @@ loop-again-2 c =
     let turn-4 = year-turn (a .history .now) firstRemaining secondRemaining (a .years) k (l .loop .k) in
     let turn-5 = year-turn (a .history .now) youngerAges olderAges (a .years) k (l .loop .k) in (
       omega (arith, before),
-      turn-4 (s .pre .0) before next (omega arith) (omega arith) (first-zeros .check-part .ensures) (more-zeros .check-part2 .ensures)
+      turn-4 (omega arith) before next (omega arith) (omega arith) (first-zeros .check-part .ensures) (more-zeros .check-part2 .ensures)
           (four .first-of .ensures) (l .loop .inv .1) (fours .first-of3 .ensures),
-      turn-5 (s .pre .0) before next (omega arith) (omega arith) (younger .check-part3 .ensures) (older .check-part4 .ensures)
+      turn-5 (omega arith) before next (omega arith) (omega arith) (younger .check-part3 .ensures) (older .check-part4 .ensures)
           (five .first-of2 .ensures) (l .loop .inv .2) (c .first-of4 .ensures),
     )
 

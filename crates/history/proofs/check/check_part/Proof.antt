@@ -15,7 +15,7 @@ add-t15 : tie.Need-add-t15
 add-t15 c =
     let k = c .before .before .before .before in
     let s = c .before .before .before .before .before .before .before in
-    omega (arith, refused-in _ (s .args .f) _ (found (k .check-field .ensures) (c .before .before .r .given .1)), s .pre .2)
+    omega (arith, refused-in _ (s .args .f) _ (found (k .check-field .ensures) (c .before .before .r .given .1)))
 
 returns : tie.Need-returns
 returns c =

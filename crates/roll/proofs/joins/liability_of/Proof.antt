@@ -8,7 +8,7 @@ use Rattle.roll.proofs.joins.liability_of.Statement.{statement}
 use Rattle.roll.proofs.joins.liability_of.Tie as tie
 
 room : (c : tie.Start) → c .args .pension * c .args .annuity ≤ 5_240_000_000_000_000_000
-room c = mul-le-mul {n₂ = 10_000_000} {m₂ = 524_000_000_000} (c .pre .0) (c .pre .1)
+room c = mul-le-mul {n₂ = 10_000_000} {m₂ = 524_000_000_000} (omega arith) (omega arith)
 
 mul-round-div-unsigned : tie.Need-mul-round-div-unsigned
 mul-round-div-unsigned c = record { fits = omega (arith, room c) }

@@ -12,7 +12,7 @@ returns c =
     let b = t .before .before .before .before in
     let a = b .before .before .before .before in
     let s = a .before .before .before .before .before in
-    ages-placed (s .args .run .now) (s .args .out .now) _ _ _ _ (s .pre .0) (s .pre .2) (s .args .rate)
+    ages-placed (s .args .run .now) (s .args .out .now) _ _ _ _ (search needs) (search needs) (s .args .rate)
     (a .put .ensures) (rw (toZ-ofZ (s .fits .rate)) at (b .put-rates .ensures)) (t .put-repeated .ensures) (d .put-repeated2 .ensures)
 
 pub put-ages-spec : {M : Type 1} → statement M

@@ -11,7 +11,7 @@ returns c =
     let b = t .before .before .before .before in
     let a = b .before .before .before .before in
     let s = a .before .before .before .before .before in
-    birth-years-placed (s .args .run .now) (s .args .out .now) _ _ _ _ (s .pre .0) (s .pre .1)
+    birth-years-placed (s .args .run .now) (s .args .out .now) _ _ _ _ (search needs) (search needs)
     (a .put .ensures) (b .put-repeated .ensures) (t .put-repeated2 .ensures) (d .put-repeated3 .ensures)
 
 pub put-birth-years-spec : {M : Type 1} → statement M

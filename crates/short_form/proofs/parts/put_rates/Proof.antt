@@ -29,7 +29,7 @@ loop-holds : tie.Need-loop-holds Inv-loop μ-loop
 loop-holds c = (omega arith, refl, refl)
 
 long-term-rate-requires : tie.Need-long-term-rate-requires Inv-loop μ-loop
-long-term-rate-requires c κs = let s = c .before .before .before in rw (toZ-ofZ (s .fits .rate)) (s .pre .0, omega arith, omega arith)
+long-term-rate-requires c κs = let s = c .before .before .before in rw (toZ-ofZ (s .fits .rate)) (omega arith, omega arith, omega arith)
 
 slice-aggregate-put : tie.Need-slice-aggregate-put Inv-loop μ-loop
 slice-aggregate-put c = sym (ap length (c .before .i32-bytes .ensures))

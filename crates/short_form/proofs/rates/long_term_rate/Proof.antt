@@ -32,30 +32,30 @@ product-fits rate age h = sfits-abs (omega (arith, product-size rate age longTer
 mul-round-div : tie.Need-mul-round-div
 mul-round-div c =
     let s = c .before in
-    rw (rate-is s, share-is _ (s .args .age) (c .share .ensures)) (product-fits (s .args .rate) (s .args .age) (s .pre .0))
+    rw (rate-is s, share-is _ (s .args .age) (c .share .ensures)) (product-fits (s .args .rate) (s .args .age) (omega arith))
 
 round-div-requires : tie.Need-round-div-requires
 round-div-requires c κs =
     let s = c .before in
-    rw (rate-is s, share-is _ (s .args .age) (c .share .ensures), toZ-ofZ (product-fits (s .args .rate) (s .args .age) (s .pre .0)))
-    (omega arith, omega (arith, product-size (s .args .rate) (s .args .age) longTermLimit (s .pre .0)))
+    rw (rate-is s, share-is _ (s .args .age) (c .share .ensures), toZ-ofZ (product-fits (s .args .rate) (s .args .age) (omega arith)))
+    (omega arith, omega (arith, product-size (s .args .rate) (s .args .age) longTermLimit (omega arith)))
 
 -- what was divided
 gives : (c : lts.After-round-div (share-reads.Asked, share-reads.Learnt, round-div-reads.Asked, round-div-reads.Learnt) reads.Pre reads.Post)
     → toZ w64 (ofZ w64 (c .round-div .result)) ≡ longTermOf (c .before .before .args .rate) (c .before .before .args .age)
 gives c =
     let s = c .before .before in
-    let fits = product-fits (s .args .rate) (s .args .age) (s .pre .0) in
+    let fits = product-fits (s .args .rate) (s .args .age) (omega arith) in
     got w64 (c .round-div .ok) (rw (rate-is s, share-is _ (s .args .age) (c .before .share .ensures), toZ-ofZ fits) at (c .round-div .ensures))
 
 result-fits : (rate : ℤ) (age : ℕ) → natAbs rate ≤ longTermLimit → SFits w32 (longTermOf rate age)
 result-fits rate age h = sfits-abs (omega (arith, long-term-size rate age longTermLimit h))
 
 cast-result : tie.Need-cast-result
-cast-result c = let s = c .before .before in rw (gives c) (result-fits (s .args .rate) (s .args .age) (s .pre .0))
+cast-result c = let s = c .before .before in rw (gives c) (result-fits (s .args .rate) (s .args .age) (omega arith))
 
 returns : tie.Need-returns
-returns c = let s = c .before .before in rw (gives c) (toZ-ofZ (result-fits (s .args .rate) (s .args .age) (s .pre .0)))
+returns c = let s = c .before .before in rw (gives c) (toZ-ofZ (result-fits (s .args .rate) (s .args .age) (omega arith)))
 
 pub long-term-rate-spec : {M : Type 1} → statement M
 long-term-rate-spec =

@@ -11,7 +11,7 @@ use Rattle.valuation.specs.Valuation.{discountAfter}
 use Rattle.valuation.proofs.Discount.{discount-small}
 use Rattle.valuation.proofs.Lives.{Living, living-next}
 use Rattle.swept_points.specs.Inner.DeferredPayment.{deferredPayment}
-use Rattle.survivorship.proofs.Survivors.{survivors-next, cell-on}
+use Rattle.survivorship.proofs.Survivors.{survivors-answered, cell-on}
 use Rattle.swept_points.proofs.SoFar.{SoFar, so-far-first, so-far-next, expectation-refused, annuity-refused, expectation-last, annuity-last}
 use Rattle.swept_points.proofs.life_values.life_values_from.Statement.{statement}
 use Rattle.swept_points.proofs.life_values.life_values_from.Tie as tie
@@ -46,7 +46,7 @@ returns : tie.Need-returns Inv-loop μ-loop
 returns c =
     let y = c .before .before .before in
     let i = y .before .before .before .loop .inv .1 in
-    let h = survivors-next _ _ _ _ _ _ (y .before .year-on .ensures) (i .living .survivors) (y .survivors-after-year .ensures) (c .before .r .given .1) in
+    let h = survivors-answered _ _ _ _ _ _ (y .before .year-on .ensures) (i .living .survivors) (y .survivors-after-year .ensures) (c .before .r .given .1) in
     (expectation-refused i (omega arith) h, annuity-refused i (omega arith) h (omega arith))
 
 -- the survivors of the year are counted in
@@ -58,7 +58,7 @@ living : (c : tie.After-x Inv-loop μ-loop) →
 living c =
     let y = c .before .before in
     let i = y .before .before .before .loop .inv .1 .living in
-    living-next _ _ _ _ i (survivors-next _ _ _ _ _ _ (y .before .year-on .ensures) (i .survivors) (y .survivors-after-year .ensures) (c .x .given .1))
+    living-next _ _ _ _ i (survivors-answered _ _ _ _ _ _ (y .before .year-on .ensures) (i .survivors) (y .survivors-after-year .ensures) (c .x .given .1))
 
 add-lives : tie.Need-add-lives Inv-loop μ-loop
 add-lives c = omega (arith, living (c .before) .sum)

@@ -11,7 +11,7 @@ use Rattle.survivorship.specs.Survivorship.{survivorsOf}
 use Rattle.valuation.specs.Valuation.{discountAfter}
 use Rattle.valuation.proofs.Discount.{discount-turn, discount-with, discount-small, discount-ranges}
 use Rattle.valuation.proofs.Payments.{Paying, paying-first, paying-next, paid-refused, paid-last}
-use Rattle.survivorship.proofs.Survivors.{survivors-next, survivors-small, cell-on}
+use Rattle.survivorship.proofs.Survivors.{survivors-answered, survivors-small, cell-on}
 use Rattle.valuation.proofs.annuity.annuity_from.Statement.{statement}
 use Rattle.valuation.proofs.annuity.annuity_from.Tie as tie
 
@@ -37,7 +37,7 @@ survivors-after-year-requires c κs = let l = c .before .before in let s = l .be
 
 returns : tie.Need-returns Inv-loop μ-loop
 returns c = let y = c .before .before .before in let i = y .before .before .before .loop .inv in
-    let h = survivors-next _ _ _ _ _ _ (y .before .year-on .ensures) (i .survivors) (y .survivors-after-year .ensures) (c .before .r .given .1) in
+    let h = survivors-answered _ _ _ _ _ _ (y .before .year-on .ensures) (i .survivors) (y .survivors-after-year .ensures) (c .before .r .given .1) in
     paid-refused _ _ _ _ _ _ _ _ (i .begun) (omega arith) (i .paid) h
 
 discount-next-requires : tie.Need-discount-next-requires Inv-loop μ-loop
@@ -57,7 +57,7 @@ turned c =
     let x = c .before .before in
     let y = x .before .before in
     let l = y .before .before .before in (
-      survivors-next _ _ _ _ _ _ (y .before .year-on .ensures) (l .loop .inv .survivors) (y .survivors-after-year .ensures) (x .x .given .1),
+      survivors-answered _ _ _ _ _ _ (y .before .year-on .ensures) (l .loop .inv .survivors) (y .survivors-after-year .ensures) (x .x .given .1),
       discount-turn _ _ _ (l .before .before .before .accumulation .ensures ∙ accumulation-with _ _) (l .loop .inv .discount) ∙ sym (c .discount-next .ensures),
     )
 

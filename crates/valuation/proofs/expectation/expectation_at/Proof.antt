@@ -5,7 +5,7 @@ use native.Mathlib.Omega.{arith}
 use borrow.Author.Needs.{needs}
 use Rattle.history.specs.History.{basisWith}
 use Rattle.valuation.proofs.Lives.{Living, living-first, living-next, lived-refused, lived-last}
-use Rattle.survivorship.proofs.Survivors.{survivors-next, cell-on}
+use Rattle.survivorship.proofs.Survivors.{survivors-answered, cell-on}
 use Rattle.valuation.proofs.expectation.expectation_at.Statement.{statement}
 use Rattle.valuation.proofs.expectation.expectation_at.Tie as tie
 
@@ -24,7 +24,7 @@ survivors-after-year-requires c κs = let l = c .before .before in
 
 returns : tie.Need-returns Inv-loop μ-loop
 returns c = let y = c .before .before .before in let i = y .before .before .before .loop .inv .1 in
-    let h = survivors-next _ _ _ _ _ _ (y .before .year-on .ensures) (i .survivors) (y .survivors-after-year .ensures) (c .before .r .given .1) in
+    let h = survivors-answered _ _ _ _ _ _ (y .before .year-on .ensures) (i .survivors) (y .survivors-after-year .ensures) (c .before .r .given .1) in
     lived-refused _ _ _ _ _ refl refl i (omega arith) h
 
 -- the survivors of the year are counted in
@@ -34,7 +34,7 @@ living : (c : tie.After-x Inv-loop μ-loop) →
     let x = c .x .given .0 .0 in
     Living (basisWith (a .run .now) (a .history .now)) (a .kind) (a .age + a .deferment) (a .year + a .deferment) (l .loop .j + 1) x (l .loop .total + x)
 living c = let y = c .before .before in let i = y .before .before .before .loop .inv .1 in
-    living-next _ _ _ _ i (survivors-next _ _ _ _ _ _ (y .before .year-on .ensures) (i .survivors) (y .survivors-after-year .ensures) (c .x .given .1))
+    living-next _ _ _ _ i (survivors-answered _ _ _ _ _ _ (y .before .year-on .ensures) (i .survivors) (y .survivors-after-year .ensures) (c .x .given .1))
 
 add-total : tie.Need-add-total Inv-loop μ-loop
 add-total c = omega (arith, living (c .before) .sum)
