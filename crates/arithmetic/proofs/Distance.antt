@@ -52,7 +52,8 @@ within-sum {v} {w} {p} {q} {a} {b} h k =
       near = rw (two v w (p .num) (q .num) d e) (omega (arith, natAbs-add (x *ℤ pos e) (y *ℤ pos d), natAbs-mul x (pos e), natAbs-mul y (pos d)));
     }
   where
-    two : (v w N M : ℤ) (d e : ℕ) → (v +ℤ w) *ℤ pos (d * e) -ℤ (N *ℤ pos e +ℤ M *ℤ pos d) ≡ (v *ℤ pos d -ℤ N) *ℤ pos e +ℤ (w *ℤ pos e -ℤ M) *ℤ pos d
+    two : (v w N M : ℤ) (d e : ℕ)
+        → (v +ℤ w) *ℤ pos (d * e) -ℤ (N *ℤ pos e +ℤ M *ℤ pos d) ≡ (v *ℤ pos d -ℤ N) *ℤ pos e +ℤ (w *ℤ pos e -ℤ M) *ℤ pos d
     two v w N M d e = rw (parts v, parts w, parts N, parts M) (simp ring (⊖-eq _ _ _ _ (omega arith)))
 
 within-negated : {v : ℤ} {q : Fraction} {m : ℕ} → Within v q m → Within (negℤ v) (negℤ (q .num) over q .den) m
@@ -86,7 +87,8 @@ three r f g N M u d e =
     ∙ rw (rounded r f g u d e) (gathered ((pos u *ℤ r -ℤ f *ℤ g) *ℤ pos (d * e)) (f *ℤ pos d) (g *ℤ pos e) M ((f *ℤ pos d -ℤ N) *ℤ M))
 
 -- f g / u rounded, where f is at most w u in size and the fraction for g at most u: the distance of f, w times that of g, and one half
-pub within-product-times : {f g : ℤ} {F G : Fraction} {a b : ℕ} (w u : ℕ) → 0 < u → Within f F a → Within g G b → natAbs f ≤ w * u → natAbs (G .num) ≤ u * G .den →
+pub within-product-times : {f g : ℤ} {F G : Fraction} {a b : ℕ} (w u : ℕ) → 0 < u → Within f F a → Within g G b → natAbs f ≤ w * u
+    → natAbs (G .num) ≤ u * G .den →
     Within (roundDiv (f *ℤ g) u) (F *ᶠ G /ᶠ u) (a + w * b + 1)
 within-product-times {f} {g} {F} {G} {a} {b} w u hu hF hG f≤ G≤ =
     let r = roundDiv (f *ℤ g) u in

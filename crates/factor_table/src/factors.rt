@@ -29,7 +29,8 @@ fn store_state(state: &[u32], at: usize, numbers: &mut [u32])
 // The sweep goes through the years once.
 pub(crate) fn store_years(run: &[u8], history: &[u8], numbers: &mut [u32])
     requires { ⌜ Workable (now run) (now history) × (length (now numbers) ≡ tableLength) ⌝ }
-    ensures { λ _. ⌜ YearsStored (basisWith (now (run .entry)) (now (history .entry))) (now (numbers .exit)) (tableYears (basisWith (now (run .entry)) (now (history .entry)))) ⌝ }
+    ensures { λ _. ⌜ YearsStored (basisWith (now (run .entry)) (now (history .entry))) (now (numbers .exit))
+        (tableYears (basisWith (now (run .entry)) (now (history .entry)))) ⌝ }
 {
     let base = basis::fields::base_year(run);
     let years = AFTER_LAST_YEAR - base;

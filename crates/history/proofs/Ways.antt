@@ -9,7 +9,8 @@ use Rattle.outcome.specs.Outcome.{refusedBy, refusal, firstOf}
 use Rattle.field_check.specs.Field.{fieldsCheck}
 use Rattle.field_check.proofs.Fields.{rows-join}
 use Rattle.block.specs.Blocks.{partsOf, blocksCheck}
-use Rattle.history.specs.History.{actualYears, lengthNeeded, historyData, yearlyFields, youngerAges, firstRemaining, olderAges, secondRemaining, historyFields, historyCheck}
+use Rattle.history.specs.History.{actualYears, lengthNeeded, historyData, yearlyFields, youngerAges}
+use Rattle.history.specs.History.{firstRemaining, olderAges, secondRemaining, historyFields, historyCheck}
 
 -- ---- the table of fields in its two parts
 pub fields-parts : (s : List ℕ) (years : ℕ) → fieldsCheck s (historyFields years)

@@ -17,7 +17,8 @@ use Rattle.history.proofs.Acceptance.{accepted-workable}
 use Rattle.outcome.specs.Outcome.{value, refused, refusal}
 use Rattle.basis.specs.declared.Convergence.{Convergence}
 use Rattle.component.specs.Component.{componentOf}
-use Rattle.improvement.specs.Improvement.{additionOf, birthTerms, componentsOf, projectedOf, isActual, improvementOf, firstYear, improvementLimit, usable, improvementNeeded}
+use Rattle.improvement.specs.Improvement.{additionOf, birthTerms, componentsOf, projectedOf, isActual}
+use Rattle.improvement.specs.Improvement.{improvementOf, firstYear, improvementLimit, usable, improvementNeeded}
 use Rattle.improvement.specs.Answered.{ActualAnswered}
 use Rattle.improvement.specs.Checked.{ProjectedCell}
 

@@ -95,7 +95,8 @@ module _ (run : List ℕ) (rate : ℤ) (long : length run ≡ runLength mpb1) wh
   unfolding shortFormOf
   length-short-form = rw (length-append, length-ages, length-birth-years)
 
-  pub short-form-placed : (out a b : List ℕ) → runLength mpb1 ≤ length out → a ≡ placed out 0 (agesOf run rate) → b ≡ placed a (birthYearInitialRatesAt mpb1) (birthYearsOf run)
+  pub short-form-placed : (out a b : List ℕ) → runLength mpb1 ≤ length out → a ≡ placed out 0 (agesOf run rate)
+      → b ≡ placed a (birthYearInitialRatesAt mpb1) (birthYearsOf run)
       → b ≡ placed out 0 (shortFormOf run rate)
   unfolding shortFormOf
   short-form-placed out a b room e f =

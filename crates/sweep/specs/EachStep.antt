@@ -23,6 +23,7 @@ pub record EachStep (run history : List ℕ) : Type 0 where
       (k : ℕ) → k ≤ n → (age : ℕ) → 20 ≤ age → age ≤ 150 → stateIn (lists k) age ≡ factorOf (basisWith run history) age (basisWith run history .base + k)
   -- the first refusal of an age stands after every further step
   pub first : (lists : ℕ → List ℕ) (n : ℕ) → Swept run history lists n →
-      (j k : ℕ) → j ≤ k → k ≤ n → (age : ℕ) → 20 ≤ age → age ≤ 150 → (r : Refusal) → stateIn (lists j) age ≡ refused r → stateIn (lists k) age ≡ refused r
+      (j k : ℕ) → j ≤ k → k ≤ n → (age : ℕ) → 20 ≤ age → age ≤ 150 → (r : Refusal) → stateIn (lists j) age ≡ refused r
+      → stateIn (lists k) age ≡ refused r
   -- what a step needs of the list that it is lent
   pub size : (lists : ℕ → List ℕ) (n : ℕ) → Swept run history lists n → (k : ℕ) → k ≤ n → length (lists k) ≡ 131

@@ -14,7 +14,8 @@ use Rattle.basis.proofs.Accumulation.{accumulation-low, accumulation-high}
 use Rattle.valuation.specs.Valuation.{discountNext, discountAfter}
 
 -- the discount of one year more
-pub discount-turn : (b : Basis) (j : ℕ) (v : ℤ) {accumulation : ℕ} → accumulation ≡ accumulationOf b → discountAfter b j ≡ v → discountAfter b (suc j) ≡ discountNext v accumulation
+pub discount-turn : (b : Basis) (j : ℕ) (v : ℤ) {accumulation : ℕ} → accumulation ≡ accumulationOf b → discountAfter b j ≡ v
+    → discountAfter b (suc j) ≡ discountNext v accumulation
 unfolding discountAfter
 discount-turn b j v e h = rw (h, e) refl
 

@@ -11,7 +11,8 @@ use Rattle.case_io.specs.Lines.{namedLine}
 use Rattle.case_io.proofs.print_named.Statement.{statement}
 use Rattle.case_io.proofs.print_named.Tie as tie
 
-named : (word : List ℕ) (n : ℕ) {out line after : List ℕ} {at r : ℕ} → Put out 0 word line at → Put line at (digitsOf n ++ 10 ∷ []) after r → Put out 0 (namedLine word n) after r
+named : (word : List ℕ) (n : ℕ) {out line after : List ℕ} {at r : ℕ} → Put out 0 word line at → Put line at (digitsOf n ++ 10 ∷ []) after r
+    → Put out 0 (namedLine word n) after r
 unfolding namedLine
 named word n p q = being (simp append-assoc) refl (then p q)
 

@@ -20,7 +20,8 @@ abbrev blank : Point
 blank = record { age = 0; deferment = 0; year = 0; refusal = 0; results = []; first = 0; second = 0 }
 
 abbrev Inv-loop : tie.InvT-loop
-Inv-loop run history n points₀ i₀ points i = (i ≤ n) × (n ≡ recordsOf (gridCheck run history 119)) × (points ≡ answers (basisWith run history) i points₀) × (length points₀ ≡ 119)
+Inv-loop run history n points₀ i₀ points i =
+    (i ≤ n) × (n ≡ recordsOf (gridCheck run history 119)) × (points ≡ answers (basisWith run history) i points₀) × (length points₀ ≡ 119)
 
 abbrev μ-loop : tie.MeasureT-loop
 μ-loop run history n points₀ i₀ points i = n - i
