@@ -19,7 +19,7 @@ use Rattle.component.proofs.Size.{divisor, divisor-proper, divisor-smal
 use Rattle.basis.specs.Basis.{ConvergenceLimits}
 use Rattle.basis.specs.declared.Convergence.{Convergence}
 
-weight-proper : (T P n : ℕ) → 1 ≤ T → 0 < weightOf T P n .den
+pub weight-proper : (T P n : ℕ) → 1 ≤ T → 0 < weightOf T P n .den
 weight-proper T P n h = by (ltb n T)
   where
     by : (t : Bool) → 0 < cond t ((pos ((T - n) * (T - n)) *ℤ slopeOf T P n) over divisor T) (whole (pos 0)) .den

@@ -1,6 +1,6 @@
 -- The weight as 01 prints it ("The projection", Weight), with P in per cent, and that it is the weight of 100P hundredths.
 use mathlib.Core.Path.{_≡_}
-use Prim.Native.Nat.{ℕ, _*_, _-_}
+use Prim.Native.Nat.{ℕ, _*_, _-_, _≤_, _<_}
 use mathlib.Core.Bool.{cond}
 use lib.Dec.{ltb}
 use lib.IntN.{ℤ, pos, _+ℤ_, _-ℤ_, _*ℤ_}
@@ -20,7 +20,9 @@ printedWeight T P n = cond (ltb n T) ((pos ((T - n) * (T - n)) *ℤ printedSlope
 abbrev pub termsInPerCent : ℤ → ℤ → ℕ → ℕ → Convergence
 termsInPerCent I L T P = terms I L T (100 * P)
 
--- the two are one fraction: each numerator times the other's denominator
+-- the two are one fraction: each numerator times the other's denominator, and neither denominator is 0
 pub record WeightInPerCent : Type 0 where
+  pub proper : (T P n : ℕ) → 1 ≤ T → 0 < weightOf T P n .den
+  pub printedProper : (T P n : ℕ) → 1 ≤ T → 0 < printedWeight T P n .den
   pub same : (T P n : ℕ) →
       weightOf T (100 * P) n .num *ℤ pos (printedWeight T P n .den) ≡ printedWeight T P n .num *ℤ pos (weightOf T (100 * P) n .den)
