@@ -20,7 +20,7 @@ loop-holds c = (omega arith, omega arith, advanced-none _ _ _ (search needs))
 loop-again : tie.Need-loop-again Inv-loop μ-loop
 loop-again c =
     let l = c .before .before .before in
-    (omega arith, omega arith, advanced-next _ _ _ _ _ (l .loop .inv .0) (omega arith) (l .loop .inv .2) (c .advanced-factor .ensures))
+    (omega arith, omega arith, advanced-next _ _ _ _ (c .advanced-factor .result) (l .loop .inv .0) (omega arith) (l .loop .inv .2) (c .advanced-factor .ensures))
 
 returns : tie.Need-returns Inv-loop μ-loop
 returns c = (refl, advanced-all _ _ _ (c .before .loop .inv .2) (omega arith))
