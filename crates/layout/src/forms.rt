@@ -67,12 +67,20 @@ pub fn file_length(form: Form) -> usize
 pub fn form_of_run(length: usize) -> Form
     ensures { λ r. ⌜ r ≡ formOfRun length ⌝ }
 {
-    if length == crate::MPB2_RUN_LENGTH { Form::Mpb2 } else { Form::Mpb1 }
+    if length == crate::MPB2_RUN_LENGTH {
+        Form::Mpb2
+    } else {
+        Form::Mpb1
+    }
 }
 
 // The same of a file.
 pub fn form_of_file(length: usize) -> Form
     ensures { λ r. ⌜ r ≡ formOfFile length ⌝ }
 {
-    if length == crate::MPB2_FILE_LENGTH { Form::Mpb2 } else { Form::Mpb1 }
+    if length == crate::MPB2_FILE_LENGTH {
+        Form::Mpb2
+    } else {
+        Form::Mpb1
+    }
 }
