@@ -2,8 +2,8 @@
 ghost use mathlib.Core.Path.{_≡_};
 ghost use Prim.Native.Nat.{_+_, _*_, _≤_};
 ghost use lib.ListN.{length};
-ghost use Rattle.layout.specs.Layout.{widthOf, proportionOf, hundredthsOf, proportionAt, proportionBytes, greatestProportion};
-ghost use Rattle.layout.specs.declared.Form.the-variants.{Mpb1};
+ghost use Rattle.layout.specs.Layout.{widthOf, proportionOf, hundredthsOf, runLength, proportionAt, proportionBytes, greatestProportion};
+ghost use Rattle.layout.specs.declared.Form.the-variants.{Mpb1, Mpb2};
 ghost use Rattle.lent.specs.Lent.{placed};
 use layout::Form;
 
@@ -17,6 +17,7 @@ fn per_cents(proportion: u8) -> u16
 // The P at a place of a table, in hundredths of a per cent.
 pub fn proportion_at(run: &[u8], form: Form, offset: usize, place: usize) -> u16
     requires { ⌜ offset + widthOf (proportionOf form) * place + widthOf (proportionOf form) ≤ length (now run) ⌝ }
+    requires { ⌜ length (now run) ≤ runLength Mpb2 ⌝ }
     ensures { λ r. ⌜ r ≡ proportionAt form (now (run .entry)) offset place ⌝ }
 {
     match form {
