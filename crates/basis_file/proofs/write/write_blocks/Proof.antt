@@ -1,28 +1,27 @@
 -- The blocks that are left give the same output as all of them.
 use mathlib.Core.Path.{_≡_, refl, sym, ap, _∙_}
-use Prim.Native.Nat.{_*_, _-_, _≤_}
+use Prim.Native.Nat.{ℕ, _*_, _-_, _≤_}
 use native.Mathlib.Omega.{arith}
 use lib.ListN.{length, drop}
-use Rattle.layout.specs.Layout.{mpb1, fileLength}
 use Rattle.lent.specs.Lent.{placed}
 use Rattle.block.specs.Block.{blockOf}
 use Rattle.block.specs.Blocks.{blocksOf}
-use Rattle.basis_file.specs.File.{fileOf}
 use Rattle.block.proofs.Joined.{part-is}
 use Rattle.basis_file.proofs.Turns.{write-length, write-turn, write-end}
 use Rattle.basis_file.proofs.write.write_blocks.Statement.{statement}
 use Rattle.basis_file.proofs.write.write_blocks.Tie as tie
 
 abbrev Inv-loop : tie.InvT-loop
-Inv-loop run file₀ b₀ file b =
-    (b ≤ mpb1 .blocks) × (length file ≡ length file₀) × (placed file (512 * b) (blocksOf b (mpb1 .blocks - b) (drop (506 * b) run)) ≡ placed file₀ 0 (fileOf run))
+Inv-loop run n file₀ b₀ file b =
+    (b ≤ n) × (length file ≡ length file₀) × (placed file (512 * b) (blocksOf b (n - b) (drop (506 * b) run)) ≡ placed file₀ 0 (blocksOf 0 n run))
 
 abbrev μ-loop : tie.MeasureT-loop
-μ-loop run file₀ b₀ file b = mpb1 .blocks - b
+μ-loop run n file₀ b₀ file b = n - b
 
 loop-holds : tie.Need-loop-holds Inv-loop μ-loop
-unfolding fileOf
-loop-holds c = (omega arith, refl, refl)
+loop-holds c =
+    let a = c .before .before .args in
+    (omega arith, refl, ap (λ (k : ℕ). placed (a .file .now) 0 (blocksOf 0 k (a .run .now))) (omega arith))
 
 mul-from : tie.Need-mul-from Inv-loop μ-loop
 mul-from c = omega arith
@@ -56,12 +55,13 @@ loop-again c =
     let l = c .before .before .before .before .before .before in
     let s = l .before .before .before in
     let r = s .args .run .now in
+    let n = s .args .n in
     let b = l .loop .b in
-    let m : fileLength mpb1 ≤ length (l .loop .file) = omega arith in
+    let m : 512 * n ≤ length (l .loop .file) = omega arith in
     let e = c .before .before .put-block .ensures ∙ ap (λ x. placed (l .loop .file) (512 * b) (blockOf b x)) (part-is r (506 * b) 506) in (
       omega arith,
-      write-length (mpb1 .blocks) r (l .loop .file) b _ (omega arith) (omega arith) m e ∙ l .loop .inv .1,
-      write-turn (mpb1 .blocks) r (l .loop .file) b _ (omega arith) (omega arith) m e ∙ l .loop .inv .2,
+      write-length n r (l .loop .file) b _ (omega arith) (omega arith) m e ∙ l .loop .inv .1,
+      write-turn n r (l .loop .file) b _ (omega arith) (omega arith) m e ∙ l .loop .inv .2,
     )
 
 same-length : tie.Need-same-length Inv-loop μ-loop
@@ -71,7 +71,7 @@ returns : tie.Need-returns Inv-loop μ-loop
 returns c =
     let l = c .before in
     let s = l .before .before .before in
-    sym (write-end (mpb1 .blocks) (s .args .run .now) (l .loop .file) (l .loop .b) (omega arith)) ∙ l .loop .inv .2
+    sym (write-end (s .args .n) (s .args .run .now) (l .loop .file) (l .loop .b) (omega arith)) ∙ l .loop .inv .2
 
 pub write-blocks-spec : {M : Type 1} → statement M
 write-blocks-spec =
