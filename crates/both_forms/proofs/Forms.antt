@@ -58,6 +58,10 @@ module _ (run other : List ℕ) (checked : runCheck run ≡ runCheck other) (sta
       }
 
 -- ---- the theorem
+run-passed : (run : List ℕ) → oldFormCheck run ≡ passed → runCheck run ≡ passed
+unfolding oldFormCheck
+run-passed run h = both-passed _ _ h .0
+
 pub both-forms : BothForms
 both-forms =
     record {
@@ -68,7 +72,3 @@ both-forms =
           alike (shortFormOf run rate) (shortFormOf other rate) (short-form-stands run rate .accepted h ∙ sym (short-form-stands other rate .accepted k))
           (s .shortened rate h);
     }
-  where
-    run-passed : (run : List ℕ) → oldFormCheck run ≡ passed → runCheck run ≡ passed
-    unfolding oldFormCheck
-    run-passed run h = both-passed _ _ h .0
