@@ -8,6 +8,7 @@ use Rattle.lent.proofs.Lent.{placed-whole}
 use Rattle.block.specs.Blocks.{partsOf}
 use Rattle.block.proofs.Joined.{part-is, parts-length}
 use Rattle.basis_file.proofs.Turns.{join-length, join-turn, join-end}
+use borrow.Author.Needs.{needs}
 use Rattle.basis_file.proofs.read.join_parts.Statement.{statement}
 use Rattle.basis_file.proofs.read.join_parts.Tie as tie
 
@@ -23,36 +24,6 @@ loop-holds c =
     let a = c .before .before .args in
     (omega arith, refl, ap (λ (k : ℕ). placed (a .run .now) 0 (partsOf k (a .file .now))) (omega arith))
 
-mul-from : tie.Need-mul-from Inv-loop μ-loop
-mul-from c = omega arith
-
-add-from : tie.Need-add-from Inv-loop μ-loop
-add-from c = omega arith
-
-add-put : tie.Need-add-put Inv-loop μ-loop
-add-put c = omega arith
-
-sub-put : tie.Need-sub-put Inv-loop μ-loop
-sub-put c = omega arith
-
-part-put-start : tie.Need-part-put-start Inv-loop μ-loop
-part-put-start c = omega arith
-
-part-put-end : tie.Need-part-put-end Inv-loop μ-loop
-part-put-end c = omega arith
-
-mul-put : tie.Need-mul-put Inv-loop μ-loop
-mul-put c = omega arith
-
-put-requires : tie.Need-put-requires Inv-loop μ-loop
-put-requires c κs = omega arith
-
-add-b : tie.Need-add-b Inv-loop μ-loop
-add-b c = omega arith
-
-loop-less : tie.Need-loop-less Inv-loop μ-loop
-loop-less c = omega arith
-
 loop-again : tie.Need-loop-again Inv-loop μ-loop
 loop-again c =
     let l = c .before .before .before .before .before .before in
@@ -67,9 +38,6 @@ loop-again c =
       join-turn n f (l .loop .run) b _ (omega arith) (omega arith) m e ∙ l .loop .inv .2,
     )
 
-same-length : tie.Need-same-length Inv-loop μ-loop
-same-length c = omega arith
-
 returns : tie.Need-returns Inv-loop μ-loop
 returns c =
     let l = c .before in
@@ -82,20 +50,5 @@ returns c =
 pub join-parts-spec : {M : Type 1} → statement M
 join-parts-spec =
     tie.close
-    (tie.spec
-    Inv-loop
-    μ-loop
-    loop-holds
-    mul-from
-    add-from
-    add-put
-    sub-put
-    part-put-start
-    part-put-end
-    mul-put
-    put-requires
-    add-b
-    loop-less
-    loop-again
-    same-length
-    returns)
+    (tie.spec Inv-loop μ-loop loop-holds (search needs) (search needs) (search needs) (search needs) (search needs)
+    (search needs) (search needs) (search needs) (search needs) (search needs) loop-again (search needs) returns)

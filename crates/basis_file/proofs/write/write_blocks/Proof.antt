@@ -8,6 +8,7 @@ use Rattle.block.specs.Block.{blockOf}
 use Rattle.block.specs.Blocks.{blocksOf}
 use Rattle.block.proofs.Joined.{part-is}
 use Rattle.basis_file.proofs.Turns.{write-length, write-turn, write-end}
+use borrow.Author.Needs.{needs}
 use Rattle.basis_file.proofs.write.write_blocks.Statement.{statement}
 use Rattle.basis_file.proofs.write.write_blocks.Tie as tie
 
@@ -23,33 +24,6 @@ loop-holds c =
     let a = c .before .before .args in
     (omega arith, refl, ap (λ (k : ℕ). placed (a .file .now) 0 (blocksOf 0 k (a .run .now))) (omega arith))
 
-mul-from : tie.Need-mul-from Inv-loop μ-loop
-mul-from c = omega arith
-
-add-put-block : tie.Need-add-put-block Inv-loop μ-loop
-add-put-block c = omega arith
-
-sub-put-block : tie.Need-sub-put-block Inv-loop μ-loop
-sub-put-block c = omega arith
-
-part-put-block-start : tie.Need-part-put-block-start Inv-loop μ-loop
-part-put-block-start c = omega arith
-
-part-put-block-end : tie.Need-part-put-block-end Inv-loop μ-loop
-part-put-block-end c = omega arith
-
-mul-put-block : tie.Need-mul-put-block Inv-loop μ-loop
-mul-put-block c = omega arith
-
-put-block-requires : tie.Need-put-block-requires Inv-loop μ-loop
-put-block-requires c κs = omega arith
-
-add-b : tie.Need-add-b Inv-loop μ-loop
-add-b c = omega arith
-
-loop-less : tie.Need-loop-less Inv-loop μ-loop
-loop-less c = omega arith
-
 loop-again : tie.Need-loop-again Inv-loop μ-loop
 loop-again c =
     let l = c .before .before .before .before .before .before in
@@ -64,9 +38,6 @@ loop-again c =
       write-turn n r (l .loop .file) b _ (omega arith) (omega arith) m e ∙ l .loop .inv .2,
     )
 
-same-length : tie.Need-same-length Inv-loop μ-loop
-same-length c = omega arith
-
 returns : tie.Need-returns Inv-loop μ-loop
 returns c =
     let l = c .before in
@@ -76,19 +47,5 @@ returns c =
 pub write-blocks-spec : {M : Type 1} → statement M
 write-blocks-spec =
     tie.close
-    (tie.spec
-    Inv-loop
-    μ-loop
-    loop-holds
-    mul-from
-    add-put-block
-    sub-put-block
-    part-put-block-start
-    part-put-block-end
-    mul-put-block
-    put-block-requires
-    add-b
-    loop-less
-    loop-again
-    same-length
-    returns)
+    (tie.spec Inv-loop μ-loop loop-holds (search needs) (search needs) (search needs) (search needs) (search needs)
+    (search needs) (search needs) (search needs) (search needs) loop-again (search needs) returns)
