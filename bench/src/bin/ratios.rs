@@ -2,6 +2,7 @@
 //! After them, in the same way, how many times as fast the proved grid is by its year sweep as point by point.
 //! ratios [--rounds N] [--markdown]
 use parvusek_bench::bases::{Draft, draft::Component, files, histories};
+use parvusek_bench::engine::form::Form;
 use parvusek_bench::engine::layout::*;
 use parvusek_bench::engine::sets::{self, GRID, Record};
 use parvusek_bench::engine::valuation::Kind;
@@ -173,7 +174,7 @@ fn two_grids<'a>(lent: Lent<'a>, name: &str, asked: Asked) -> Case<'a> {
 }
 
 fn read<'a>(file: &'a [u8]) -> Case<'a> {
-    let (mut lent, mut own) = ([0; RUN_LENGTH], [0; RUN_LENGTH]);
+    let (mut lent, mut own) = ([0; Form::Mpb2.run_length()], [0; Form::Mpb2.run_length()]);
     case(
         "reading a file",
         move || done(ffi::read_basis(black_box(file), black_box(&mut lent))),
@@ -182,7 +183,7 @@ fn read<'a>(file: &'a [u8]) -> Case<'a> {
 }
 
 fn write<'a>(run: &'a [u8]) -> Case<'a> {
-    let (mut lent, mut own) = ([0; FILE_LENGTH], [0; FILE_LENGTH]);
+    let (mut lent, mut own) = ([0; Form::Mpb2.file_length()], [0; Form::Mpb2.file_length()]);
     case(
         "writing a file",
         move || done(ffi::write_basis(black_box(run), black_box(&mut lent))),
@@ -191,7 +192,7 @@ fn write<'a>(run: &'a [u8]) -> Case<'a> {
 }
 
 fn shorten<'a>(run: &'a [u8]) -> Case<'a> {
-    let (mut lent, mut own) = ([0; RUN_LENGTH], [0; RUN_LENGTH]);
+    let (mut lent, mut own) = ([0; Form::Mpb2.run_length()], [0; Form::Mpb2.run_length()]);
     case(
         "short form",
         move || done(ffi::short_form(black_box(run), black_box(15_000_000), black_box(&mut lent))),

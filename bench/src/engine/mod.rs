@@ -4,12 +4,14 @@
 pub mod basis;
 pub mod enquiries;
 pub mod file;
+pub mod form;
 pub mod history;
 pub mod layout;
 pub mod lifeline;
 pub mod projection;
 pub mod refusal;
 pub mod roll;
+pub mod run;
 pub mod sets;
 pub mod short_form;
 pub mod sweep;
@@ -20,6 +22,8 @@ pub mod valuation;
 #[cfg(test)]
 mod figures;
 #[cfg(test)]
+mod forms;
+#[cfg(test)]
 mod histories;
 #[cfg(test)]
 mod orders;
@@ -29,5 +33,7 @@ mod rolls;
 mod rounding;
 #[cfg(test)]
 mod sweeps;
+#[cfg(test)]
+mod two_forms;
 
 pub use refusal::Refusal;
