@@ -1,5 +1,5 @@
-//! Damage to a data run of either form: one field or a few just outside the limits, the mark of the other form, zero bytes,
-//! bytes at random, another length.
+//! Damage to a data run of either form: one field or a few just outside the limits, the mark of the other form, zero
+//! bytes, bytes at random, another length.
 use super::forms::other;
 use crate::engine::form::{FORMS, Form, TABLES, Table};
 use crate::engine::layout::*;
@@ -8,10 +8,10 @@ use crate::random::Random;
 /// Damages an accepted run in one of the ways that its checks must find, or now and then in none.
 pub fn damage(random: &mut Random, run: &mut Vec<u8>) {
     let form = Form::of_run(run.len()).expect("only a run of a form is damaged");
-    match random.below(12) {
+    match random.below(13) {
         0 => mark(random, run),
         1 => other_mark(form, run),
-        2 => zero_byte(random, form, run),
+        2 => (0..=random.below(3)).for_each(|_| zero_byte(random, form, run)),
         3 => years(random, run),
         4..=6 => {
             for _ in 0..=random.below(3) {
@@ -24,13 +24,17 @@ pub fn damage(random: &mut Random, run: &mut Vec<u8>) {
         }
         7 => entries(random, form, run),
         8 => {
+            let table = random.pick(&[Table::AgeProportions, Table::BirthProportions]);
+            entry(random, form, run, table);
+        }
+        9 => {
             for _ in 0..=random.below(4) {
                 let place = random.below(run.len() as u64) as usize;
                 run[place] ^= 1 << random.below(8);
             }
         }
-        9 => run.iter_mut().for_each(|byte| *byte = random.word() as u8),
-        10 => other_length(random, form, run),
+        10 => run.iter_mut().for_each(|byte| *byte = random.word() as u8),
+        11 => other_length(random, form, run),
         _ => length(random, run),
     }
 }
@@ -151,7 +155,7 @@ mod tests {
             let zeros = if tail.is_empty() { vec![] } else { vec![tail.start, tail.end - 1] };
             let marks = [0, 1, 2, 3, 16, 29].into_iter().chain(zeros).map(|offset| (4, offset));
             for refusal in fields.chain(marks) {
-                assert!(met.contains(&refusal), "{form:?} never refused as {refusal:?}");
+                assert!(met.contains(&refusal), "{form} never refused as {refusal:?}");
             }
         }
     }
@@ -170,7 +174,7 @@ mod tests {
                     by_length += u32::from(run[..4] == form.mark() && run.len() == other(form).run_length());
                 }
             }
-            assert!(by_mark > 10 && by_length > 10, "{form:?} {by_mark} {by_length}");
+            assert!(by_mark > 10 && by_length > 10, "{form} {by_mark} {by_length}");
         }
     }
 

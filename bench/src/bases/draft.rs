@@ -2,7 +2,6 @@
 use super::forms::in_hundredths;
 use crate::engine::form::{BY_AGE, BY_BIRTH_YEAR, Form, Table};
 use crate::engine::layout::*;
-use crate::engine::run::Run;
 
 #[derive(Clone)]
 pub struct Draft {
@@ -114,8 +113,13 @@ impl Draft {
 
     /// P in hundredths of a per cent.
     pub fn proportion(&self, component: Component, index: usize) -> u16 {
+        let form = self.form();
         let [.., proportions] = component.tables();
-        Run { form: self.form(), bytes: &self.run }.proportion(proportions, index)
+        let offset = form.offset(proportions);
+        match form {
+            Form::Mpb1 => 100 * u16::from(self.run[offset + index]),
+            Form::Mpb2 => u16::from_le_bytes([self.run[offset + 2 * index], self.run[offset + 2 * index + 1]]),
+        }
     }
 
     /// The benchmark's basis with other years.

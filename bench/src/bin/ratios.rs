@@ -191,6 +191,15 @@ fn write<'a>(run: &'a [u8]) -> Case<'a> {
     )
 }
 
+fn write_old_form<'a>(run: &'a [u8]) -> Case<'a> {
+    let (mut lent, mut own) = ([0; Form::Mpb1.file_length()], [0; Form::Mpb1.file_length()]);
+    case(
+        "writing one in the old form",
+        move || done(ffi::write_old_form(black_box(run), black_box(&mut lent))),
+        move || done(file::write_old_form(black_box(run), black_box(&mut own))),
+    )
+}
+
 fn shorten<'a>(run: &'a [u8]) -> Case<'a> {
     let (mut lent, mut own) = ([0; Form::Mpb2.run_length()], [0; Form::Mpb2.run_length()]);
     case(
@@ -204,7 +213,7 @@ fn shorten<'a>(run: &'a [u8]) -> Case<'a> {
 const YEARS_ON: [u32; 3] = [40, 94, 124];
 
 /// The first so many cases are the files' and the single cells'.
-const FILES_AND_CELLS: usize = 4 + 2 * YEARS_ON.len();
+const FILES_AND_CELLS: usize = 5 + 2 * YEARS_ON.len();
 
 fn cases<'a>(lent: Lent<'a>, file: &'a [u8]) -> Vec<Case<'a>> {
     let run = lent.run;
@@ -216,6 +225,7 @@ fn cases<'a>(lent: Lent<'a>, file: &'a [u8]) -> Vec<Case<'a>> {
         ),
         read(file),
         write(run),
+        write_old_form(run),
         shorten(run),
     ];
     cases.extend(YEARS_ON.map(|years| cell(lent, "factor", years, ffi::factor, enquiries::factor)));
@@ -287,7 +297,12 @@ fn main() {
         settings.rounds
     );
     let mut worst = 0.0f64;
-    for (what, draft) in [("convergence over 10 to 40 years", Draft::benchmark()), ("over 50 years", slow_basis())] {
+    let bases = [
+        ("convergence over 10 to 40 years", Draft::benchmark()),
+        ("the same in the form MPB2", Draft::benchmark().in_form(Form::Mpb2)),
+        ("over 50 years", slow_basis()),
+    ];
+    for (what, draft) in bases {
         let file = files::file_of(&draft.run);
         title(&settings, &ENGINES, &format!("Nothing cleared (caches warm), {what}:"));
         worst = worst.max(warm(&settings, cases(Lent::new(&draft, &[]), &file)));

@@ -130,8 +130,8 @@ fn main() {
     };
     let mut random = Random::new(1);
     for base in 0..60 {
-        let mut lent = if base < FORMS.len() {
-            lent(&mut random, Draft::benchmark().in_form(FORMS[base]).run, Vec::new())
+        let mut lent = if let Some(&form) = FORMS.get(base) {
+            lent(&mut random, Draft::benchmark().in_form(form).run, Vec::new())
         } else {
             let inputs::Basis { run, history, .. } = inputs::basis(&mut random);
             lent(&mut random, run, history)

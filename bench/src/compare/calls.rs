@@ -2,6 +2,7 @@
 use super::form_report::Seen;
 use super::inputs;
 use super::report::{Difference, FUNCTIONS, Function, Tally};
+use crate::bases::damaged;
 use crate::engine::basis::Basis;
 use crate::engine::enquiries;
 use crate::engine::form::Form;
@@ -143,6 +144,21 @@ impl Calls {
         let proved = ffi::check_basis(self.run.bytes());
         let rust = Refusal::from(enquiries::check_basis(self.run.bytes()));
         self.same(Function::CheckBasis, rust, &|| "the run".into(), &rust, &proved)
+    }
+
+    /// Lends copies of the run that is lent, each damaged in a way of its own, and then the run again.
+    pub fn damaged_copies(&mut self, random: &mut Random) -> Compared {
+        let (kind, (run, history)) = (self.kind, self.lent());
+        let (run, history) = (run.to_vec(), history.to_vec());
+        for _ in 0..4 {
+            let mut copy = run.clone();
+            damaged::damage(random, &mut copy);
+            self.lend(random, inputs::Basis { kind: "damaged", run: copy, history: history.clone() });
+            self.check_basis()?;
+            self.write_old_form(random)?;
+        }
+        self.lend(random, inputs::Basis { kind, run, history });
+        Ok(())
     }
 
     pub fn improvement(&mut self, random: &mut Random) -> Compared {

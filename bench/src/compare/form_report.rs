@@ -1,6 +1,6 @@
 //! What came up of the two forms, besides each call's answers and refusals.
 use super::report::Function;
-use crate::engine::form::{Form, Table};
+use crate::engine::form::{Form, Table::*};
 use crate::engine::layout::short;
 use crate::ffi::Refusal;
 use std::fmt;
@@ -27,45 +27,50 @@ impl Seen<'_> {
         self.is(Function::CheckBasis, Form::Mpb2, number) && self.refusal.first == place
     }
 
+    fn zero_bytes_on_both_sides(&self) -> bool {
+        (16..30).any(|place| self.checked(4, place)) && self.run[Form::Mpb2.tail()].iter().any(|&byte| byte != 0)
+    }
+
     /// A run of this form refused for its mark, which is the other's.
     fn has_mark(&self, form: Form, mark: &[u8]) -> bool {
         self.is(Function::CheckBasis, form, 4) && self.run.starts_with(mark)
     }
 
-    fn has_fraction(&self) -> bool {
-        let form = Form::Mpb2;
-        [Table::AgeProportions, Table::BirthProportions]
-            .into_iter()
-            .any(|table| form.stretch(table).step_by(2).any(|place| !short(self.run, place).is_multiple_of(100)))
+    fn survivors(&self, form: Form, place: u64) -> bool {
+        self.is(Function::LifelineStep, form, 5) && self.refusal.first == place
+    }
+
+    /// This outcome, on a run of the new form with a P that is no whole per cent.
+    fn fraction_and(&self, function: Function, number: u32) -> bool {
+        let has_fraction =
+            |table| Form::Mpb2.stretch(table).step_by(2).any(|place| !short(self.run, place).is_multiple_of(100));
+        self.is(function, Form::Mpb2, number) && [AgeProportions, BirthProportions].into_iter().any(has_fraction)
     }
 }
 
 type Event = (&'static str, fn(&Seen) -> bool);
 
-const EVENTS: [Event; 19] = [
+const EVENTS: [Event; 20] = [
     ("MPB1 runs written in the old form", |seen| seen.is(Function::WriteOldForm, Form::Mpb1, 0)),
     ("MPB2 runs written in the old form", |seen| seen.is(Function::WriteOldForm, Form::Mpb2, 0)),
     ("refused by 17 at the first age", |seen| seen.old_form(17, 1733)),
-    ("at the last age", |seen| seen.old_form(17, 1993)),
-    ("at the first birth year", |seen| seen.old_form(17, 4416)),
-    ("at the last birth year", |seen| seen.old_form(17, 4952)),
-    ("by 5 with a P that is no whole per cent", |seen| {
-        seen.is(Function::WriteOldForm, Form::Mpb2, 5) && seen.has_fraction()
-    }),
-    ("by 4 with such a P", |seen| seen.is(Function::WriteOldForm, Form::Mpb2, 4) && seen.has_fraction()),
-    ("P beyond the limits of MPB2 at the first age", |seen| seen.checked(5, 1733)),
-    ("at the last age", |seen| seen.checked(5, 1993)),
-    ("at the first birth year", |seen| seen.checked(5, 4416)),
-    ("at the last birth year", |seen| seen.checked(5, 4952)),
-    ("tails that are not zero in their first byte", |seen| seen.checked(4, 4954)),
-    ("in their last byte", |seen| seen.checked(4, 5059)),
+    ("by 17 at the last age", |seen| seen.old_form(17, 1993)),
+    ("by 17 at the first birth year", |seen| seen.old_form(17, 4416)),
+    ("by 17 at the last birth year", |seen| seen.old_form(17, 4952)),
+    ("by 5 with a P that is no whole per cent", |seen| seen.fraction_and(Function::WriteOldForm, 5)),
+    ("by 4 with such a P", |seen| seen.fraction_and(Function::WriteOldForm, 4)),
+    ("MPB2 runs accepted with such a P", |seen| seen.fraction_and(Function::CheckBasis, 0)),
+    ("refused for P of the first age", |seen| seen.checked(5, 1733)),
+    ("for P of the last age", |seen| seen.checked(5, 1993)),
+    ("for P of the first birth year", |seen| seen.checked(5, 4416)),
+    ("for P of the last birth year", |seen| seen.checked(5, 4952)),
+    ("for the first byte behind the tables", |seen| seen.checked(4, 4954)),
+    ("for the last byte behind the tables", |seen| seen.checked(4, 5059)),
+    ("for a byte before the tables with others behind them", |seen| seen.zero_bytes_on_both_sides()),
     ("marks MPB2 at the length of MPB1", |seen| seen.has_mark(Form::Mpb1, b"MPB2")),
-    ("MPB1 at that of MPB2", |seen| seen.has_mark(Form::Mpb2, b"MPB1")),
-    ("survivors refused at 4554", |seen| seen.is(Function::LifelineStep, Form::Mpb1, 5) && seen.refusal.first == 4554),
-    ("at 5060", |seen| seen.is(Function::LifelineStep, Form::Mpb2, 5) && seen.refusal.first == 5060),
-    ("MPB2 runs accepted with a P that is no whole per cent", |seen| {
-        seen.is(Function::CheckBasis, Form::Mpb2, 0) && seen.has_fraction()
-    }),
+    ("marks MPB1 at the length of MPB2", |seen| seen.has_mark(Form::Mpb2, b"MPB1")),
+    ("survivors refused at 4554", |seen| seen.survivors(Form::Mpb1, 4554)),
+    ("survivors refused at 5060", |seen| seen.survivors(Form::Mpb2, 5060)),
 ];
 
 /// How often each came up, and how many answers of the archive were the same on both forms of one basis.

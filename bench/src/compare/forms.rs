@@ -1,5 +1,5 @@
-//! One basis in both forms: a run of the old form, and the run of the new form with the same fields, each P times 100. What
-//! the archive answers on the one it answers on the other.
+//! One basis in both forms: a run of the old form, and the run of the new form with the same fields, each P times 100.
+//! What the archive answers on the one it answers on the other.
 use super::calls::{Calls, Compared, edge};
 use super::inputs;
 use super::report::{Difference, FUNCTIONS, Function};

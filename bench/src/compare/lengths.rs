@@ -1,11 +1,12 @@
-//! Runs and files of every length, which begin like those of either form, and outputs of every length that could be taken
-//! for another.
+//! Runs and files of every length, which begin like those of either form, and outputs of every length that could be
+//! taken for another.
 use super::calls::Calls;
 use super::inputs::{self, LENGTHS};
 use super::report::{Difference, Tally};
 use super::worker::{Found, found};
 use crate::bases::forms::fraction_somewhere;
 use crate::bases::{Draft, files, histories};
+use crate::engine::file::run_needed;
 use crate::engine::form::{FORMS, Form};
 use crate::random::Random;
 
@@ -45,7 +46,7 @@ fn at_length(calls: &mut Calls, random: &mut Random, form: Form, length: usize) 
     file.resize(length, filling);
     calls.lend(random, inputs::Basis { kind: "of any length", run, history });
     calls.check_basis()?;
-    let output = inputs::output_length(random, crate::engine::file::run_needed(length));
+    let output = inputs::output_length(random, run_needed(length));
     calls.read_file(random, &file, output)?;
     calls.write_basis(random)?;
     calls.write_old_form(random)?;

@@ -187,7 +187,7 @@ impl Tally {
                 }
                 let never = |form: &Form| self.by_form[*form as usize][function as usize][refusal] == 0;
                 for form in FORMS.iter().filter(|&form| in_form(function, refusal, *form) && never(form)) {
-                    missing.push(format!("{function:?} {refusal} of {form:?}"));
+                    missing.push(format!("{function:?} {refusal} of {form}"));
                 }
             }
             for refusal in HISTORY_OUTCOMES {
@@ -260,9 +260,8 @@ impl fmt::Display for Tally {
         let lending: Vec<Function> = FUNCTIONS.into_iter().filter(|function| function.lends_history()).collect();
         table(f, "by the history", &lending, &HISTORY_OUTCOMES, &self.by_history)?;
         let formed: Vec<Function> = FUNCTIONS.into_iter().filter(|function| function.has_form()).collect();
-        for form in FORMS {
-            table(f, &format!("of {form:?}"), &formed, &EVERY_OUTCOME, &self.by_form[form as usize])?;
-        }
+        let new = Form::Mpb2;
+        table(f, &format!("of {new}"), &formed, &EVERY_OUTCOME, &self.by_form[new as usize])?;
         write!(f, "{}{}{}", self.grids, self.rolls, self.forms)
     }
 }

@@ -62,7 +62,8 @@ fn ask(calls: &mut Calls, random: &mut Random) -> Result<(), Difference> {
             calls.lifeline_step(random)?;
         }
     }
-    if !refused && random.one_in(2) {
+    if !refused {
+        calls.damaged_copies(random)?;
         calls.both_forms(random)?;
     }
     if refused || random.one_in(8) {

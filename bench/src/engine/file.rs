@@ -96,14 +96,15 @@ fn in_old_form(run: &Run) -> Result<[u8; Form::Mpb1.run_length()], Refusal> {
             continue;
         }
         for (index, entry) in entries.iter_mut().enumerate() {
-            *entry = per_cents(run.proportion(table, index))
-                .ok_or(Refusal::proportion(own.offset(table) + own.width(table) * index))?;
+            let place = own.offset(table) + own.width(table) * index;
+            *entry = per_cents(short(run.bytes, place)).ok_or(Refusal::proportion(place))?;
         }
     }
     Ok(fields)
 }
 
-/// Of an accepted P, which is at most 150 per cent.
-fn per_cents(hundredths: u16) -> Option<u8> {
-    hundredths.is_multiple_of(100).then_some((hundredths / 100) as u8)
+/// Of an accepted P in hundredths, which is at most 150 per cent.
+fn per_cents(proportion: u32) -> Option<u8> {
+    let hundredths = u32::from(HUNDREDTHS);
+    proportion.is_multiple_of(hundredths).then_some((proportion / hundredths) as u8)
 }

@@ -1,7 +1,8 @@
-//! The two forms of a data run, MPB1 and MPB2. Both have the same fields in the same order. A proportion is one byte in the
-//! one and counts per cents, two bytes in the other and counts hundredths of a per cent. The length of a run or of a file
-//! tells its form.
+//! The two forms of a data run, MPB1 and MPB2. Both have the same fields in the same order. A proportion is one byte in
+//! the one and counts per cents, two bytes in the other and counts hundredths of a per cent. The length of a run or of a
+//! file tells its form.
 use super::layout::*;
+use std::fmt;
 use std::ops::Range;
 
 #[derive(Clone, Copy, Debug, PartialEq, Eq)]
@@ -122,6 +123,13 @@ impl Form {
     /// The bytes behind the tables, which are zero.
     pub const fn tail(self) -> Range<usize> {
         OFFSETS[self as usize][TABLES.len()]..self.run_length()
+    }
+}
+
+/// By its mark.
+impl fmt::Display for Form {
+    fn fmt(&self, f: &mut fmt::Formatter) -> fmt::Result {
+        f.write_str(&String::from_utf8_lossy(&self.mark()))
     }
 }
 

@@ -153,13 +153,15 @@ fn an_old_run_with_a_tenth_block_has_the_wrong_mark() {
 
 type Writer = fn(&[u8], &mut [u8]) -> Result<(), Refusal>;
 
-/// What each call with an output needs, for a run or file of either form and for one of none.
+/// A call, what it is lent of the old and of the new form, and what it needs for these and for a length of no form.
+type Needing<'lent> = (Writer, [&'lent [u8]; 2], [usize; 3]);
+
 #[test]
 fn the_output_that_is_needed() {
     let [old, new] = FORMS.map(|form| Draft::benchmark().in_form(form).run);
     let [old_file, new_file] = [&old, &new].map(|run| files::file_of(run));
     let short: Writer = |run, out| short_form(run, 0, out);
-    let cases: [(Writer, [&[u8]; 2], [usize; 3]); 4] = [
+    let cases: [Needing; 4] = [
         (read_basis, [&old_file, &new_file], [4554, 5060, 4554]),
         (write_basis, [&old, &new], [4608, 5120, 4608]),
         (write_old_form, [&old, &new], [4608, 4608, 4608]),

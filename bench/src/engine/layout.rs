@@ -1,5 +1,5 @@
-//! What all data runs and histories have in common: ages and years, blocks, the fields before the tables, and limits. Where
-//! the tables of a run stand depends on its form.
+//! What all data runs and histories have in common: ages and years, blocks, the fields before the tables, and limits.
+//! Where the tables of a run stand depends on its form.
 use std::ops::RangeInclusive;
 
 pub const FIRST_AGE: u32 = 20;
@@ -35,8 +35,9 @@ pub const MORTALITY_RATES: RangeInclusive<i32> = 0..=1_000_000_000;
 pub const IMPROVEMENT_RATES: RangeInclusive<i32> = -200_000_000..=200_000_000;
 pub const ACTUAL_IMPROVEMENTS: RangeInclusive<i32> = -500_000_000..=500_000_000;
 pub const PERIODS: RangeInclusive<u8> = 1..=50;
-/// In hundredths of a per cent.
+/// In hundredths of a per cent, and how many of them a per cent has.
 pub const PROPORTIONS: RangeInclusive<u16> = 0..=15_000;
+pub const HUNDREDTHS: u16 = 100;
 
 /// Every improvement that an answer needs lies in this.
 pub const IMPROVEMENTS: RangeInclusive<i64> = -500_000_000..=500_000_000;

@@ -16,6 +16,7 @@ pub mod sets;
 pub mod short_form;
 pub mod sweep;
 pub mod table;
+pub mod terms;
 pub mod units;
 pub mod valuation;
 

@@ -1,6 +1,5 @@
 //! Weight and component, improvement (actual or projected), reduction factor and mortality rate.
 use super::basis::Basis;
-use super::form::{BY_AGE, BY_BIRTH_YEAR, Table};
 use super::layout::*;
 use super::refusal::Refusal;
 use super::units::{UNIT, product};
@@ -73,27 +72,17 @@ pub(super) fn reduced(base_rate: u64, factor: u64) -> u64 {
 impl Basis<'_> {
     #[inline]
     pub(super) fn base_rate(&self, age: u32) -> u64 {
-        self.run.rate(Table::BaseRates, (age - FIRST_AGE) as usize) as u64
+        i32::from_le_bytes(self.base_rates[(age - FIRST_AGE) as usize]) as u64
     }
 
     #[inline]
     pub fn age_component(&self, age: u32) -> Component {
-        self.component(BY_AGE, (age - FIRST_AGE) as usize)
+        self.by_age.component((age - FIRST_AGE) as usize)
     }
 
     #[inline]
     pub fn birth_year_component(&self, birth_year: u32) -> Component {
-        self.component(BY_BIRTH_YEAR, (birth_year - FIRST_BIRTH_YEAR) as usize)
-    }
-
-    #[inline]
-    fn component(&self, [initial, long_term, periods, proportions]: [Table; 4], index: usize) -> Component {
-        Component {
-            initial_rate: self.run.rate(initial, index),
-            long_term_rate: self.run.rate(long_term, index),
-            convergence_period: self.run.period(periods, index),
-            proportion_remaining: i64::from(self.run.proportion(proportions, index)),
-        }
+        self.by_birth_year.component((birth_year - FIRST_BIRTH_YEAR) as usize)
     }
 
     /// The first year that has an improvement: where there is a history, its first.

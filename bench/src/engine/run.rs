@@ -5,9 +5,6 @@ use super::refusal::Refusal;
 use super::table::{first_bad_byte, first_bad_number, first_bad_short, first_non_zero};
 use std::ops::{Range, RangeInclusive};
 
-/// P of a run in per cents are so many hundredths of a per cent.
-const HUNDREDTHS: u16 = 100;
-
 #[derive(Clone, Copy)]
 pub struct Run<'lent> {
     pub form: Form,
@@ -35,29 +32,6 @@ impl<'lent> Run<'lent> {
     pub fn stretch(&self, table: Table) -> &'lent [u8] {
         // the length by itself, so that it is known where the form is not
         &self.bytes[self.form.offset(table)..][..self.form.width(table) * table.entries()]
-    }
-
-    /// An entry of a table of rates, in units.
-    #[inline]
-    pub fn rate(&self, table: Table, index: usize) -> i64 {
-        i64::from(signed(self.bytes, self.form.offset(table) + 4 * index))
-    }
-
-    /// An entry of a table of T, in years.
-    #[inline]
-    pub fn period(&self, table: Table, index: usize) -> i64 {
-        i64::from(self.bytes[self.form.offset(table) + index])
-    }
-
-    /// An entry of a table of P, in hundredths of a per cent.
-    #[inline]
-    pub fn proportion(&self, table: Table, index: usize) -> u16 {
-        let offset = self.form.offset(table);
-        match self.form {
-            Form::Mpb1 => HUNDREDTHS * u16::from(self.bytes[offset + index]),
-            // two bytes, so it fits
-            Form::Mpb2 => short(self.bytes, offset + 2 * index) as u16,
-        }
     }
 
     fn check_mark(&self) -> Result<(), Refusal> {
@@ -93,20 +67,20 @@ impl<'lent> Run<'lent> {
     }
 
     fn check_tables(&self) -> Result<(), Refusal> {
-        self.check_rates(BaseRates, &MORTALITY_RATES)?;
-        self.check_rates(AgeInitial, &IMPROVEMENT_RATES)?;
-        self.check_rates(AgeLongTerm, &IMPROVEMENT_RATES)?;
+        self.check_rates(BaseRates, AGES, &MORTALITY_RATES)?;
+        // the long-term rates follow the initial ones, and are looked at with them
+        self.check_rates(AgeInitial, 2 * AGES, &IMPROVEMENT_RATES)?;
         self.check_periods(AgePeriods)?;
         self.check_proportions(AgeProportions)?;
-        self.check_rates(BirthInitial, &IMPROVEMENT_RATES)?;
-        self.check_rates(BirthLongTerm, &IMPROVEMENT_RATES)?;
+        self.check_rates(BirthInitial, 2 * BIRTH_YEARS, &IMPROVEMENT_RATES)?;
         self.check_periods(BirthPeriods)?;
         self.check_proportions(BirthProportions)
     }
 
     #[inline]
-    fn check_rates(&self, table: Table, limits: &RangeInclusive<i32>) -> Result<(), Refusal> {
-        self.refuse(table, first_bad_number(self.stretch(table), limits))
+    fn check_rates(&self, table: Table, count: usize, limits: &RangeInclusive<i32>) -> Result<(), Refusal> {
+        let rates = &self.bytes[self.form.offset(table)..][..4 * count];
+        self.refuse(table, first_bad_number(rates, limits))
     }
 
     #[inline]

@@ -1,5 +1,5 @@
-//! One basis in both forms: a run of the old form and the run of the new form with the same fields, each P times 100. Every
-//! call answers alike.
+//! One basis in both forms: a run of the old form and the run of the new form with the same fields, each P times 100.
+//! Every call answers alike.
 use super::basis::Basis;
 use super::enquiries::*;
 use super::file::{read_basis, write_basis, write_old_form};
@@ -156,6 +156,7 @@ fn outputs_are_alike() {
         assert_eq!([write_old_form(old, from_old), write_old_form(new, from_new)], [Ok(()); 2]);
         assert!(from_old == file && from_new == file);
         let mut back = [0; 4554];
-        assert_eq!((read_basis(from_new, &mut back), &back == old.as_slice()), (Ok(()), true));
+        assert_eq!(read_basis(from_new, &mut back), Ok(()));
+        assert_eq!(back, old.as_slice());
     });
 }
