@@ -132,7 +132,7 @@ class Files(unittest.TestCase):
         basis = Basis.from_file(file)
         self.assertEqual(basis.to_file(), file)
         self.assertEqual(basis, Basis(basis.run))
-        self.assertEqual(repr(basis), "<Basis F 2006, B 2008>")
+        self.assertEqual(repr(basis), "<Basis MPB1, F 2006, B 2008>")
         self.assertEqual((basis.constant_addition, basis.discount_rate), (1_000_000, 30_000_000))
         below = Basis(bytes(encode(bases.named_bases()["lowest discount"])))
         self.assertEqual(below.discount_rate, -10_000_000)
