@@ -1,2 +1,4 @@
 pub mod Accumulation
+pub mod Lengths
+pub mod Places
 pub mod Rated

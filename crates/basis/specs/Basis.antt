@@ -1,5 +1,5 @@
 -- The basis that a data run stands for, and its limits (01, "The basis file").
-use Prim.Native.Nat.{ℕ, _*_, _-_, _≤_, _<_}
+use Prim.Native.Nat.{ℕ, _-_, _≤_, _<_, min}
 use mathlib.Core.Path.{_≡_}
 use mathlib.Core.List.{List}
 use lib.ListN.{length, take}
@@ -8,7 +8,8 @@ use lib.Signed.{_≤ℤ_}
 use Rattle.arithmetic.specs.Fraction.{U}
 use Rattle.little_endian.specs.Bytes.{byteAt, u16At, i32At}
 use Rattle.layout.specs.declared.Number.the-variants.{Byte, Word, SignedWord}
-use Rattle.layout.specs.Layout.{entryAt, Form, formOf, runLength, markOf}
+use Rattle.layout.specs.declared.Form.{Form}
+use Rattle.layout.specs.Layout.{entryAt, proportionAt, formOfRun, runLength, fieldsEnd, markOf, ages, birthYears}
 use Rattle.layout.specs.Layout.{foundationAt, baseAt, additionAt, discountAt, zerosAt, baseRatesAt}
 use Rattle.layout.specs.Layout.{ageInitialRatesAt, ageLongTermRatesAt, agePeriodsAt, ageProportionsAt}
 use Rattle.layout.specs.Layout.{birthYearInitialRatesAt, birthYearLongTermRatesAt, birthYearPeriodsAt, birthYearProportionsAt}
@@ -28,6 +29,14 @@ pub record Basis : Type 0 where
   pub byBirthYear : ℕ → Convergence
   pub actual : ℕ → ℕ → ℤ
 
+-- where an age from 20 to 150, or a birth year from 1842 to 2110, stands in its tables. No answer reads any other; they count as the
+-- first or the last there, so that a basis holds what its tables hold and nothing else
+abbrev pub agePlace : ℕ → ℕ
+agePlace age = min (age - 20) (ages - 1)
+
+abbrev pub birthYearPlace : ℕ → ℕ
+birthYearPlace year = min (year - 1842) (birthYears - 1)
+
 -- I, L, T and P at one place of four tables; the P of a basis is in hundredths of a per cent, whatever its form counts in (02, change 7)
 abbrev pub termsAt : Form → List ℕ → ℕ → ℕ → ℕ → ℕ → ℕ → Convergence
 termsAt form run initial long period remaining place =
@@ -35,10 +44,10 @@ termsAt form run initial long period remaining place =
       initial = entryAt SignedWord run initial place;
       long = entryAt SignedWord run long place;
       period = natAbs (entryAt Byte run period place);
-      remaining = form .hundredths * natAbs (entryAt (form .proportion) run remaining place);
+      remaining = proportionAt form run remaining place;
     }
 
--- at an age from 20, and at a birth year from 1842
+-- by age, and by birth year
 abbrev pub ageTermsAt : Form → List ℕ → ℕ → Convergence
 ageTermsAt form run place = termsAt form run ageInitialRatesAt ageLongTermRatesAt agePeriodsAt ageProportionsAt place
 
@@ -55,9 +64,9 @@ basisOf run =
       base = u16At run baseAt;
       addition = i32At run additionAt;
       discount = i32At run discountAt;
-      baseRate = λ age. natAbs (entryAt Word run baseRatesAt (age - 20));
-      byAge = λ age. ageTermsAt (formOf (length run)) run (age - 20);
-      byBirthYear = λ year. birthYearTermsAt (formOf (length run)) run (year - 1842);
+      baseRate = λ age. natAbs (entryAt Word run baseRatesAt (agePlace age));
+      byAge = λ age. ageTermsAt (formOfRun (length run)) run (agePlace age);
+      byBirthYear = λ year. birthYearTermsAt (formOfRun (length run)) run (birthYearPlace year);
       actual = λ age year. pos 0;
     }
 
@@ -91,7 +100,8 @@ pub record Limited (b : Basis) : Type 0 where
 
 -- what 1, 4 and 5 do not refuse: the length of its form, the form's mark, the zero bytes, and the limits
 pub record Accepted (run : List ℕ) : Type 0 where
-  pub size : length run ≡ runLength (formOf (length run))
-  pub mark : take 4 run ≡ markOf (formOf (length run))
+  pub size : length run ≡ runLength (formOfRun (length run))
+  pub mark : take 4 run ≡ markOf (formOfRun (length run))
   pub zeros : (at : ℕ) → zerosAt ≤ at → at < baseRatesAt → byteAt run at ≡ 0
+  pub lastZeros : (at : ℕ) → fieldsEnd (formOfRun (length run)) ≤ at → at < length run → byteAt run at ≡ 0
   pub limits : Limited (basisOf run)

@@ -2,9 +2,16 @@
 ghost use mathlib.Core.Path.{_≡_};
 ghost use Prim.Native.Nat.{_+_, _*_, _≤_, _<_};
 ghost use lib.ListN.{length};
-ghost use Rattle.layout.specs.Layout.{mpb1, runLength};
+ghost use Rattle.layout.specs.declared.Form.the-variants.{Mpb2};
+ghost use Rattle.layout.specs.Layout.{widthOf, proportionOf, runLength};
 ghost use Rattle.basis.specs.Basis.{basisOf, accumulationOf, termsAt, Accepted, ratedFrom};
 use crate::Convergence;
+use layout::Form;
+use layout::forms::form_of_run;
+use layout::offsets::birth_year_initial_rates_at;
+use layout::offsets::birth_year_long_term_rates_at;
+use layout::offsets::birth_year_periods_at;
+use layout::offsets::birth_year_proportions_at;
 
 pub fn foundation_year(run: &[u8]) -> u32
     requires { ⌜ Accepted (now run) ⌝ }
@@ -50,16 +57,10 @@ pub fn base_rate(run: &[u8], age: u32) -> u32
     little_endian::read_u32(run, layout::BASE_RATES_AT + 4 * (age as usize - 20))
 }
 
-// A P of the run, in hundredths of a per cent.
-fn hundredths(proportion: u8) -> u16
-    ensures { λ r. ⌜ r ≡ mpb1 .hundredths * proportion ⌝ }
-{
-    layout::PROPORTION_HUNDREDTHS * (proportion as u16)
-}
-
 // The terms at one place of four tables.
 fn terms_at(
     run: &[u8],
+    form: Form,
     initial: usize,
     long: usize,
     period: usize,
@@ -69,15 +70,15 @@ fn terms_at(
     requires { ⌜ initial + 4 * place + 4 ≤ length (now run) ⌝ }
     requires { ⌜ long + 4 * place + 4 ≤ length (now run) ⌝ }
     requires { ⌜ period + place < length (now run) ⌝ }
-    requires { ⌜ remaining + place < length (now run) ⌝ }
-    requires { ⌜ length (now run) ≡ runLength mpb1 ⌝ }
-    ensures { λ r. ⌜ r ≡ termsAt mpb1 (now (run .entry)) initial long period remaining place ⌝ }
+    requires { ⌜ remaining + widthOf (proportionOf form) * place + widthOf (proportionOf form) ≤ length (now run) ⌝ }
+    requires { ⌜ length (now run) ≤ runLength Mpb2 ⌝ }
+    ensures { λ r. ⌜ r ≡ termsAt form (now (run .entry)) initial long period remaining place ⌝ }
 {
     Convergence {
         initial: little_endian::read_i32(run, initial + 4 * place),
         long: little_endian::read_i32(run, long + 4 * place),
         period: run[period + place],
-        remaining: hundredths(run[remaining + place]),
+        remaining: proportion::proportion_at(run, form, remaining, place),
     }
 }
 
@@ -87,6 +88,7 @@ pub fn age_terms(run: &[u8], age: u32) -> Convergence
 {
     terms_at(
         run,
+        form_of_run(run.len()),
         layout::AGE_INITIAL_RATES_AT,
         layout::AGE_LONG_TERM_RATES_AT,
         layout::AGE_PERIODS_AT,
@@ -99,12 +101,14 @@ pub fn birth_year_terms(run: &[u8], year: u32) -> Convergence
     requires { ⌜ Accepted (now run) × (1842 ≤ year) × (year ≤ 2110) ⌝ }
     ensures { λ r. ⌜ r ≡ basisOf (now (run .entry)) .byBirthYear year ⌝ }
 {
+    let form = form_of_run(run.len());
     terms_at(
         run,
-        layout::BIRTH_YEAR_INITIAL_RATES_AT,
-        layout::BIRTH_YEAR_LONG_TERM_RATES_AT,
-        layout::BIRTH_YEAR_PERIODS_AT,
-        layout::BIRTH_YEAR_PROPORTIONS_AT,
+        form,
+        birth_year_initial_rates_at(form),
+        birth_year_long_term_rates_at(form),
+        birth_year_periods_at(form),
+        birth_year_proportions_at(form),
         year as usize - 1842,
     )
 }

@@ -7,6 +7,7 @@ ghost use Rattle.layout.specs.Layout.{widthOf, valueAt};
 ghost use Rattle.field_check.specs.Field.{between, fieldCheck};
 use layout::Number;
 use layout::value_at;
+use layout::width_of;
 use outcome::Check;
 use outcome::Refusal;
 
@@ -18,18 +19,6 @@ pub struct Field {
     pub high: i64,
     pub offset: usize,
     pub count: usize,
-}
-
-// How many bytes a number has.
-fn width_of(kind: Number) -> usize
-    ensures { λ r. ⌜ r ≡ widthOf kind ⌝ }
-{
-    match kind {
-        Number::Byte => 1,
-        Number::Half => 2,
-        Number::Word => 4,
-        Number::SignedWord => 4,
-    }
 }
 
 // Whether a number is from the one to the other, both included.

@@ -1,1 +1,2 @@
+pub mod EachForm
 pub mod Printed

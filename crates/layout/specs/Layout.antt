@@ -1,10 +1,14 @@
 -- The layout of a data run (01, "The basis file"): the kinds of number in it, its form, where each field stands, and the limits of each.
-use Prim.Native.Nat.{ℕ, _+_, _*_}
+use Prim.Native.Nat.{ℕ, _+_, _*_, _/_}
+use mathlib.Core.Bool.{cond}
 use mathlib.Core.List.{List, [], _∷_}
-use lib.IntN.{ℤ, pos, negℤ}
-use Rattle.little_endian.specs.Bytes.{byteAt, u16At, u32At, i32At}
+use lib.Dec.{eqb}
+use lib.IntN.{ℤ, pos, negℤ, natAbs}
+use Rattle.little_endian.specs.Bytes.{byteAt, u16At, u32At, i32At, u16Bytes, u32Bytes, i32Bytes}
 use Rattle.layout.specs.declared.Number.{Number}
 use Rattle.layout.specs.declared.Number.the-variants.{Byte, Half, Word, SignedWord}
+use Rattle.layout.specs.declared.Form.{Form}
+use Rattle.layout.specs.declared.Form.the-variants.{Mpb1, Mpb2}
 
 -- ---- the kinds of number
 abbrev pub widthOf : Number → ℕ
@@ -24,33 +28,65 @@ valueAt SignedWord run at = i32At run at
 abbrev pub entryAt : Number → List ℕ → ℕ → ℕ → ℤ
 entryAt kind run offset place = valueAt kind run (offset + widthOf kind * place)
 
--- ---- the form of a data run and of its file: the last letter of its mark, the kind of number of P, how many hundredths of a per cent
--- one of its P counts, the greatest P in that counting, and the blocks of the file
-pub record Form : Type 0 where
-  pub letter : ℕ
-  pub proportion : Number
-  pub hundredths : ℕ
-  pub greatest : ℕ
-  pub blocks : ℕ
+-- the bytes of a number, as they stand there
+abbrev pub bytesOf : Number → ℤ → List ℕ
+bytesOf Byte n = natAbs n ∷ []
+bytesOf Half n = u16Bytes (natAbs n)
+bytesOf Word n = u32Bytes (natAbs n)
+bytesOf SignedWord n = i32Bytes n
 
--- MPB1: P is one byte of whole per cents, to 150, and there are nine blocks
-abbrev pub mpb1 : Form
-mpb1 = record { letter = 49; proportion = Byte; hundredths = 100; greatest = 150; blocks = 9 }
+-- ---- the form of a data run and of its file, MPB1 or MPB2 (02, change 7)
+-- the last letter of its mark, 1 or 2
+abbrev pub letterOf : Form → ℕ
+letterOf Mpb1 = 49
+letterOf Mpb2 = 50
 
--- the form that the length of a data run or of a file tells
-abbrev pub formOf : ℕ → Form
-formOf length = mpb1
+-- the kind of number of P
+abbrev pub proportionOf : Form → Number
+proportionOf Mpb1 = Byte
+proportionOf Mpb2 = Half
+
+-- how many hundredths of a per cent one of its P counts
+abbrev pub hundredthsOf : Form → ℕ
+hundredthsOf Mpb1 = 100
+hundredthsOf Mpb2 = 1
+
+-- its greatest P, in that counting
+abbrev pub greatestOf : Form → ℕ
+greatestOf Mpb1 = 150
+greatestOf Mpb2 = 15_000
+
+-- the blocks of its file
+abbrev pub blocksIn : Form → ℕ
+blocksIn Mpb1 = 9
+blocksIn Mpb2 = 10
 
 -- 506 of the 512 bytes of a block are data
 abbrev pub runLength : Form → ℕ
-runLength form = 506 * form .blocks
+runLength form = 506 * blocksIn form
 
 abbrev pub fileLength : Form → ℕ
-fileLength form = 512 * form .blocks
+fileLength form = 512 * blocksIn form
+
+-- the form that the length of a data run tells, and the form that the length of a file tells; any other length counts as MPB1's
+unfoldable pub formOfRun : ℕ → Form
+formOfRun length = cond (eqb length (runLength Mpb2)) Mpb2 Mpb1
+
+unfoldable pub formOfFile : ℕ → Form
+formOfFile length = cond (eqb length (fileLength Mpb2)) Mpb2 Mpb1
 
 -- the letters MPB, and the form's own
 abbrev pub markOf : Form → List ℕ
-markOf form = 77 ∷ 80 ∷ 66 ∷ form .letter ∷ []
+markOf form = 77 ∷ 80 ∷ 66 ∷ letterOf form ∷ []
+
+-- ---- P in hundredths of a per cent, whatever its form counts in
+-- the P at a place of a table
+abbrev pub proportionAt : Form → List ℕ → ℕ → ℕ → ℕ
+proportionAt form run offset place = hundredthsOf form * natAbs (entryAt (proportionOf form) run offset place)
+
+-- the bytes of a P in a form
+abbrev pub proportionBytes : Form → ℕ → List ℕ
+proportionBytes form hundredths = bytesOf (proportionOf form) (pos (hundredths / hundredthsOf form))
 
 -- ---- the offsets: every table begins where the one before it ends
 -- one number for each age from 20 to 150, or for each birth year from 1842 to 2110
@@ -93,7 +129,7 @@ ageProportionsAt = agePeriodsAt + ages
 
 -- the tables by birth year
 abbrev pub birthYearInitialRatesAt : Form → ℕ
-birthYearInitialRatesAt form = ageProportionsAt + widthOf (form .proportion) * ages
+birthYearInitialRatesAt form = ageProportionsAt + widthOf (proportionOf form) * ages
 
 abbrev pub birthYearLongTermRatesAt : Form → ℕ
 birthYearLongTermRatesAt form = birthYearInitialRatesAt form + 4 * birthYears
@@ -103,6 +139,10 @@ birthYearPeriodsAt form = birthYearLongTermRatesAt form + 4 * birthYears
 
 abbrev pub birthYearProportionsAt : Form → ℕ
 birthYearProportionsAt form = birthYearPeriodsAt form + birthYears
+
+-- where the fields end and the form's last zero bytes begin
+abbrev pub fieldsEnd : Form → ℕ
+fieldsEnd form = birthYearProportionsAt form + widthOf (proportionOf form) * birthYears
 
 -- ---- the limits
 -- F from 1992 to 2080, B to 2130 (02, change 2)

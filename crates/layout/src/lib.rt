@@ -1,5 +1,8 @@
-// The layout of a data run (01, "The basis file"): the kinds of number in it, its length, where each field stands, and the
+// The layout of a data run (01, "The basis file"): the kinds of number in it, its two forms, where each field stands, and the
 // limits of each.
+pub mod forms;
+pub mod offsets;
+
 ghost use mathlib.Core.Path.{_≡_};
 ghost use Prim.Native.Nat.{_+_, _≤_};
 ghost use lib.ListN.{length};
@@ -13,19 +16,24 @@ pub enum Number {
     SignedWord,
 }
 
-// The form MPB1: the last letter of its mark; the hundredths of a per cent that one of its P counts, which is a per cent; its
-// greatest P; and the blocks of its file, each with 506 data bytes among its 512.
-pub const LAST_LETTER: i64 = 49;
+// The form of a data run and of its file (02, change 7). They differ in the mark, in how P is written, and in length.
+pub enum Form {
+    Mpb1,
+    Mpb2,
+}
 
-pub const PROPORTION_HUNDREDTHS: u16 = 100;
+// The blocks of a file of each form, each with 506 data bytes among its 512.
+pub const MPB1_BLOCKS: usize = 9;
 
-pub const GREATEST_PROPORTION: i64 = 150;
+pub const MPB2_BLOCKS: usize = 10;
 
-pub const BLOCKS: usize = 9;
+pub const MPB1_RUN_LENGTH: usize = 506 * MPB1_BLOCKS;
 
-pub const RUN_LENGTH: usize = 506 * BLOCKS;
+pub const MPB2_RUN_LENGTH: usize = 506 * MPB2_BLOCKS;
 
-pub const FILE_LENGTH: usize = 512 * BLOCKS;
+pub const MPB1_FILE_LENGTH: usize = 512 * MPB1_BLOCKS;
+
+pub const MPB2_FILE_LENGTH: usize = 512 * MPB2_BLOCKS;
 
 // One number for each age from 20 to 150, or for each birth year from 1842 to 2110.
 pub const AGES: usize = 131;
@@ -37,7 +45,7 @@ pub const AGE_RATES_LENGTH: usize = 4 * AGES;
 
 pub const BIRTH_YEAR_RATES_LENGTH: usize = 4 * BIRTH_YEARS;
 
-// The offset of each field. Every table begins where the one before it ends.
+// The offset of each field that stands before the first P. Every table begins where the one before it ends.
 pub const FOUNDATION_AT: usize = 4;
 
 pub const BASE_AT: usize = 6;
@@ -57,15 +65,6 @@ pub const AGE_LONG_TERM_RATES_AT: usize = AGE_INITIAL_RATES_AT + AGE_RATES_LENGT
 pub const AGE_PERIODS_AT: usize = AGE_LONG_TERM_RATES_AT + AGE_RATES_LENGTH;
 
 pub const AGE_PROPORTIONS_AT: usize = AGE_PERIODS_AT + AGES;
-
-pub const BIRTH_YEAR_INITIAL_RATES_AT: usize = AGE_PROPORTIONS_AT + AGES;
-
-pub const BIRTH_YEAR_LONG_TERM_RATES_AT: usize = BIRTH_YEAR_INITIAL_RATES_AT
-    + BIRTH_YEAR_RATES_LENGTH;
-
-pub const BIRTH_YEAR_PERIODS_AT: usize = BIRTH_YEAR_LONG_TERM_RATES_AT + BIRTH_YEAR_RATES_LENGTH;
-
-pub const BIRTH_YEAR_PROPORTIONS_AT: usize = BIRTH_YEAR_PERIODS_AT + BIRTH_YEARS;
 
 // The zero bytes between the rate of discount and the base rates.
 pub const ZEROS: usize = BASE_RATES_AT - ZEROS_AT;
@@ -92,6 +91,18 @@ pub const RATE_LIMIT: i64 = 200_000_000;
 pub const LEAST_RATE: i64 = -RATE_LIMIT;
 
 pub const LONGEST_PERIOD: i64 = 50;
+
+// How many bytes a number has.
+pub fn width_of(kind: Number) -> usize
+    ensures { λ r. ⌜ r ≡ widthOf kind ⌝ }
+{
+    match kind {
+        Number::Byte => 1,
+        Number::Half => 2,
+        Number::Word => 4,
+        Number::SignedWord => 4,
+    }
+}
 
 // The number that stands at an offset.
 pub fn value_at(run: &[u8], kind: Number, at: usize) -> i64

@@ -8,7 +8,8 @@ use lib.IntN.{ℤ, pos, negℤ}
 use Rattle.arithmetic.specs.Fraction.{U}
 use Rattle.outcome.specs.Outcome.{Finding, refusedBy, refusal}
 use Rattle.layout.specs.declared.Number.the-variants.{Byte, Half, Word, SignedWord}
-use Rattle.layout.specs.Layout.{Form, formOf, runLength, ages, birthYears}
+use Rattle.layout.specs.declared.Form.{Form}
+use Rattle.layout.specs.Layout.{letterOf, proportionOf, greatestOf, formOfRun, runLength, fieldsEnd, ages, birthYears}
 use Rattle.layout.specs.Layout.{foundationAt, baseAt, additionAt, discountAt, zerosAt, baseRatesAt}
 use Rattle.layout.specs.Layout.{ageInitialRatesAt, ageLongTermRatesAt, agePeriodsAt, ageProportionsAt}
 use Rattle.layout.specs.Layout.{birthYearInitialRatesAt, birthYearLongTermRatesAt, birthYearPeriodsAt, birthYearProportionsAt}
@@ -27,8 +28,9 @@ markFields form =
     exactly (pos 77) 0 1
     ∷ exactly (pos 80) 1 1
     ∷ exactly (pos 66) 2 1
-    ∷ exactly (pos (form .letter)) 3 1
+    ∷ exactly (pos (letterOf form)) 3 1
     ∷ exactly (pos 0) zerosAt (baseRatesAt - zerosAt)
+    ∷ exactly (pos 0) (fieldsEnd form) (runLength form - fieldsEnd form)
     ∷ []
 
 -- ---- the fields by offset (5)
@@ -52,7 +54,7 @@ abbrev pub periods : ℕ → ℕ → Field
 periods offset count = field 5 Byte (pos 1) (pos longestPeriod) offset count
 
 abbrev pub proportions : Form → ℕ → ℕ → Field
-proportions form offset count = field 5 (form .proportion) (pos 0) (pos (form .greatest)) offset count
+proportions form offset count = field 5 (proportionOf form) (pos 0) (pos (greatestOf form)) offset count
 
 -- the four tables of the terms of improvement
 abbrev pub termFields : Form → ℕ → ℕ → ℕ → ℕ → ℕ → List Field
@@ -73,5 +75,5 @@ fieldsOf form = markFields form ++ (singleFields ++ (baseRates ∷ (ageFields fo
 -- ---- the length is not that of the form that it tells (1), then the fields
 unfoldable pub runCheck : List ℕ → Finding
 runCheck run =
-    let form = formOf (length run) in
+    let form = formOfRun (length run) in
     cond (eqb (length run) (runLength form)) (fieldsCheck run (fieldsOf form)) (refusedBy (refusal 1 0 0))

@@ -5,14 +5,24 @@
 ghost use mathlib.Core.Path.{_≡_};
 ghost use Prim.Native.Nat.{_+_, _*_, _≤_};
 ghost use lib.ListN.{length};
-ghost use Rattle.layout.specs.Layout.{mpb1, runLength, widthOf};
+ghost use Rattle.layout.specs.declared.Form.the-variants.{Mpb1};
+ghost use Rattle.layout.specs.Layout.{runLength, widthOf, proportionOf};
 ghost use Rattle.outcome.specs.Outcome.{finding};
 ghost use Rattle.field_check.specs.Field.{field, fieldCheck, fieldsCheck};
 ghost use Rattle.run_check.specs.Run.{exactly, markFields, singleFields, baseRates, rates, periods, proportions, ageFields, birthYearFields};
 use field_check::Field;
 use field_check::all_within;
 use field_check::check_field;
+use layout::Form;
 use layout::Number;
+use layout::forms::greatest_of;
+use layout::forms::letter_of;
+use layout::forms::proportion_of;
+use layout::offsets::birth_year_initial_rates_at;
+use layout::offsets::birth_year_long_term_rates_at;
+use layout::offsets::birth_year_periods_at;
+use layout::offsets::birth_year_proportions_at;
+use layout::offsets::fields_end;
 use outcome::Check;
 use outcome::first_of;
 
@@ -35,20 +45,25 @@ fn check_exactly(run: &[u8], byte: i64, offset: usize, count: usize) -> Check
 }
 
 // The letters of the mark and the zero bytes (4).
-pub(crate) fn check_mark(run: &[u8]) -> Check
-    requires { ⌜ length (now run) ≡ runLength mpb1 ⌝ }
-    ensures { λ r. ⌜ finding r ≡ fieldsCheck (now (run .entry)) (markFields mpb1) ⌝ }
+pub(crate) fn check_mark(run: &[u8], form: Form) -> Check
+    requires { ⌜ length (now run) ≡ runLength form ⌝ }
+    ensures { λ r. ⌜ finding r ≡ fieldsCheck (now (run .entry)) (markFields form) ⌝ }
 {
     let m = check_exactly(run, 77, 0, 1);
     let p = check_exactly(run, 80, 1, 1);
     let b = check_exactly(run, 66, 2, 1);
-    let last = check_exactly(run, layout::LAST_LETTER, 3, 1);
+    let last = check_exactly(run, letter_of(form), 3, 1);
     let zeros = check_exactly(run, 0, layout::ZEROS_AT, layout::ZEROS);
+    let end = fields_end(form);
+    let last_zeros = check_exactly(run, 0, end, run.len() - end);
     first_of(
         m,
         first_of(
             p,
-            first_of(b, first_of(last, first_of(zeros, Check::Passed))),
+            first_of(
+                b,
+                first_of(last, first_of(zeros, first_of(last_zeros, Check::Passed))),
+            ),
         ),
     )
 }
@@ -73,7 +88,7 @@ fn check_number(run: &[u8], kind: Number, low: i64, high: i64, offset: usize) ->
 
 // F, B, the constant addition and the rate of discount (5).
 pub(crate) fn check_single_fields(run: &[u8]) -> Check
-    requires { ⌜ length (now run) ≡ runLength mpb1 ⌝ }
+    requires { ⌜ runLength Mpb1 ≤ length (now run) ⌝ }
     ensures { λ r. ⌜ finding r ≡ fieldsCheck (now (run .entry)) singleFields ⌝ }
 {
     let foundation = check_number(
@@ -112,7 +127,7 @@ pub(crate) fn check_single_fields(run: &[u8]) -> Check
 
 // The base rates (5).
 pub(crate) fn check_base_rates(run: &[u8]) -> Check
-    requires { ⌜ length (now run) ≡ runLength mpb1 ⌝ }
+    requires { ⌜ runLength Mpb1 ≤ length (now run) ⌝ }
     ensures { λ r. ⌜ finding r ≡ fieldCheck (now (run .entry)) baseRates ⌝ }
 {
     let f = Field {
@@ -168,15 +183,15 @@ fn check_periods(run: &[u8], offset: usize, count: usize) -> Check
 }
 
 // P (5).
-fn check_proportions(run: &[u8], offset: usize, count: usize) -> Check
-    requires { ⌜ offset + count ≤ length (now run) ⌝ }
-    ensures { λ r. ⌜ finding r ≡ fieldCheck (now (run .entry)) (proportions mpb1 offset count) ⌝ }
+fn check_proportions(run: &[u8], form: Form, offset: usize, count: usize) -> Check
+    requires { ⌜ offset + count * widthOf (proportionOf form) ≤ length (now run) ⌝ }
+    ensures { λ r. ⌜ finding r ≡ fieldCheck (now (run .entry)) (proportions form offset count) ⌝ }
 {
     let f = Field {
         number: 5,
-        kind: Number::Byte,
+        kind: proportion_of(form),
         low: 0,
-        high: layout::GREATEST_PROPORTION,
+        high: greatest_of(form),
         offset: offset,
         count: count,
     };
@@ -187,14 +202,14 @@ fn check_proportions(run: &[u8], offset: usize, count: usize) -> Check
 }
 
 // The terms of improvement by age (5). Every count is known here too, which the loops are faster by.
-pub(crate) fn check_age_terms(run: &[u8]) -> Check
-    requires { ⌜ length (now run) ≡ runLength mpb1 ⌝ }
-    ensures { λ r. ⌜ finding r ≡ fieldsCheck (now (run .entry)) (ageFields mpb1) ⌝ }
+pub(crate) fn check_age_terms(run: &[u8], form: Form) -> Check
+    requires { ⌜ length (now run) ≡ runLength form ⌝ }
+    ensures { λ r. ⌜ finding r ≡ fieldsCheck (now (run .entry)) (ageFields form) ⌝ }
 {
     let initials = check_rates(run, layout::AGE_INITIAL_RATES_AT, layout::AGES);
     let longs = check_rates(run, layout::AGE_LONG_TERM_RATES_AT, layout::AGES);
     let periods = check_periods(run, layout::AGE_PERIODS_AT, layout::AGES);
-    let proportions = check_proportions(run, layout::AGE_PROPORTIONS_AT, layout::AGES);
+    let proportions = check_proportions(run, form, layout::AGE_PROPORTIONS_AT, layout::AGES);
     first_of(
         initials,
         first_of(
@@ -205,24 +220,21 @@ pub(crate) fn check_age_terms(run: &[u8]) -> Check
 }
 
 // The same by birth year (5).
-pub(crate) fn check_birth_year_terms(run: &[u8]) -> Check
-    requires { ⌜ length (now run) ≡ runLength mpb1 ⌝ }
-    ensures { λ r. ⌜ finding r ≡ fieldsCheck (now (run .entry)) (birthYearFields mpb1) ⌝ }
+pub(crate) fn check_birth_year_terms(run: &[u8], form: Form) -> Check
+    requires { ⌜ length (now run) ≡ runLength form ⌝ }
+    ensures { λ r. ⌜ finding r ≡ fieldsCheck (now (run .entry)) (birthYearFields form) ⌝ }
 {
-    let initials = check_rates(
-        run,
-        layout::BIRTH_YEAR_INITIAL_RATES_AT,
-        layout::BIRTH_YEARS,
-    );
+    let initials = check_rates(run, birth_year_initial_rates_at(form), layout::BIRTH_YEARS);
     let longs = check_rates(
         run,
-        layout::BIRTH_YEAR_LONG_TERM_RATES_AT,
+        birth_year_long_term_rates_at(form),
         layout::BIRTH_YEARS,
     );
-    let periods = check_periods(run, layout::BIRTH_YEAR_PERIODS_AT, layout::BIRTH_YEARS);
+    let periods = check_periods(run, birth_year_periods_at(form), layout::BIRTH_YEARS);
     let proportions = check_proportions(
         run,
-        layout::BIRTH_YEAR_PROPORTIONS_AT,
+        form,
+        birth_year_proportions_at(form),
         layout::BIRTH_YEARS,
     );
     first_of(

@@ -10,7 +10,8 @@ use Rattle.basis.specs.declared.Convergence.{Convergence}
 use Rattle.little_endian.specs.Bytes.{i32Bytes}
 use Rattle.outcome.specs.Outcome.{Finding, passed, refusal, unless, firstOf}
 use Rattle.field_check.specs.Field.{between}
-use Rattle.layout.specs.Layout.{formOf, runLength, ages, birthYears, rateLimit, ageLongTermRatesAt, birthYearInitialRatesAt}
+use Rattle.layout.specs.declared.Form.{Form}
+use Rattle.layout.specs.Layout.{proportionBytes, formOfRun, runLength, fieldsEnd, ages, birthYears, rateLimit, ageLongTermRatesAt, birthYearInitialRatesAt}
 use Rattle.run_check.specs.Run.{runCheck}
 use Rattle.lent.specs.Lent.{roomCheck}
 use Rattle.basis.specs.Basis.{Basis, basisOf}
@@ -26,7 +27,7 @@ shortFormCheck run rate =
 
 -- before these the lent output's room (11), which is that of the run's own form
 abbrev pub shortCheck : List ℕ → ℤ → List ℕ → Finding
-shortCheck run rate out = firstOf (roomCheck (runLength (formOf (length run))) out) (shortFormCheck run rate)
+shortCheck run rate out = firstOf (roomCheck (runLength (formOfRun (length run))) out) (shortFormCheck run rate)
 
 -- ---- the rates by age
 -- the share of S at an age, in thirtieths: 30 less what the age exceeds 90 (02, change 4). A difference of natural numbers is 0 at
@@ -47,31 +48,35 @@ longTermRates rate age (suc n) = i32Bytes (longTermOf rate age) ++ longTermRates
 abbrev pub everyPeriod : ℕ
 everyPeriod = 20
 
+-- 50 per cent, in hundredths
 abbrev pub everyProportion : ℕ
-everyProportion = 50
+everyProportion = 5_000
 
 abbrev pub periods : ℕ → List ℕ
 periods n = replicate n everyPeriod
 
-abbrev pub proportions : ℕ → List ℕ
-proportions n = replicate n everyProportion
+-- as the form writes them
+unfoldable pub proportions : Form → ℕ → List ℕ
+proportions form zero = []
+proportions form (suc n) = proportionBytes form everyProportion ++ proportions form n
 
 -- what stands before the age L, then the age L, T and P
-unfoldable pub agesOf : List ℕ → ℤ → List ℕ
-agesOf run rate = take ageLongTermRatesAt run ++ longTermRates rate 20 ages ++ periods ages ++ proportions ages
+unfoldable pub agesOf : Form → List ℕ → ℤ → List ℕ
+agesOf form run rate = take ageLongTermRatesAt run ++ longTermRates rate 20 ages ++ periods ages ++ proportions form ages
 
--- the birth-year I, then L, which are 0, T and P
-unfoldable pub birthYearsOf : List ℕ → List ℕ
-birthYearsOf run =
-    take (4 * birthYears) (drop (birthYearInitialRatesAt (formOf (length run))) run)
-    ++ replicate (4 * birthYears) 0 ++ periods birthYears ++ proportions birthYears
+-- the birth-year I, then L, which are 0, T and P, and the form's last zero bytes
+unfoldable pub birthYearsOf : Form → List ℕ → List ℕ
+birthYearsOf form run =
+    take (4 * birthYears) (drop (birthYearInitialRatesAt form) run)
+    ++ replicate (4 * birthYears) 0 ++ periods birthYears ++ proportions form birthYears ++ replicate (runLength form - fieldsEnd form) 0
 
+-- in the run's own form
 unfoldable pub shortFormOf : List ℕ → ℤ → List ℕ
-shortFormOf run rate = agesOf run rate ++ birthYearsOf run
+shortFormOf run rate = let form = formOfRun (length run) in agesOf form run rate ++ birthYearsOf form run
 
--- ---- what it stands for: P is 50 per cent, in hundredths
+-- ---- what it stands for
 abbrev pub shortTerms : ℤ → ℤ → Convergence
-shortTerms initial long = record { initial = initial; long = long; period = 20; remaining = 5_000 }
+shortTerms initial long = record { initial = initial; long = long; period = everyPeriod; remaining = everyProportion }
 
 -- a basis that differs from another only in long-term rates, T and P
 pub record Shortened (b : Basis) (rate : ℤ) (short : Basis) : Type 0 where

@@ -1,5 +1,5 @@
-// The short form of a data run: one long-term rate S in place of its long-term rates, with every period 20 and every
-// proportion 50 (01, "Short form").
+// The short form of a data run, in the run's own form: one long-term rate S in place of its long-term rates, with every period
+// 20 and every proportion 50 per cent (01, "Short form").
 mod parts;
 mod rates;
 
@@ -34,13 +34,14 @@ pub fn short_form(run: &[u8], rate: i32, out: &mut [u8]) -> Check
     ensures { λ r. ⌜ finding r ≡ shortCheck (now (run .entry)) rate (now (out .entry)) ⌝ }
     ensures { λ r. ⌜ now (out .exit) ≡ written (finding r) (shortFormOf (now (run .entry)) rate) (now (out .entry)) ⌝ }
 {
+    let form = layout::forms::form_of_run(run.len());
     let c = outcome::first_of(
-        lent::check_room(layout::RUN_LENGTH, out.len()),
+        lent::check_room(layout::forms::run_length(form), out.len()),
         check_short_form(run, rate),
     );
     if let Check::Passed = c {
-        parts::put_ages(run, rate, out);
-        parts::put_birth_years(run, out);
+        parts::put_ages(run, form, rate, out);
+        parts::put_birth_years(run, form, out);
     }
     c
 }

@@ -1,12 +1,18 @@
 // The parts of the output, one after another.
 ghost use mathlib.Core.Path.{_≡_};
-ghost use Prim.Native.Nat.{_≤_};
+ghost use Prim.Native.Nat.{_+_, _*_, _≤_};
 ghost use lib.ListN.{length};
 ghost use lib.IntN.{natAbs};
-ghost use Rattle.layout.specs.Layout.{mpb1, runLength, ages, ageLongTermRatesAt, agePeriodsAt, birthYearInitialRatesAt};
+ghost use Rattle.layout.specs.Layout.{widthOf, proportionOf, runLength, ages, birthYears, ageLongTermRatesAt, agePeriodsAt, birthYearInitialRatesAt};
 ghost use Rattle.lent.specs.Lent.{placed};
-ghost use Rattle.short_form.specs.ShortForm.{longTermLimit, longTermRates, agesOf, birthYearsOf};
+ghost use Rattle.short_form.specs.ShortForm.{longTermLimit, longTermRates, proportions, agesOf, birthYearsOf};
 use crate::rates;
+use layout::Form;
+use layout::offsets::birth_year_initial_rates_at;
+use layout::offsets::birth_year_long_term_rates_at;
+use layout::offsets::birth_year_periods_at;
+use layout::offsets::birth_year_proportions_at;
+use layout::offsets::fields_end;
 
 // The age L.
 fn put_rates(rate: i32, out: &mut [u8])
@@ -21,38 +27,46 @@ fn put_rates(rate: i32, out: &mut [u8])
     }
 }
 
+// P of 50 per cent, n times.
+fn put_proportions(form: Form, n: usize, out: &mut [u8], at: usize)
+    requires { ⌜ (n ≤ birthYears) × (at + widthOf (proportionOf form) * n ≤ length (now out)) ⌝ }
+    ensures { λ _. ⌜ now (out .exit) ≡ placed (now (out .entry)) at (proportions form n) ⌝ }
+{
+    let width = layout::offsets::proportion_width(form);
+    let mut i: usize = 0;
+    while i < n {
+        proportion::put_proportion(form, 5_000, out, at + width * i);
+        i += 1;
+    }
+}
+
 // What stands before the age L, kept, then the age L, T and P.
-pub(crate) fn put_ages(run: &[u8], rate: i32, out: &mut [u8])
-    requires { ⌜ (length (now run) ≡ runLength mpb1) × (natAbs rate ≤ longTermLimit) × (runLength mpb1 ≤ length (now out)) ⌝ }
-    ensures { λ _. ⌜ now (out .exit) ≡ placed (now (out .entry)) 0 (agesOf (now (run .entry)) rate) ⌝ }
+pub(crate) fn put_ages(run: &[u8], form: Form, rate: i32, out: &mut [u8])
+    requires { ⌜ (length (now run) ≡ runLength form) × (natAbs rate ≤ longTermLimit) × (runLength form ≤ length (now out)) ⌝ }
+    ensures { λ _. ⌜ now (out .exit) ≡ placed (now (out .entry)) 0 (agesOf form (now (run .entry)) rate) ⌝ }
 {
     lent::put(&run[0..layout::AGE_LONG_TERM_RATES_AT], out, 0);
     put_rates(rate, out);
     lent::put_repeated(20, layout::AGES, out, layout::AGE_PERIODS_AT);
-    lent::put_repeated(50, layout::AGES, out, layout::AGE_PROPORTIONS_AT);
+    put_proportions(form, layout::AGES, out, layout::AGE_PROPORTIONS_AT);
 }
 
-// The birth-year I, kept, then the birth-year L, T and P.
-pub(crate) fn put_birth_years(run: &[u8], out: &mut [u8])
-    requires { ⌜ (length (now run) ≡ runLength mpb1) × (runLength mpb1 ≤ length (now out)) ⌝ }
-    ensures { λ _. ⌜ now (out .exit) ≡ placed (now (out .entry)) (birthYearInitialRatesAt mpb1) (birthYearsOf (now (run .entry))) ⌝ }
+// The birth-year I, kept, then the birth-year L, T and P, and the form's last zero bytes.
+pub(crate) fn put_birth_years(run: &[u8], form: Form, out: &mut [u8])
+    requires { ⌜ (length (now run) ≡ runLength form) × (runLength form ≤ length (now out)) ⌝ }
+    ensures { λ _. ⌜ now (out .exit) ≡ placed (now (out .entry)) (birthYearInitialRatesAt form) (birthYearsOf form (now (run .entry))) ⌝ }
 {
-    lent::put(
-        &run[layout::BIRTH_YEAR_INITIAL_RATES_AT..layout::BIRTH_YEAR_LONG_TERM_RATES_AT],
-        out,
-        layout::BIRTH_YEAR_INITIAL_RATES_AT,
-    );
-    lent::put_repeated(
-        0,
-        layout::BIRTH_YEAR_RATES_LENGTH,
-        out,
-        layout::BIRTH_YEAR_LONG_TERM_RATES_AT,
-    );
-    lent::put_repeated(20, layout::BIRTH_YEARS, out, layout::BIRTH_YEAR_PERIODS_AT);
-    lent::put_repeated(
-        50,
+    let from = birth_year_initial_rates_at(form);
+    let long = birth_year_long_term_rates_at(form);
+    let end = fields_end(form);
+    lent::put(&run[from..long], out, from);
+    lent::put_repeated(0, layout::BIRTH_YEAR_RATES_LENGTH, out, long);
+    lent::put_repeated(20, layout::BIRTH_YEARS, out, birth_year_periods_at(form));
+    put_proportions(
+        form,
         layout::BIRTH_YEARS,
         out,
-        layout::BIRTH_YEAR_PROPORTIONS_AT,
+        birth_year_proportions_at(form),
     );
+    lent::put_repeated(0, run.len() - end, out, end);
 }

@@ -3,7 +3,8 @@ use Prim.Native.Nat.{ℕ, _*_}
 use mathlib.Core.List.{List}
 use lib.ListN.{length, take, drop}
 use Rattle.outcome.specs.Outcome.{Finding, passed, refusedBy}
-use Rattle.layout.specs.Layout.{widthOf, Form, formOf, ages, birthYears, baseRatesAt}
+use Rattle.layout.specs.declared.Form.{Form}
+use Rattle.layout.specs.Layout.{widthOf, proportionOf, formOfRun, ages, birthYears, baseRatesAt}
 use Rattle.layout.specs.Layout.{ageInitialRatesAt, ageLongTermRatesAt, agePeriodsAt, ageProportionsAt}
 use Rattle.layout.specs.Layout.{birthYearInitialRatesAt, birthYearLongTermRatesAt, birthYearPeriodsAt, birthYearProportionsAt}
 use Rattle.run_check.specs.Run.{runCheck}
@@ -18,11 +19,11 @@ stretchOf form BaseRates = (baseRatesAt, 4 * ages)
 stretchOf form AgeInitialRates = (ageInitialRatesAt, 4 * ages)
 stretchOf form AgeLongTermRates = (ageLongTermRatesAt, 4 * ages)
 stretchOf form AgePeriods = (agePeriodsAt, ages)
-stretchOf form AgeProportions = (ageProportionsAt, widthOf (form .proportion) * ages)
+stretchOf form AgeProportions = (ageProportionsAt, widthOf (proportionOf form) * ages)
 stretchOf form BirthYearInitialRates = (birthYearInitialRatesAt form, 4 * birthYears)
 stretchOf form BirthYearLongTermRates = (birthYearLongTermRatesAt form, 4 * birthYears)
 stretchOf form BirthYearPeriods = (birthYearPeriodsAt form, birthYears)
-stretchOf form BirthYearProportions = (birthYearProportionsAt form, widthOf (form .proportion) * birthYears)
+stretchOf form BirthYearProportions = (birthYearProportionsAt form, widthOf (proportionOf form) * birthYears)
 
 -- the stretch that is handed back; of a refused run it has length 0
 abbrev pub handedBack : Finding → Stretch → Stretch
@@ -30,7 +31,7 @@ handedBack passed stretch = stretch
 handedBack (refusedBy r) stretch = (0, 0)
 
 abbrev pub tableStretch : List ℕ → Table → Stretch
-tableStretch run table = handedBack (runCheck run) (stretchOf (formOf (length run)) table)
+tableStretch run table = handedBack (runCheck run) (stretchOf (formOfRun (length run)) table)
 
 unfoldable pub tableStart : List ℕ → Table → ℕ
 tableStart run table = tableStretch run table .0

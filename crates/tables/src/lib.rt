@@ -1,8 +1,13 @@
 // The nine tables of a data run, each handed back as that stretch of the lent run itself.
 ghost use mathlib.Core.Path.{_≡_};
 ghost use Prim.Native.Nat.{_+_};
-ghost use Rattle.layout.specs.Layout.{mpb1};
 ghost use Rattle.tables.specs.Tables.{stretchOf, tableStart, tableOf};
+use layout::Form;
+use layout::offsets::birth_year_initial_rates_at;
+use layout::offsets::birth_year_long_term_rates_at;
+use layout::offsets::birth_year_periods_at;
+use layout::offsets::birth_year_proportions_at;
+use layout::offsets::proportion_width;
 use outcome::Check;
 
 // The tables in the order in which they stand in the run: one entry for each age from 20, or for each birth year from
@@ -22,8 +27,8 @@ pub enum Table {
 // A stretch of a run: its offset, and how many bytes it has.
 struct Stretch(usize, usize);
 
-fn stretch_of(table: Table) -> Stretch
-    ensures { λ r. ⌜ r ≡ stretchOf mpb1 table ⌝ }
+fn stretch_of(form: Form, table: Table) -> Stretch
+    ensures { λ r. ⌜ r ≡ stretchOf form table ⌝ }
 {
     match table {
         Table::BaseRates => Stretch(layout::BASE_RATES_AT, layout::AGE_RATES_LENGTH),
@@ -33,19 +38,22 @@ fn stretch_of(table: Table) -> Stretch
             layout::AGE_RATES_LENGTH,
         ),
         Table::AgePeriods => Stretch(layout::AGE_PERIODS_AT, layout::AGES),
-        Table::AgeProportions => Stretch(layout::AGE_PROPORTIONS_AT, layout::AGES),
+        Table::AgeProportions => Stretch(
+            layout::AGE_PROPORTIONS_AT,
+            proportion_width(form) * layout::AGES,
+        ),
         Table::BirthYearInitialRates => Stretch(
-            layout::BIRTH_YEAR_INITIAL_RATES_AT,
+            birth_year_initial_rates_at(form),
             layout::BIRTH_YEAR_RATES_LENGTH,
         ),
         Table::BirthYearLongTermRates => Stretch(
-            layout::BIRTH_YEAR_LONG_TERM_RATES_AT,
+            birth_year_long_term_rates_at(form),
             layout::BIRTH_YEAR_RATES_LENGTH,
         ),
-        Table::BirthYearPeriods => Stretch(layout::BIRTH_YEAR_PERIODS_AT, layout::BIRTH_YEARS),
+        Table::BirthYearPeriods => Stretch(birth_year_periods_at(form), layout::BIRTH_YEARS),
         Table::BirthYearProportions => Stretch(
-            layout::BIRTH_YEAR_PROPORTIONS_AT,
-            layout::BIRTH_YEARS,
+            birth_year_proportions_at(form),
+            proportion_width(form) * layout::BIRTH_YEARS,
         ),
     }
 }
@@ -60,7 +68,7 @@ pub fn table_of(run: &[u8], table: Table) -> &[u8]
     if let Check::Refused(_) = c {
         return &run[0..0];
     }
-    let s = stretch_of(table);
+    let s = stretch_of(layout::forms::form_of_run(run.len()), table);
     let start = s.0;
     let end = start + s.1;
     &run[start..end]

@@ -9,6 +9,7 @@ use mir.Facts.{toZ-ofZ, sfits-widen}
 use Rattle.arithmetic.specs.Fraction.{U}
 use Rattle.basis.specs.Basis.{basisOf, accumulationOf}
 use Rattle.basis.proofs.Accumulation.{size, natural, fits}
+use Rattle.basis.proofs.Lengths.{long-enough}
 use borrow.Author.Needs.{needs}
 use Rattle.basis.proofs.fields.accumulation.Statement.{statement}
 use Rattle.basis.proofs.fields.accumulation.Tie as tie
@@ -32,6 +33,9 @@ at c =
       wide = toZ-ofZ (sfits-widen tt f);
     }
 
+read-i32-requires : tie.Need-read-i32-requires
+read-i32-requires c κs = omega (arith, long-enough _ (c .before .pre))
+
 cast-result : tie.Need-cast-result
 cast-result c = rw (at c .read) (sfits-widen {w = w32} tt (record { sfits = c .read-i32 .ok }))
 
@@ -51,4 +55,4 @@ returns c =
     rw (a .read, a .wide, toZ-ofZ (fits d (a .low) (a .high))) (ap (λ z. natAbs (pos U +ℤ z)) (c .read-i32 .ensures))
 
 pub accumulation-spec : {M : Type 1} → statement M
-accumulation-spec = tie.close (tie.spec (search needs) cast-result add-result cast-result-2 returns)
+accumulation-spec = tie.close (tie.spec read-i32-requires cast-result add-result cast-result-2 returns)

@@ -7,11 +7,12 @@ use Rattle.basis.proofs.fields.terms_at.Statement.{statement}
 use Rattle.basis.proofs.fields.terms_at.Tie as tie
 
 returns : tie.Need-returns
-returns c = let d = c .before .before .before in
-    simp (one-mul, c .hundredths .ensures, got w32 (d .before .read-i32 .ok) (d .before .read-i32 .ensures), got w32 (d .read-i322 .ok) (d .read-i322 .ensures))
+returns c =
+    let d = c .before .before in
+    simp (one-mul, c .proportion-at .ensures, got w32 (d .before .read-i32 .ok) (d .before .read-i32 .ensures), got w32 (d .read-i322 .ok) (d .read-i322 .ensures))
 
 pub terms-at-spec : {M : Type 1} → statement M
 terms-at-spec =
     tie.close
     (tie.spec (search needs) (search needs) (search needs) (search needs) (search needs) (search needs) (search needs)
-    (search needs) (search needs) (search needs) (search needs) returns)
+    (search needs) (search needs) returns)

@@ -1,0 +1,63 @@
+// The fields of an accepted data run, laid out as MPB1.
+ghost use mathlib.Core.Path.{_≡_};
+ghost use Prim.Native.Nat.{_+_, _*_, _≤_};
+ghost use lib.ListN.{length};
+ghost use Rattle.layout.specs.declared.Form.the-variants.{Mpb1};
+ghost use Rattle.layout.specs.Layout.{widthOf, proportionOf, formOfRun, runLength, birthYears};
+ghost use Rattle.lent.specs.Lent.{placed};
+ghost use Rattle.basis.specs.Basis.{Accepted};
+ghost use Rattle.old_form.specs.OldForm.{proportionsIn, inForm};
+use layout::Form;
+use layout::forms::form_of_run;
+use layout::offsets::birth_year_initial_rates_at;
+use layout::offsets::birth_year_proportions_at;
+
+// n P of a table, each over 100.
+fn put_per_cents(run: &[u8], offset: usize, n: usize, out: &mut [u8], at: usize)
+    requires { ⌜ Accepted (now run) × (n ≤ birthYears) × (at + n ≤ length (now out)) ⌝ }
+    requires { ⌜ offset + widthOf (proportionOf (formOfRun (length (now run)))) * n ≤ length (now run) ⌝ }
+    ensures { λ _. ⌜ now (out .exit) ≡ placed (now (out .entry)) at (proportionsIn Mpb1 (now (run .entry)) offset 0 n) ⌝ }
+{
+    let form = form_of_run(run.len());
+    let mut place: usize = 0;
+    while place < n {
+        let p = proportion::proportion_at(run, form, offset, place);
+        proportion::put_proportion(Form::Mpb1, p, out, at + place);
+        place += 1;
+    }
+}
+
+// The mark, the fields before the age P, the age P, the fields by birth year before P, and P.
+pub(crate) fn lay_old_form(run: &[u8], out: &mut [u8])
+    requires { ⌜ Accepted (now run) × (length (now out) ≡ runLength Mpb1) ⌝ }
+    ensures { λ _. ⌜ now (out .exit) ≡ inForm Mpb1 (now (run .entry)) ⌝ }
+{
+    let form = form_of_run(run.len());
+    let from = birth_year_initial_rates_at(form);
+    let proportions = birth_year_proportions_at(form);
+    lent::put(b"MPB1", out, 0);
+    lent::put(
+        &run[layout::FOUNDATION_AT..layout::AGE_PROPORTIONS_AT],
+        out,
+        layout::FOUNDATION_AT,
+    );
+    put_per_cents(
+        run,
+        layout::AGE_PROPORTIONS_AT,
+        layout::AGES,
+        out,
+        layout::AGE_PROPORTIONS_AT,
+    );
+    lent::put(
+        &run[from..proportions],
+        out,
+        birth_year_initial_rates_at(Form::Mpb1),
+    );
+    put_per_cents(
+        run,
+        proportions,
+        layout::BIRTH_YEARS,
+        out,
+        birth_year_proportions_at(Form::Mpb1),
+    );
+}
