@@ -6,10 +6,10 @@ from typing import NamedTuple, Optional
 
 from .basis import FILE_LENGTH_2, Basis
 from .errors import CommandError, naming
+from .explained import explained, explained_history
 from .outputs import Place, drafted, held, on_disk, place_of, put_all
 from .refusals import Refusal
 from .signals import leave_out, put_off
-from .tables import explained, explained_history
 
 # The one name that the points program reads, beside a basis of this name only.
 BASIS_FILE, HISTORY_FILE = "basis.bin", "history.bin"

@@ -14,6 +14,7 @@ from .carried import Counts
 from .csv_source import Source
 from .decimals import decimal
 from .errors import Collected, CommandError
+from .explained import actual_years, explained
 from .layout import ACTUAL_FILE, FILES, OLD_FORM, form_of_run
 from .members import value_members
 from .options import REFUSED_ROWS
@@ -24,7 +25,7 @@ from .roll_command import roll
 from .runs import (Hashed, expected, lines_said, number_of, opened, refusals_said, say, source_of, warn, warn_of_last_line,
                    warn_of_rows)
 from .shown_tables import show
-from .tables import Tables, actual_years, explained
+from .tables import Tables
 
 
 # ---- value

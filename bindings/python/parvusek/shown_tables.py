@@ -8,11 +8,12 @@ from typing import Iterable, Iterator, Optional, Sequence
 
 from .basis import Basis
 from .errors import Collected, naming
+from .explained import actual_years
 from .history import improvements_of
 from .layout import (ACTUAL_FILE, FILES, FIRST_AGE, IMPROVEMENT, NEW_FORM, SETTINGS, SETTINGS_FILE, TABLE_FILES,
                      form_of_run)
 from .outputs import drafted, not_an_input, place_of, put_all
-from .tables import ACTUAL_HEADER, FORM_SETTING, TableError, actual_years
+from .tables import ACTUAL_HEADER, FORM_SETTING, TableError
 
 
 def show(basis: Basis, folder: Path, overwrite: bool = False, inputs: Sequence[tuple[str, Optional[str]]] = ()) -> None:

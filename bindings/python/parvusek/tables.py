@@ -10,9 +10,10 @@ from .csv_rows import NotCsv, Row, Rows
 from .csv_source import EncodingError, Source
 from .decimals import IN_WORDS, TooManyDecimals, rounded_units, units
 from .errors import CommandError, naming
-from .history import history_file, improvement_at, improvements_of, offset_of
+from .explained import actual_place, cell, explained, explained_history, said_of_years
+from .history import history_file, offset_of
 from .layout import (ACTUAL_FILE, AGES, FILES, FIRST_AGE, FORMS, IMPROVEMENT, NEW_FORM, OLD_FORM, SETTINGS,
-                     SETTINGS_FILE, TABLE_FILES, Column, Form, form_of_run)
+                     SETTINGS_FILE, TABLE_FILES, Column, Form)
 from .refusals import Refusal
 
 ACTUAL_HEADER = ("age", "year", "improvement")
@@ -197,7 +198,7 @@ class Tables:
     def _actual(self, years: range) -> Optional[list[list[int]]]:
         is_there = (self.folder / ACTUAL_FILE).exists()
         if is_there != bool(years):
-            self._is_wrong(f"{self.folder} has {'an' if is_there else 'no'} {ACTUAL_FILE}; {_said(years)}")
+            self._is_wrong(f"{self.folder} has {'an' if is_there else 'no'} {ACTUAL_FILE}; {said_of_years(years)}")
         return self._improvements(years) if is_there and years else None
 
     def _improvements(self, years: range) -> list[list[int]]:
@@ -212,12 +213,12 @@ class Tables:
             numbers.append(self._improvement(age, year, years, text))
         else:
             if rows is not None and len(numbers) < len(wanted):
-                self._is_wrong(f"{ACTUAL_FILE}: {_cell(*wanted[len(numbers)])} is missing; "
-                               f"the table goes to {_cell(*wanted[-1])}")
+                self._is_wrong(f"{ACTUAL_FILE}: {cell(*wanted[len(numbers)])} is missing; "
+                               f"the table goes to {cell(*wanted[-1])}")
         return [numbers[start:start + AGES] for start in range(0, len(numbers), AGES)]
 
     def _improvement(self, age: str, year: str, years: range, text: str) -> int:
-        place = _place(age, year)
+        place = actual_place(age, year)
         try:
             number = self._number(IMPROVEMENT, text)
         except ValueError as error:
@@ -288,68 +289,13 @@ def _whole(text: str) -> int:
     return int(text[:400])
 
 
-# ---- refusals in the words of the tables
-
-def explained(refusal: Refusal, run: bytes) -> str:
-    """A basis's refusal in a sentence; of a field it names the table, the place and the limits, and of a proportion that the
-    old form does not hold how many more there are."""
-    found = form_of_run(run).field_at(refusal.first) if refusal.number in (5, 17) else None
-    if found is None:
-        return str(refusal)
-    column, entry = found
-    number = column.numbers(run)[entry]
-    if refusal.number == 5:
-        return f"{column.outside(column.place(entry), number)} ({refusal})"
-    return f"{column.place(entry)}: {column.text(number)} is no whole per cent{_more(run)} ({refusal})"
-
-
-def _more(run: bytes) -> str:
-    """How many proportions of the new form are no whole per cent."""
-    count = sum(number % 100 != 0 for column in NEW_FORM.proportions for number in column.numbers(run))
-    return f", the first of {count} that are none" if count > 1 else ""
-
-
-def explained_history(refusal: Refusal, basis: Basis, history: bytes) -> str:
-    """A history's refusal in a sentence: of its length it says why, of a field the place and the limits."""
-    if refusal.number == 13:
-        return f"{_said(actual_years(basis))} ({refusal})"
-    if refusal.number == 5:
-        age, year = improvement_at(refusal.first)
-        place = _place(str(age), str(actual_years(basis)[year]))
-        return f"{IMPROVEMENT.outside(place, improvements_of(history)[year][age - FIRST_AGE])} ({refusal})"
-    return str(refusal)
-
-
-def actual_years(basis: Basis) -> range:
-    """The years whose improvements are the history's: B + 1 to F, none with B at F or later."""
-    return range(basis.base_year + 1, basis.foundation_year + 1)
-
-
-def _said(years: range) -> str:
-    """Why a basis has a history of so many years, or none."""
-    base_year, foundation_year = years.start - 1, years.stop - 1
-    if not years:
-        return (f"the base year {base_year} is not before the foundation year {foundation_year}, "
-                "so that no actual improvements belong to it")
-    return (f"the base year {base_year} is before the foundation year {foundation_year}, "
-            f"so that the actual improvements of {years[0]} to {years[-1]} belong to it")
-
-
 def _misplaced(age: str, year: str, years: range, wanted: Sequence[tuple[str, str]], entry: int) -> str:
     """What is wrong with a row that is not the one wanted at its place."""
     if (age, year) in wanted[:entry]:
-        return f"{_cell(age, year)} is there twice"
+        return f"{cell(age, year)} is there twice"
     if year not in map(str, years):
         return (f"year {year} is not within {years[0]} to {years[-1]}, "
                 "from the year after the base year to the foundation year")
     if (age, year) not in wanted:
         return f"age {age} is not within {FIRST_AGE} to {FIRST_AGE + AGES - 1}"
-    return f"{_cell(age, year)} stands where {_cell(*wanted[entry])} is wanted"
-
-
-def _cell(age: str, year: str) -> str:
-    return f"age {age}, year {year}"
-
-
-def _place(age: str, year: str) -> str:
-    return f"{ACTUAL_FILE}, {_cell(age, year)}, {IMPROVEMENT.name}"
+    return f"{cell(age, year)} stands where {cell(*wanted[entry])} is wanted"

@@ -7,18 +7,20 @@ from pathlib import Path
 
 from reference_model import bases
 from reference_model.basis import encode
+from reference_model.finer_bases import finer_bases, fitted
 from reference_model.layout import limits
 from parvusek import Basis, Refusal
+from parvusek.explained import explained
 from parvusek.layout import ACTUAL_FILE, FILES, FORMS, NEW_FORM, OLD_FORM, SETTINGS
 from parvusek.shown_tables import show
-from parvusek.tables import TableError, Tables, basis_of, explained
+from parvusek.tables import TableError, Tables, basis_of
 
 from . import SAMPLE, refused_tables
 
 
 class RoundTrip(unittest.TestCase):
     def test_basis_to_tables_and_back(self) -> None:
-        drawn = [bases.random_basis(seed, -200_000_000, 200_000_000) for seed in range(5)]
+        drawn = [bases.random_basis(seed, -200_000_000, 200_000_000) for seed in range(5)] + list(finer_bases().values())
         for reference_basis in [bases.sample(), bases.realistic(), bases.limits_basis(1), *drawn]:
             basis = Basis(bytes(encode(reference_basis)))
             with tempfile.TemporaryDirectory() as folder:
@@ -42,6 +44,14 @@ class RoundTrip(unittest.TestCase):
             for file in FILES + (ACTUAL_FILE,):
                 self.assertEqual((Path(folder) / file).read_bytes(), (SAMPLE / "older" / "tables" / file).read_bytes())
 
+    def test_sample_in_the_new_form(self) -> None:
+        basis = basis_of(SAMPLE / "finer" / "tables")
+        self.assertEqual(basis.to_file(), (SAMPLE / "finer" / "basis.bin").read_bytes())
+        with tempfile.TemporaryDirectory() as folder:
+            show(basis, Path(folder))
+            for file in FILES:
+                self.assertEqual((Path(folder) / file).read_bytes(), (SAMPLE / "finer" / "tables" / file).read_bytes())
+
     def test_shown_over_other_tables_only_if_told(self) -> None:
         basis = basis_of(SAMPLE / "tables")
         with tempfile.TemporaryDirectory() as folder:
@@ -53,10 +63,11 @@ class RoundTrip(unittest.TestCase):
 
 class Layout(unittest.TestCase):
     def test_fields_are_those_of_the_reference_model(self) -> None:
-        run = bytes(encode(bases.realistic()))
-        found = [(column.offset + column.width * entry, number, column.low, column.high)
-                 for column in SETTINGS + OLD_FORM.columns for entry, number in enumerate(column.numbers(run))]
-        self.assertEqual(found, list(limits(run)))
+        for form, basis in ((OLD_FORM, bases.realistic()), (NEW_FORM, fitted())):
+            run = bytes(encode(basis))
+            found = [(column.offset + column.width * entry, number, column.low, column.high)
+                     for column in SETTINGS + form.columns for entry, number in enumerate(column.numbers(run))]
+            self.assertEqual(found, list(limits(run)))
 
     def test_field_at(self) -> None:
         for form in FORMS:

@@ -130,6 +130,10 @@ fn both_forms_of_a_basis_answer_the_same() {
 
 #[test]
 fn hundredths_count() {
+    let finer = Basis::open(format!("{SAMPLES}/finer/basis.bin")).expect("the sample in the new form is accepted");
+    assert_eq!(finer.annuity(Kind::Cohort, 65, 0, 2010), Ok(15_616_398_202));
+    assert_eq!(finer.to_old_form(), Err(refusal(17, 1733)));
+
     let mut run = widened(old().run());
     run[4..12].copy_from_slice(&[214, 7, 214, 7, 0, 0, 0, 0]); // F and B 2006, no addition
     for (start, rate) in [(554, 20_000_000_i32), (1078, 10_000_000)] {
