@@ -130,10 +130,12 @@ _CHECK = f"""Says whether the engine accepts a basis file, with its history, and
 
 _CONVERT = f"""Writes a basis file in the old form, MPB1, for programs that read no other.
 
-OUT.bin answers as BASIS.bin does: it holds the same fields, each proportion in whole per cent. If one is no
-whole per cent there is no such file: the error names its age or birth year, its value and how many there
-are. A basis that is MPB1 already is written as it is. The history goes with it unchanged, as
-OUT.history.bin. Nothing that is there is written over without --force, and never BASIS.bin itself.
+OUT.bin answers as BASIS.bin does: it holds the same fields, each proportion in whole per cent. Nothing is
+rounded: if one is no whole per cent nothing is written, and the error names its age or birth year, its
+value and how many there are. A basis that is MPB1 already is written as it is.
+
+The history goes with the basis unchanged, under the name that belongs to OUT.bin; --no-history converts the
+basis file alone. Nothing that is there is written over without --force, and never BASIS.bin itself.
 
 {_HISTORY}"""
 
