@@ -135,7 +135,7 @@ def convert(options: argparse.Namespace) -> int:
         not_there(place, history)
         write_new_basis(basis, place, history)
     tell = say if place.is_file else warn
-    tell(f"{place.spoken}: {read.path} as {basis.form}, where it is {read.basis.form}; {_summary(basis)}")
+    tell(f"{place.spoken}: made from {read.path}, which is {read.basis.form}; {_summary(basis)}")
     tell(f"{read.path}: SHA-256 {read.sha256}")
     _tell_sums(basis, place, history)
     return 0
