@@ -5,7 +5,7 @@ use Prim.Native.Nat.{ℕ}
 use lib.IntN.{ℤ, pos}
 use Rattle.outcome.specs.Outcome.{passed}
 use Rattle.outcome.proofs.Outcome.{both-passed}
-use Rattle.layout.specs.declared.Form.the-variants.{Mpb1, Mpb2}
+use Rattle.layout.specs.Layout.{mpb1, mpb2}
 use Rattle.basis.specs.Basis.{Basis, basisOf}
 use Rattle.run_check.specs.Run.{runCheck}
 use Rattle.old_form.specs.OldForm.{inForm, oldFormCheck}
@@ -65,8 +65,8 @@ run-passed run h = both-passed _ _ h .0
 pub both-forms : BothForms
 both-forms =
     record {
-      finer = λ run h. let f = forms .finer run h in alike run (inForm Mpb2 run) (h ∙ sym (f .0)) (sym (f .1));
-      older = λ run h. let f = forms .older run h in alike run (inForm Mpb1 run) (run-passed run h ∙ sym (f .2)) (sym (f .3));
+      finer = λ run h. let f = forms .finer run h in alike run (inForm mpb2 run) (h ∙ sym (f .0)) (sym (f .1));
+      older = λ run h. let f = forms .older run h in alike run (inForm mpb1 run) (run-passed run h ∙ sym (f .2)) (sym (f .3));
       shortForms = λ run other rate s h.
           let k = sym (s .shortForm rate) ∙ h in
           alike (shortFormOf run rate) (shortFormOf other rate) (short-form-stands run rate .accepted h ∙ sym (short-form-stands other rate .accepted k))

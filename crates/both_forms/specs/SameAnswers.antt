@@ -7,7 +7,7 @@ use Prim.Native.Nat.{ℕ, _≤_}
 use lib.IntN.{ℤ}
 use Rattle.arithmetic.specs.Fraction.{U}
 use Rattle.outcome.specs.Outcome.{passed}
-use Rattle.layout.specs.declared.Form.the-variants.{Mpb1, Mpb2}
+use Rattle.layout.specs.Layout.{mpb1, mpb2}
 use Rattle.basis.specs.Basis.{basisOf}
 use Rattle.run_check.specs.Run.{runCheck}
 use Rattle.history.specs.History.{basisWith, runAndHistoryCheck}
@@ -52,9 +52,9 @@ pub record SameAnswers (run other : List ℕ) : Type 0 where
 
 pub record BothForms : Type 0 where
   -- each P times 100
-  pub finer : (run : List ℕ) → runCheck run ≡ passed → SameAnswers run (inForm Mpb2 run)
+  pub finer : (run : List ℕ) → runCheck run ≡ passed → SameAnswers run (inForm mpb2 run)
   -- each P over 100, where every P is a whole per cent
-  pub older : (run : List ℕ) → oldFormCheck run ≡ passed → SameAnswers run (inForm Mpb1 run)
+  pub older : (run : List ℕ) → oldFormCheck run ≡ passed → SameAnswers run (inForm mpb1 run)
   -- and so does the short form of each, which is accepted itself
   pub shortForms : (run other : List ℕ) (rate : ℤ) → SameAnswers run other → shortFormCheck run rate ≡ passed
       → SameAnswers (shortFormOf run rate) (shortFormOf other rate)

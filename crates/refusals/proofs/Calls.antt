@@ -8,7 +8,7 @@ use lib.Dec.{eqb}
 use lib.IntN.{ℤ, pos, natAbs}
 use borrow.Author.Tests.{ne-eqb}
 use lib.ListN.{length}
-use Rattle.layout.specs.declared.Form.the-variants.{Mpb1}
+use Rattle.layout.specs.Layout.{mpb1}
 use Rattle.layout.specs.Layout.{formOfRun, formOfFile, runLength, fileLength}
 use Rattle.basis.specs.Basis.{basisOf, ratedFrom}
 use Rattle.outcome.specs.Outcome.{Finding, passed, refusedBy, Outcome, value, refused, firstOf}
@@ -113,7 +113,7 @@ numbered-refusals run history =
       checkBasis = run-numbered run;
       readBasis = λ file out. first-by (count-numbered (runLength (formOfFile (length file))) _) (file-numbered file);
       writeBasis = λ out. first-by (count-numbered (fileLength (formOfRun (length run))) _) (run-numbered run);
-      writeOldForm = λ out. first-by (count-numbered (fileLength Mpb1) _) (old-numbered run);
+      writeOldForm = λ out. first-by (count-numbered (fileLength mpb1) _) (old-numbered run);
       shortForm = λ rate out. first-by (count-numbered (runLength (formOfRun (length run))) _) (short-form-numbered run rate);
       withHistory = basis-numbered run history;
       factorWork = factor-numbered b;

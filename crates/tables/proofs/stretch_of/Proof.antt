@@ -3,27 +3,28 @@ use mathlib.Core.Path.{refl, ap, sym}
 use native.Mathlib.Omega.{arith}
 use Rattle.layout.proofs.EachForm.{width-high}
 use Rattle.tables.specs.Tables.{stretchOf}
+use Rattle.layout.specs.Meaning.{meant}
 use borrow.Author.Needs.{needs}
 use Rattle.tables.proofs.stretch_of.Statement.{statement}
 use Rattle.tables.proofs.stretch_of.Tie as tie
 
 mul-t5 : tie.Need-mul-t5
-mul-t5 c = omega (arith, c .proportion-width .ensures, width-high (c .before .before .before .args .form))
+mul-t5 c = omega (arith, c .proportion-width .ensures, width-high (meant (c .before .before .before .args .form)))
 
 mul-t11 : tie.Need-mul-t11
-mul-t11 c = omega (arith, c .proportion-width2 .ensures, width-high (c .before .before .before .before .args .form))
+mul-t11 c = omega (arith, c .proportion-width2 .ensures, width-high (meant (c .before .before .before .before .args .form)))
 
 returns : tie.Need-returns
-returns c = ap (stretchOf (c .before .before .args .form)) (sym (c .enum-told .given .1))
+returns c = ap (stretchOf (meant (c .before .before .args .form))) (sym (c .enum-told .given .1))
 
 returns-2 : tie.Need-returns-2
-returns-2 c = ap (stretchOf (c .before .before .args .form)) (sym (c .enum-told2 .given .1))
+returns-2 c = ap (stretchOf (meant (c .before .before .args .form))) (sym (c .enum-told2 .given .1))
 
 returns-3 : tie.Need-returns-3
-returns-3 c = ap (stretchOf (c .before .before .args .form)) (sym (c .enum-told3 .given .1))
+returns-3 c = ap (stretchOf (meant (c .before .before .args .form))) (sym (c .enum-told3 .given .1))
 
 returns-4 : tie.Need-returns-4
-returns-4 c = ap (stretchOf (c .before .before .args .form)) (sym (c .enum-told4 .given .1))
+returns-4 c = ap (stretchOf (meant (c .before .before .args .form))) (sym (c .enum-told4 .given .1))
 
 returns-5 : tie.Need-returns-5
 returns-5 c = rw (c .before .enum-told5 .given .1, c .proportion-width .ensures) refl

@@ -8,7 +8,7 @@ use lib.ListN.{length, take, drop}
 use Rattle.outcome.specs.declared.Refusal.{Refusal}
 use Rattle.outcome.specs.Outcome.{Finding, passed, refusedBy}
 use Rattle.outcome.proofs.Outcome.{found}
-use Rattle.layout.specs.declared.Form.the-variants.{Mpb2}
+use Rattle.layout.specs.Layout.{mpb2}
 use Rattle.layout.specs.Layout.{formOfRun, runLength}
 use Rattle.basis.proofs.Lengths.{short-enough}
 use Rattle.run_check.specs.Run.{runCheck}
@@ -54,7 +54,7 @@ record Passing (c : tie.After-struct-known) : Type 0 where
   passed : runCheck (c .before .before .before .before .before .before .before .args .run .now) ≡ passed
   stretch : c .before .stretch-of .result
       ≡ own (c .before .before .before .before .before .before .before .args .run .now) (c .before .before .before .before .before .before .before .args .table)
-  short : length (c .before .before .before .before .before .before .before .args .run .now) ≤ runLength Mpb2
+  short : length (c .before .before .before .before .before .before .before .args .run .now) ≤ runLength mpb2
   in-run : c .before .stretch-of .result .0 + c .before .stretch-of .result .1 ≤ length (c .before .before .before .before .before .before .before .args .run .now)
 
 passing : (c : tie.After-struct-known) → Passing c

@@ -8,6 +8,7 @@ use Rattle.run_check.specs.Run.{runCheck}
 use Rattle.lent.specs.Lent.{placed}
 use Rattle.lent.proofs.Lent.{kept, put-in-front}
 use Rattle.block.specs.Blocks.{partsOf}
+use Rattle.layout.specs.Meaning.{meant}
 use borrow.Author.Needs.{needs}
 use Rattle.basis_file.proofs.read.read_blocks.Statement.{statement}
 use Rattle.basis_file.proofs.read.read_blocks.Tie as tie
@@ -15,7 +16,7 @@ use Rattle.basis_file.proofs.read.read_blocks.Tie as tie
 join-parts-requires : tie.Need-join-parts-requires
 join-parts-requires c κs =
     let b = c .before in
-    (search needs, search needs, omega (arith, b .blocks-in .ensures, run-high (b .before .before .before .before .args .form)))
+    (search needs, search needs, omega (arith, b .blocks-in .ensures, run-high (meant (b .before .before .before .before .args .form))))
 
 returns : tie.Need-returns
 returns c =

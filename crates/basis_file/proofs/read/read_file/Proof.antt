@@ -5,7 +5,7 @@ use Prim.Native.Nat.{ℕ}
 use native.Mathlib.Omega.{arith}
 use lib.ListN.{length}
 use Rattle.outcome.specs.Outcome.{finding}
-use Rattle.layout.specs.declared.Form.the-variants.{Mpb2}
+use Rattle.layout.specs.Layout.{mpb2}
 use Rattle.layout.specs.Layout.{formOfFile, runLength, fileLength}
 use Rattle.layout.proofs.EachForm.{run-high}
 use Rattle.run_check.specs.Run.{runCheck}
@@ -33,7 +33,7 @@ array-borrow-prefix-room c =
 slice-aggregate-read-blocks : tie.Need-slice-aggregate-read-blocks
 slice-aggregate-read-blocks c =
     let needed = c .before .before .before .before .before .before .before in
-    sym (front-length (needed .length-needed .result) (runLength Mpb2) (array-borrow-prefix-room (c .before)))
+    sym (front-length (needed .length-needed .result) (runLength mpb2) (array-borrow-prefix-room (c .before)))
 
 read-blocks-requires : tie.Need-read-blocks-requires
 read-blocks-requires c κs =
@@ -45,7 +45,7 @@ read-blocks-requires c κs =
     let e = rw (room .check-room .ensures, k .before .check-outer .ensures) at (k .first-of .ensures) in
     let lets = outer-lets (s .file .now) (s .run .now) _ (room .before .length-needed .ensures) _ e (ap finding (told .enum-told2 .given .1)) in
     let n = room .before .length-needed .ensures ∙ ap runLength (sym (f .form-of-file .ensures)) in
-    (lets .1 ∙ ap fileLength (sym (f .form-of-file .ensures)), front-length _ (runLength Mpb2) (array-borrow-prefix-room f) ∙ n, omega (arith, n, lets .0))
+    (lets .1 ∙ ap fileLength (sym (f .form-of-file .ensures)), front-length _ (runLength mpb2) (array-borrow-prefix-room f) ∙ n, omega (arith, n, lets .0))
 
 returns-2 : tie.Need-returns-2
 returns-2 c =

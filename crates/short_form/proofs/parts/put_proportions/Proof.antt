@@ -9,6 +9,7 @@ use Rattle.basis.proofs.Lengths.{entry-inside}
 use Rattle.lent.specs.Lent.{placed}
 use Rattle.short_form.specs.ShortForm.{proportions}
 use Rattle.short_form.proofs.Proportions.{one-length, proportions-turn, proportions-end}
+use Rattle.layout.specs.Meaning.{meant}
 use borrow.Author.Needs.{needs}
 use Rattle.short_form.proofs.parts.put_proportions.Statement.{statement}
 use Rattle.short_form.proofs.parts.put_proportions.Tie as tie
@@ -25,9 +26,9 @@ loop-holds c = (omega arith, refl, simp (mul-zero, add-zero, sub-zero))
 
 -- each P ends where the next begins, or inside the output
 inside : (c : tie.In-loop Inv-loop μ-loop)
-    → widthOf (proportionOf (c .before .before .before .before .args .form)) * c .before .loop .i
-    + widthOf (proportionOf (c .before .before .before .before .args .form))
-    ≤ widthOf (proportionOf (c .before .before .before .before .args .form)) * c .before .before .before .before .args .n
+    → widthOf (proportionOf (meant (c .before .before .before .before .args .form))) * c .before .loop .i
+    + widthOf (proportionOf (meant (c .before .before .before .before .args .form)))
+    ≤ widthOf (proportionOf (meant (c .before .before .before .before .args .form))) * c .before .before .before .before .args .n
 inside c = entry-inside _ (c .before .loop .i) (c .before .before .before .before .args .n) (c .loop-test .taken)
 
 mul-put-proportion : tie.Need-mul-put-proportion Inv-loop μ-loop
