@@ -16,7 +16,8 @@ use Rattle.short_form.proofs.parts.put_proportions.Tie as tie
 
 abbrev Inv-loop : tie.InvT-loop
 Inv-loop form n out₀ at width i₀ out i =
-    (i ≤ n) × (length out ≡ length out₀) × (placed out (at + widthOf (proportionOf form) * i) (proportions form (n - i)) ≡ placed out₀ at (proportions form n))
+    let f = meant form in
+    (i ≤ n) × (length out ≡ length out₀) × (placed out (at + widthOf (proportionOf f) * i) (proportions f (n - i)) ≡ placed out₀ at (proportions f n))
 
 abbrev μ-loop : tie.MeasureT-loop
 μ-loop form n out₀ at width i₀ out i = n - i
@@ -47,10 +48,10 @@ loop-again c =
     let s = l .before .before .before in
     let a = s .args in
     let new = rw (l .before .proportion-width .ensures) at (c .before .before .put-proportion .ensures) in
-    let room : a .at + widthOf (proportionOf (a .form)) * a .n ≤ length (l .loop .out) = rw (l .loop .inv .1) (s .pre) in (
+    let room : a .at + widthOf (proportionOf (meant (a .form))) * a .n ≤ length (l .loop .out) = rw (l .loop .inv .1) (s .pre) in (
       omega arith,
-      one-length (a .form) (l .loop .out) _ (a .at) (a .n) (l .loop .i) (turn .loop-test .taken) room new ∙ l .loop .inv .1,
-      proportions-turn (a .form) (l .loop .out) _ (a .at) (a .n) (l .loop .i) (turn .loop-test .taken) room new ∙ l .loop .inv .2,
+      one-length (meant (a .form)) (l .loop .out) _ (a .at) (a .n) (l .loop .i) (turn .loop-test .taken) room new ∙ l .loop .inv .1,
+      proportions-turn (meant (a .form)) (l .loop .out) _ (a .at) (a .n) (l .loop .i) (turn .loop-test .taken) room new ∙ l .loop .inv .2,
     )
 
 same-length : tie.Need-same-length Inv-loop μ-loop
@@ -60,7 +61,7 @@ returns : tie.Need-returns Inv-loop μ-loop
 returns c =
     let l = c .before in
     let a = l .before .before .before .args in
-    sym (proportions-end (a .form) (l .loop .out) (a .at) (a .n) (l .loop .i) (omega arith)) ∙ l .loop .inv .2
+    sym (proportions-end (meant (a .form)) (l .loop .out) (a .at) (a .n) (l .loop .i) (omega arith)) ∙ l .loop .inv .2
 
 pub put-proportions-spec : {M : Type 1} → statement M
 put-proportions-spec =
