@@ -1,7 +1,7 @@
 // What each form has of its own, and the form that a length tells.
 ghost use mathlib.Core.Path.{_≡_};
 ghost use lib.IntN.{pos};
-ghost use Rattle.layout.specs.Layout.{letterOf, proportionOf, greatestOf, blocksIn, runLength, fileLength, formOfRun, formOfFile};
+ghost use Rattle.layout.specs.Layout.{letterOf, proportionOf, blocksIn, runLength, fileLength, formOfRun, formOfFile};
 use crate::Form;
 use crate::Number;
 
@@ -22,16 +22,6 @@ pub fn proportion_of(form: Form) -> Number
     match form {
         Form::Mpb1 => Number::Byte,
         Form::Mpb2 => Number::Half,
-    }
-}
-
-// The greatest P, as the form counts it.
-pub fn greatest_of(form: Form) -> i64
-    ensures { λ r. ⌜ r ≡ pos (greatestOf form) ⌝ }
-{
-    match form {
-        Form::Mpb1 => 150,
-        Form::Mpb2 => 15_000,
     }
 }
 

@@ -92,6 +92,11 @@ pub const LEAST_RATE: i64 = -RATE_LIMIT;
 
 pub const LONGEST_PERIOD: i64 = 50;
 
+// P in a run of MPB1, and in one of MPB2.
+pub const GREATEST_PER_CENTS: i64 = 150;
+
+pub const GREATEST_HUNDREDTHS: i64 = 15_000;
+
 // How many bytes a number has.
 pub fn width_of(kind: Number) -> usize
     ensures { λ r. ⌜ r ≡ widthOf kind ⌝ }

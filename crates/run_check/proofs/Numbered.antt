@@ -7,9 +7,9 @@ use lib.ListN.{length}
 use Rattle.outcome.specs.Refusals.{numbers, isListed, RefusesBy}
 use Rattle.outcome.proofs.Refusals.{refused-by, cond-by}
 use Rattle.field_check.proofs.Numbered.{areListed, fields-by}
-use Rattle.layout.specs.Layout.{formOf, runLength}
+use Rattle.layout.specs.Layout.{formOfRun, runLength}
 use Rattle.run_check.specs.Run.{fieldsOf, runCheck}
 
 pub run-numbered : (run : List ℕ) → RefusesBy numbers (runCheck run)
 unfolding runCheck fieldsOf numbers isListed areListed
-run-numbered run = cond-by (eqb (length run) (runLength (formOf (length run)))) (fields-by numbers run (fieldsOf (formOf (length run))) refl) (refused-by _ refl)
+run-numbered run = cond-by (eqb (length run) (runLength (formOfRun (length run)))) (fields-by numbers run (fieldsOf (formOfRun (length run))) refl) (refused-by _ refl)

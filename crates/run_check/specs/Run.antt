@@ -29,7 +29,12 @@ markFields form =
     ∷ exactly (pos 80) 1 1
     ∷ exactly (pos 66) 2 1
     ∷ exactly (pos (letterOf form)) 3 1
-    ∷ exactly (pos 0) zerosAt (baseRatesAt - zerosAt)
+    ∷ []
+
+-- before the base rates, and behind the fields
+abbrev pub zeroFields : Form → List Field
+zeroFields form =
+    exactly (pos 0) zerosAt (baseRatesAt - zerosAt)
     ∷ exactly (pos 0) (fieldsEnd form) (runLength form - fieldsEnd form)
     ∷ []
 
@@ -70,7 +75,7 @@ birthYearFields form =
     (birthYearInitialRatesAt form) (birthYearLongTermRatesAt form) (birthYearPeriodsAt form) (birthYearProportionsAt form) birthYears
 
 unfoldable pub fieldsOf : Form → List Field
-fieldsOf form = markFields form ++ (singleFields ++ (baseRates ∷ (ageFields form ++ birthYearFields form)))
+fieldsOf form = markFields form ++ (zeroFields form ++ (singleFields ++ (baseRates ∷ (ageFields form ++ birthYearFields form))))
 
 -- ---- the length is not that of the form that it tells (1), then the fields
 unfoldable pub runCheck : List ℕ → Finding

@@ -5,19 +5,17 @@
 ghost use mathlib.Core.Path.{_≡_};
 ghost use Prim.Native.Nat.{_+_, _*_, _≤_};
 ghost use lib.ListN.{length};
-ghost use Rattle.layout.specs.declared.Form.the-variants.{Mpb1};
-ghost use Rattle.layout.specs.Layout.{runLength, widthOf, proportionOf};
+ghost use Rattle.layout.specs.declared.Form.the-variants.{Mpb1, Mpb2};
+ghost use Rattle.layout.specs.Layout.{runLength, fieldsEnd, widthOf, proportionOf};
 ghost use Rattle.outcome.specs.Outcome.{finding};
 ghost use Rattle.field_check.specs.Field.{field, fieldCheck, fieldsCheck};
-ghost use Rattle.run_check.specs.Run.{exactly, markFields, singleFields, baseRates, rates, periods, proportions, ageFields, birthYearFields};
+ghost use Rattle.run_check.specs.Run.{exactly, markFields, zeroFields, singleFields, baseRates, rates, periods, proportions, ageFields, birthYearFields};
 use field_check::Field;
 use field_check::all_within;
 use field_check::check_field;
 use layout::Form;
 use layout::Number;
-use layout::forms::greatest_of;
 use layout::forms::letter_of;
-use layout::forms::proportion_of;
 use layout::offsets::birth_year_initial_rates_at;
 use layout::offsets::birth_year_long_term_rates_at;
 use layout::offsets::birth_year_periods_at;
@@ -44,28 +42,27 @@ fn check_exactly(run: &[u8], byte: i64, offset: usize, count: usize) -> Check
     )
 }
 
-// The letters of the mark and the zero bytes (4).
+// The letters of the mark (4).
 pub(crate) fn check_mark(run: &[u8], form: Form) -> Check
-    requires { ⌜ length (now run) ≡ runLength form ⌝ }
+    requires { ⌜ fieldsEnd form ≤ length (now run) ⌝ }
     ensures { λ r. ⌜ finding r ≡ fieldsCheck (now (run .entry)) (markFields form) ⌝ }
 {
     let m = check_exactly(run, 77, 0, 1);
     let p = check_exactly(run, 80, 1, 1);
     let b = check_exactly(run, 66, 2, 1);
     let last = check_exactly(run, letter_of(form), 3, 1);
+    first_of(m, first_of(p, first_of(b, first_of(last, Check::Passed))))
+}
+
+// The zero bytes before the base rates and behind the fields (4).
+pub(crate) fn check_zeros(run: &[u8], form: Form) -> Check
+    requires { ⌜ (length (now run) ≡ runLength form) × (fieldsEnd form ≤ length (now run)) ⌝ }
+    ensures { λ r. ⌜ finding r ≡ fieldsCheck (now (run .entry)) (zeroFields form) ⌝ }
+{
     let zeros = check_exactly(run, 0, layout::ZEROS_AT, layout::ZEROS);
     let end = fields_end(form);
-    let last_zeros = check_exactly(run, 0, end, run.len() - end);
-    first_of(
-        m,
-        first_of(
-            p,
-            first_of(
-                b,
-                first_of(last, first_of(zeros, first_of(last_zeros, Check::Passed))),
-            ),
-        ),
-    )
+    let last = check_exactly(run, 0, end, run.len() - end);
+    first_of(zeros, first_of(last, Check::Passed))
 }
 
 // A field of one number (5).
@@ -182,16 +179,16 @@ fn check_periods(run: &[u8], offset: usize, count: usize) -> Check
     check_field(run, f)
 }
 
-// P (5).
-fn check_proportions(run: &[u8], form: Form, offset: usize, count: usize) -> Check
-    requires { ⌜ offset + count * widthOf (proportionOf form) ≤ length (now run) ⌝ }
-    ensures { λ r. ⌜ finding r ≡ fieldCheck (now (run .entry)) (proportions form offset count) ⌝ }
+// P of MPB1 (5).
+fn check_per_cents(run: &[u8], offset: usize, count: usize) -> Check
+    requires { ⌜ offset + count ≤ length (now run) ⌝ }
+    ensures { λ r. ⌜ finding r ≡ fieldCheck (now (run .entry)) (proportions Mpb1 offset count) ⌝ }
 {
     let f = Field {
         number: 5,
-        kind: proportion_of(form),
+        kind: Number::Byte,
         low: 0,
-        high: greatest_of(form),
+        high: layout::GREATEST_PER_CENTS,
         offset: offset,
         count: count,
     };
@@ -201,9 +198,39 @@ fn check_proportions(run: &[u8], form: Form, offset: usize, count: usize) -> Che
     check_field(run, f)
 }
 
+// P of MPB2 (5).
+fn check_hundredths(run: &[u8], offset: usize, count: usize) -> Check
+    requires { ⌜ offset + count * 2 ≤ length (now run) ⌝ }
+    ensures { λ r. ⌜ finding r ≡ fieldCheck (now (run .entry)) (proportions Mpb2 offset count) ⌝ }
+{
+    let f = Field {
+        number: 5,
+        kind: Number::Half,
+        low: 0,
+        high: layout::GREATEST_HUNDREDTHS,
+        offset: offset,
+        count: count,
+    };
+    if all_within(run, f) {
+        return Check::Passed;
+    }
+    check_field(run, f)
+}
+
+// P (5).
+fn check_proportions(run: &[u8], form: Form, offset: usize, count: usize) -> Check
+    requires { ⌜ offset + count * widthOf (proportionOf form) ≤ length (now run) ⌝ }
+    ensures { λ r. ⌜ finding r ≡ fieldCheck (now (run .entry)) (proportions form offset count) ⌝ }
+{
+    match form {
+        Form::Mpb1 => check_per_cents(run, offset, count),
+        Form::Mpb2 => check_hundredths(run, offset, count),
+    }
+}
+
 // The terms of improvement by age (5). Every count is known here too, which the loops are faster by.
 pub(crate) fn check_age_terms(run: &[u8], form: Form) -> Check
-    requires { ⌜ length (now run) ≡ runLength form ⌝ }
+    requires { ⌜ fieldsEnd form ≤ length (now run) ⌝ }
     ensures { λ r. ⌜ finding r ≡ fieldsCheck (now (run .entry)) (ageFields form) ⌝ }
 {
     let initials = check_rates(run, layout::AGE_INITIAL_RATES_AT, layout::AGES);
@@ -221,7 +248,7 @@ pub(crate) fn check_age_terms(run: &[u8], form: Form) -> Check
 
 // The same by birth year (5).
 pub(crate) fn check_birth_year_terms(run: &[u8], form: Form) -> Check
-    requires { ⌜ length (now run) ≡ runLength form ⌝ }
+    requires { ⌜ fieldsEnd form ≤ length (now run) ⌝ }
     ensures { λ r. ⌜ finding r ≡ fieldsCheck (now (run .entry)) (birthYearFields form) ⌝ }
 {
     let initials = check_rates(run, birth_year_initial_rates_at(form), layout::BIRTH_YEARS);

@@ -11,5 +11,4 @@ returns c = cc
 pub check-age-terms-spec : {M : Type 1} → statement M
 check-age-terms-spec =
     tie.close
-    (tie.spec (search needs) (search needs) (search needs) (search needs) (search needs) (search needs) (search needs)
-    (search needs) returns)
+    (tie.spec (search needs) (search needs) (search needs) (search needs) (search needs) (search needs) (search needs) (search needs) returns)

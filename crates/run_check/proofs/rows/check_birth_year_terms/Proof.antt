@@ -11,5 +11,4 @@ returns c = cc
 pub check-birth-year-terms-spec : {M : Type 1} → statement M
 check-birth-year-terms-spec =
     tie.close
-    (tie.spec (search needs) (search needs) (search needs) (search needs) (search needs) (search needs) (search needs)
-    (search needs) returns)
+    (tie.spec (search needs) (search needs) (search needs) (search needs) (search needs) (search needs) (search needs) (search needs) (search needs) (search needs) (search needs) (search needs) returns)
