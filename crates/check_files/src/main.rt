@@ -10,7 +10,7 @@
 ghost use mathlib.Core.Path.{_≡_};
 ghost use Prim.Native.Nat.{_≤_, _<_};
 ghost use lib.ListN.{length};
-ghost use Rattle.layout.specs.declared.Form.the-variants.{Mpb1, Mpb2};
+ghost use Rattle.layout.specs.Layout.{mpb1, mpb2};
 ghost use Rattle.layout.specs.Layout.{fileLength};
 use basis_file::read;
 use basis_file::write;
@@ -20,13 +20,13 @@ use outcome::Check;
 
 // ---- the input and the output of a case
 fn old_file_room() -> [u8; layout::MPB1_FILE_LENGTH]
-    ensures { λ r. ⌜ fileLength Mpb1 ≡ length r ⌝ }
+    ensures { λ r. ⌜ fileLength mpb1 ≡ length r ⌝ }
 {
     [0; layout::MPB1_FILE_LENGTH]
 }
 
 fn new_file_room() -> [u8; layout::MPB2_FILE_LENGTH]
-    ensures { λ r. ⌜ fileLength Mpb2 ≡ length r ⌝ }
+    ensures { λ r. ⌜ fileLength mpb2 ≡ length r ⌝ }
 {
     [0; layout::MPB2_FILE_LENGTH]
 }
