@@ -13,7 +13,7 @@ use Rattle.layout.proofs.EachForm.{run-low, run-high, fields-inside}
 use Rattle.basis.specs.Basis.{Accepted}
 
 -- an entry of a table of n ends inside it
-entry-inside : (width place n : ℕ) → place < n → width * place + width ≤ width * n
+pub entry-inside : (width place n : ℕ) → place < n → width * place + width ≤ width * n
 entry-inside width place n h = rw (mul-suc width place) at (mul-le-mul-left width h)
 
 module _ (run : List ℕ) (a : Accepted run) where

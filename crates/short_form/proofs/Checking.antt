@@ -6,8 +6,8 @@ use mathlib.Core.List.{List}
 use Prim.Native.Nat.{ℕ, _-_, _≤_}
 use lib.ListN.{length}
 use lib.IntN.{ℤ, pos, negℤ, natAbs}
-use Rattle.layout.specs.Layout.{mpb1, runLength}
-use Rattle.layout.specs.Layout.{ageLongTermRatesAt}
+use Rattle.layout.specs.declared.Form.{Form}
+use Rattle.layout.specs.Layout.{formOfRun, runLength, ageLongTermRatesAt}
 use Rattle.outcome.specs.declared.Refusal.{Refusal}
 use Rattle.basis.specs.Basis.{Accepted}
 use Rattle.outcome.specs.Outcome.{Finding, passed, refusedBy, refusal, unless}
@@ -35,9 +35,9 @@ module _ (run : List ℕ) (rate : ℤ) where
       let e = both-passed (runCheck run) _ h in
       (accepted run (e .0), size (longTermLimit - 1) rate (opened (negℤ (pos longTermLimit)) (pos longTermLimit) rate (unless-passed _ _ (e .1))))
 
-  pub through : (out : List ℕ) → shortCheck run rate out ≡ passed
-      → (length run ≡ runLength mpb1) × (natAbs rate ≤ longTermLimit) × (runLength mpb1 ≤ length out)
-  through out h =
-      let p = room-passed (runLength mpb1) out (shortFormCheck run rate) h in
-      let e = within-limits (p .1) in
-      (e .0 .size, e .1, p .0)
+  pub through : (form : Form) (out : List ℕ) → form ≡ formOfRun (length run) → shortCheck run rate out ≡ passed
+      → (length run ≡ runLength form) × (natAbs rate ≤ longTermLimit) × (runLength form ≤ length out)
+  through form out e h =
+      let p = room-passed (runLength (formOfRun (length run))) out (shortFormCheck run rate) h in
+      let a = within-limits (p .1) in
+      rw e (a .0 .size, a .1, p .0)

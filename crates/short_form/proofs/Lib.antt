@@ -1,4 +1,6 @@
 pub mod LongTerm
+mod Lists
+mod Proportions
 mod Placing
 mod Checking
 mod Reading

@@ -6,13 +6,16 @@ use native.Mathlib.Omega.{arith}
 use lib.ListN.{length, take, drop, replicate, length-append, length-take, length-drop, length-replicate}
 use lib.Seq.{length-take-le}
 use lib.IntN.{ℤ}
-use Rattle.layout.specs.Layout.{mpb1, runLength, ages, birthYears}
+use Rattle.layout.specs.declared.Form.{Form}
+use Rattle.layout.specs.Layout.{runLength, fieldsEnd, formOfRun, ages, birthYears}
 use Rattle.layout.specs.Layout.{ageLongTermRatesAt, agePeriodsAt, ageProportionsAt}
 use Rattle.layout.specs.Layout.{birthYearInitialRatesAt, birthYearLongTermRatesAt, birthYearPeriodsAt, birthYearProportionsAt}
+use Rattle.layout.proofs.EachForm.{run-low, fields-inside}
 use Rattle.little_endian.specs.Bytes.{i32Bytes}
 use Rattle.lent.specs.Lent.{placed}
 use Rattle.lent.proofs.Lent.{placed-none, then, then-length}
-use Rattle.short_form.specs.ShortForm.{everyPeriod, everyProportion, longTermOf, longTermRates, periods, proportions, agesOf, birthYearsOf, shortFormOf}
+use Rattle.short_form.specs.ShortForm.{everyPeriod, longTermOf, longTermRates, periods, proportions, agesOf, birthYearsOf, shortFormOf}
+use Rattle.short_form.proofs.Proportions.{length-proportions}
 
 -- four parts
 pub four : (out a b c d : List ℕ) (at at₁ at₂ at₃ : ℕ) (p q r s : List ℕ)
@@ -53,52 +56,66 @@ length-rates rate age (suc n) = rw (length-append, length-rates rate (age + 1) n
 pub repeated : (n x : ℕ) → length (replicate n x) ≡ n
 repeated n x = length-replicate n x
 
-module _ (run out a b c d : List ℕ) (long : length run ≡ runLength mpb1) (room : runLength mpb1 ≤ length out) where
-  pub ages-placed : (rate : ℤ) → a ≡ placed out 0 (take ageLongTermRatesAt run) → b ≡ placed a ageLongTermRatesAt (longTermRates rate 20 ages)
-      → c ≡ placed b agePeriodsAt (periods ages) → d ≡ placed c ageProportionsAt (proportions ages) → d ≡ placed out 0 (agesOf run rate)
-  unfolding agesOf
-  ages-placed rate =
-      let p = length-take-le ageLongTermRatesAt run (omega arith) in
-      let q = length-rates rate 20 ages in
-      let t = repeated ages everyPeriod in
-      let s = repeated ages everyProportion in
-      four out a b c d 0 ageLongTermRatesAt agePeriodsAt ageProportionsAt (take ageLongTermRatesAt run) (longTermRates rate 20 ages) (periods ages) (proportions ages)
-      (omega arith) (omega arith) (omega arith) (omega arith)
+module _ (form : Form) (run : List ℕ) (long : length run ≡ runLength form) where
+  pub length-kept : length (take (4 * birthYears) (drop (birthYearInitialRatesAt form) run)) ≡ 4 * birthYears
+  length-kept = rw (length-take, length-drop) (omega (arith, fields-inside form))
 
-  pub birth-years-placed : a ≡ placed out (birthYearInitialRatesAt mpb1) (take 1076 (drop (birthYearInitialRatesAt mpb1) run))
-      → b ≡ placed a (birthYearLongTermRatesAt mpb1) (replicate 1076 0)
-      → c ≡ placed b (birthYearPeriodsAt mpb1) (periods birthYears) → d ≡ placed c (birthYearProportionsAt mpb1) (proportions birthYears)
-      → d ≡ placed out (birthYearInitialRatesAt mpb1) (birthYearsOf run)
-  unfolding birthYearsOf
-  birth-years-placed =
-      let p : length (take 1076 (drop (birthYearInitialRatesAt mpb1) run)) ≡ 1076 = rw (length-take, length-drop) (omega arith) in
-      let q = repeated 1076 0 in
-      let t = repeated birthYears everyPeriod in
-      let s = repeated birthYears everyProportion in
-      four out a b c d
-      (birthYearInitialRatesAt mpb1) (birthYearLongTermRatesAt mpb1) (birthYearPeriodsAt mpb1) (birthYearProportionsAt mpb1)
-      (take 1076 (drop (birthYearInitialRatesAt mpb1) run)) (replicate 1076 0) (periods birthYears) (proportions birthYears)
-      (omega arith) (omega arith) (omega arith) (omega arith)
+  pub length-front : length (take ageLongTermRatesAt run) ≡ ageLongTermRatesAt
+  length-front = length-take-le ageLongTermRatesAt run (omega (arith, run-low form))
 
-module _ (run : List ℕ) (rate : ℤ) (long : length run ≡ runLength mpb1) where
-  pub length-ages : length (agesOf run rate) ≡ birthYearInitialRatesAt mpb1
-  unfolding agesOf
-  length-ages = simp (length-append, length-take-le ageLongTermRatesAt run (omega arith), length-rates, repeated)
+  module _ (out a b c d : List ℕ) (room : runLength form ≤ length out) where
+    pub ages-placed : (rate : ℤ) → a ≡ placed out 0 (take ageLongTermRatesAt run) → b ≡ placed a ageLongTermRatesAt (longTermRates rate 20 ages)
+        → c ≡ placed b agePeriodsAt (periods ages) → d ≡ placed c ageProportionsAt (proportions form ages) → d ≡ placed out 0 (agesOf form run rate)
+    unfolding agesOf
+    ages-placed rate =
+        let p = length-front in
+        let q = length-rates rate 20 ages in
+        let t = repeated ages everyPeriod in
+        let s = length-proportions form ages in
+        four out a b c d 0 ageLongTermRatesAt agePeriodsAt ageProportionsAt (take ageLongTermRatesAt run) (longTermRates rate 20 ages) (periods ages)
+        (proportions form ages) (omega arith) (omega arith) (omega arith) (omega (arith, fields-inside form))
 
-  pub length-birth-years : length (birthYearsOf run) ≡ 2690
-  unfolding birthYearsOf
-  length-birth-years =
-      let p : length (take 1076 (drop (birthYearInitialRatesAt mpb1) run)) ≡ 1076 = rw (length-take, length-drop) (omega arith) in
-      simp (length-append, p, repeated)
+    pub birth-years-placed : (last : List ℕ) → a ≡ placed out (birthYearInitialRatesAt form) (take (4 * birthYears) (drop (birthYearInitialRatesAt form) run))
+        → b ≡ placed a (birthYearLongTermRatesAt form) (replicate (4 * birthYears) 0)
+        → c ≡ placed b (birthYearPeriodsAt form) (periods birthYears) → d ≡ placed c (birthYearProportionsAt form) (proportions form birthYears)
+        → last ≡ placed d (fieldsEnd form) (replicate (runLength form - fieldsEnd form) 0)
+        → last ≡ placed out (birthYearInitialRatesAt form) (birthYearsOf form run)
+    unfolding birthYearsOf
+    birth-years-placed last e f g h i =
+        let kept = take (4 * birthYears) (drop (birthYearInitialRatesAt form) run) in
+        let zeros = replicate {A = ℕ} (4 * birthYears) 0 in
+        let fields = kept ++ zeros ++ periods birthYears ++ proportions form birthYears in
+        let p = length-kept in
+        let q = repeated (4 * birthYears) 0 in
+        let t = repeated birthYears everyPeriod in
+        let s = length-proportions form birthYears in
+        let n : length fields ≡ fieldsEnd form - birthYearInitialRatesAt form = simp (length-append, p, q, t, s) (omega arith) in
+        let inside = fields-inside form in
+        let before =
+        four out a b c d
+        (birthYearInitialRatesAt form) (birthYearLongTermRatesAt form) (birthYearPeriodsAt form) (birthYearProportionsAt form)
+        kept zeros (periods birthYears) (proportions form birthYears)
+        (omega arith) (omega arith) (omega arith) (omega arith) e f g h in
+        i ∙ then out (birthYearInitialRatesAt form) fields (omega arith) d before (fieldsEnd form) _ (omega arith)
 
-  pub length-short-form : length (shortFormOf run rate) ≡ runLength mpb1
-  unfolding shortFormOf
-  length-short-form = rw (length-append, length-ages, length-birth-years)
+  module _ (rate : ℤ) where
+    pub length-ages : length (agesOf form run rate) ≡ birthYearInitialRatesAt form
+    unfolding agesOf
+    length-ages = simp (length-append, length-front, length-rates, repeated, length-proportions form ages)
 
-  pub short-form-placed : (out a b : List ℕ) → runLength mpb1 ≤ length out → a ≡ placed out 0 (agesOf run rate)
-      → b ≡ placed a (birthYearInitialRatesAt mpb1) (birthYearsOf run)
-      → b ≡ placed out 0 (shortFormOf run rate)
-  unfolding shortFormOf
-  short-form-placed out a b room e f =
-      let n = length-ages in
-      f ∙ then out 0 (agesOf run rate) (omega arith) a e (birthYearInitialRatesAt mpb1) (birthYearsOf run) (omega arith)
+    pub length-birth-years : birthYearInitialRatesAt form + length (birthYearsOf form run) ≡ runLength form
+    unfolding birthYearsOf
+    length-birth-years =
+        simp (length-append, length-kept, repeated, length-proportions form birthYears) (omega (arith, fields-inside form))
+
+    pub length-short-form : formOfRun (length run) ≡ form → length (shortFormOf run rate) ≡ runLength form
+    unfolding shortFormOf
+    length-short-form e = rw (e, length-append, length-ages) length-birth-years
+
+    pub short-form-placed : (out a b : List ℕ) → formOfRun (length run) ≡ form → runLength form ≤ length out → a ≡ placed out 0 (agesOf form run rate)
+        → b ≡ placed a (birthYearInitialRatesAt form) (birthYearsOf form run)
+        → b ≡ placed out 0 (shortFormOf run rate)
+    unfolding shortFormOf
+    short-form-placed out a b e room f g =
+        let n = length-ages in
+        rw e (g ∙ then out 0 (agesOf form run rate) (omega (arith, fields-inside form)) a f (birthYearInitialRatesAt form) (birthYearsOf form run) (omega arith))

@@ -74,9 +74,9 @@ birthYearsOf form run =
 unfoldable pub shortFormOf : List ℕ → ℤ → List ℕ
 shortFormOf run rate = let form = formOfRun (length run) in agesOf form run rate ++ birthYearsOf form run
 
--- ---- what it stands for
+-- ---- what it stands for: P is 50 per cent, in hundredths
 abbrev pub shortTerms : ℤ → ℤ → Convergence
-shortTerms initial long = record { initial = initial; long = long; period = everyPeriod; remaining = everyProportion }
+shortTerms initial long = record { initial = initial; long = long; period = 20; remaining = 5_000 }
 
 -- a basis that differs from another only in long-term rates, T and P
 pub record Shortened (b : Basis) (rate : ℤ) (short : Basis) : Type 0 where
@@ -93,3 +93,5 @@ pub record ShortFormStands (run : List ℕ) (rate : ℤ) : Type 0 where
   pub differs : shortFormCheck run rate ≡ passed → Shortened (basisOf run) rate (basisOf (shortFormOf run rate))
   -- which is accepted itself, so that every enquiry answers from it
   pub accepted : shortFormCheck run rate ≡ passed → runCheck (shortFormOf run rate) ≡ passed
+  -- and of its run's own length, which tells the form (02, change 7)
+  pub form : shortFormCheck run rate ≡ passed → length (shortFormOf run rate) ≡ length run

@@ -3,7 +3,7 @@ ghost use mathlib.Core.Path.{_≡_};
 ghost use Prim.Native.Nat.{_+_, _*_, _≤_};
 ghost use lib.ListN.{length};
 ghost use lib.IntN.{natAbs};
-ghost use Rattle.layout.specs.Layout.{widthOf, proportionOf, runLength, ages, birthYears, ageLongTermRatesAt, agePeriodsAt, birthYearInitialRatesAt};
+ghost use Rattle.layout.specs.Layout.{widthOf, proportionOf, runLength, ages, ageLongTermRatesAt, agePeriodsAt, birthYearInitialRatesAt};
 ghost use Rattle.lent.specs.Lent.{placed};
 ghost use Rattle.short_form.specs.ShortForm.{longTermLimit, longTermRates, proportions, agesOf, birthYearsOf};
 use crate::rates;
@@ -29,7 +29,7 @@ fn put_rates(rate: i32, out: &mut [u8])
 
 // P of 50 per cent, n times.
 fn put_proportions(form: Form, n: usize, out: &mut [u8], at: usize)
-    requires { ⌜ (n ≤ birthYears) × (at + widthOf (proportionOf form) * n ≤ length (now out)) ⌝ }
+    requires { ⌜ at + widthOf (proportionOf form) * n ≤ length (now out) ⌝ }
     ensures { λ _. ⌜ now (out .exit) ≡ placed (now (out .entry)) at (proportions form n) ⌝ }
 {
     let width = layout::offsets::proportion_width(form);
