@@ -7,5 +7,6 @@ mod Own
 mod Turns
 mod Placing
 mod Checking
-pub mod Theorems
+mod Writing
+pub mod Forms
 pub mod Numbered

@@ -81,10 +81,10 @@ module _ (form : Form) (run : List ℕ) (a : Accepted run) where
         rw (
           births-value SignedWord (4 * i) (birthYearInitialRatesAt form + 4 * i) (birthYearInitialRatesAt own + 4 * i) (omega arith) (omega arith) (omega arith),
           births-value SignedWord (4 * birthYears + 4 * i) (birthYearLongTermRatesAt form + 4 * i) (birthYearLongTermRatesAt own + 4 * i)
-          (omega arith) (omega arith) (omega arith),
+              (omega arith) (omega arith) (omega arith),
           ap natAbs (births-value Byte (8 * birthYears + i) (birthYearPeriodsAt form + 1 * i) (birthYearPeriodsAt own + 1 * i) (omega arith) (omega arith) (omega arith)),
           table-back form run (birthYearProportionsAt own) laid (birthYearProportionsAt form) birthYears (birth-year-ps-laid form run a) (birth-year-limits run a)
-          (c .byBirthYear) i l,
+              (c .byBirthYear) i l,
         ) refl
 
     pub same-basis : basisOf laid ≡ basisOf run
