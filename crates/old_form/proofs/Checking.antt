@@ -11,7 +11,7 @@ use borrow.Author.Tests.{eqb-true}
 use Rattle.outcome.specs.Outcome.{Finding, passed, refusedBy, refusal, unless}
 use Rattle.outcome.specs.declared.Refusal.{Refusal}
 use Rattle.outcome.proofs.Outcome.{unless-passed, both-passed, first-stands, first-passed}
-use Rattle.layout.specs.declared.Form.the-variants.{Mpb1}
+use Rattle.layout.specs.Layout.{mpb1}
 use Rattle.layout.specs.Layout.{widthOf, proportionOf, proportionAt, formOfRun, ages, birthYears, ageProportionsAt, birthYearProportionsAt}
 use Rattle.basis.specs.Basis.{Accepted}
 use Rattle.run_check.specs.Run.{runCheck}
@@ -45,7 +45,7 @@ module _ (run : List ℕ) where
       let e : place + suc i ≡ place + 1 + i = omega arith in
       rw e (each-whole offset (place + 1) n (parted offset place n h .1) i (omega arith))
 
-  counted : wholeCheck run ≡ passed → Counts Mpb1 run
+  counted : wholeCheck run ≡ passed → Counts mpb1 run
   counted h =
       let e = both-passed (wholeFrom run ageProportionsAt 0 ages) (wholeFrom run (birthYearProportionsAt (formOfRun (length run))) 0 birthYears) h in
       let first : (i : ℕ) → 0 + i ≡ i = λ i. omega arith in
@@ -54,7 +54,7 @@ module _ (run : List ℕ) where
         byBirthYear = λ i l. whole-per-cents _ (rw (first i) at (each-whole (birthYearProportionsAt (formOfRun (length run))) 0 birthYears (e .1) i l));
       }
 
-  pub old-form-passed : oldFormCheck run ≡ passed → Accepted run × Counts Mpb1 run
+  pub old-form-passed : oldFormCheck run ≡ passed → Accepted run × Counts mpb1 run
   unfolding oldFormCheck
   old-form-passed h = let e = both-passed (runCheck run) (wholeCheck run) h in (accepted run (e .0), counted (e .1))
 

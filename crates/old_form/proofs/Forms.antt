@@ -6,7 +6,7 @@ use native.Mathlib.Omega.{arith}
 use lib.ListN.{length}
 use borrow.Author.Tests.{eq-eqb}
 use Rattle.outcome.specs.Outcome.{Finding, passed, refusedBy, firstOf}
-use Rattle.layout.specs.declared.Form.the-variants.{Mpb1, Mpb2}
+use Rattle.layout.specs.Layout.{mpb1, mpb2}
 use Rattle.layout.specs.Layout.{formOfRun, proportionAt, ages, birthYears, ageProportionsAt, birthYearProportionsAt}
 use Rattle.run_check.specs.Run.{runCheck}
 use Rattle.run_check.proofs.Acceptance.{accepted, passes}
@@ -18,11 +18,11 @@ use Rattle.old_form.proofs.Checking.{old-form-passed}
 use Rattle.old_form.proofs.Own.{own-form}
 
 -- ---- MPB2 counts every P
-finely : (run : List ℕ) → Counts Mpb2 run
+finely : (run : List ℕ) → Counts mpb2 run
 finely run = record { byAge = λ i l. fine _; byBirthYear = λ i l. fine _ }
 
 -- ---- every P of MPB1 is a whole per cent
-module _ (run : List ℕ) (e : formOfRun (length run) ≡ Mpb1) where
+module _ (run : List ℕ) (e : formOfRun (length run) ≡ mpb1) where
   per-cents : (offset place n : ℕ) → wholeFrom run offset place n ≡ passed
   unfolding wholeFrom
   per-cents offset place zero = refl
@@ -45,12 +45,12 @@ forms =
     record {
       finer = λ run h.
           let a = accepted run h in
-          (passes (inForm Mpb2 run) (laid-accepted Mpb2 run a (finely run)), same-basis Mpb2 run a (finely run));
+          (passes (inForm mpb2 run) (laid-accepted mpb2 run a (finely run)), same-basis mpb2 run a (finely run));
       older = λ run h.
           let p = old-form-passed run h in
-          let ok = passes (inForm Mpb1 run) (laid-accepted Mpb1 run (p .0) (p .1)) in
-          let back = round-trips .sameBasis (inForm Mpb1 run) ok in
-          (back .0, back .1, ok, same-basis Mpb1 run (p .0) (p .1));
+          let ok = passes (inForm mpb1 run) (laid-accepted mpb1 run (p .0) (p .1)) in
+          let back = round-trips .sameBasis (inForm mpb1 run) ok in
+          (back .0, back .1, ok, same-basis mpb1 run (p .0) (p .1));
       own = λ run b h. own-form run (accepted run h) b;
       asEver = as-ever;
     }

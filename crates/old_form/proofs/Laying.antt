@@ -6,7 +6,7 @@ use native.Mathlib.Omega.{arith}
 use lib.ListN.{length, take, drop, replicate, length-replicate, getD-replicate}
 use lib.Seq.{take-at}
 use Rattle.little_endian.specs.Bytes.{byteAt}
-use Rattle.layout.specs.declared.Form.{Form}
+use Rattle.layout.specs.Layout.{Form}
 use Rattle.layout.specs.Layout.{widthOf, proportionOf, formOfRun, runLength, markOf, fieldsEnd, ages, birthYears}
 use Rattle.layout.specs.Layout.{foundationAt, ageProportionsAt, birthYearInitialRatesAt, birthYearProportionsAt}
 use Rattle.layout.proofs.EachForm.{fields-inside, of-run}

@@ -10,8 +10,8 @@ use Rattle.little_endian.specs.Bytes.{byteAt, u32At, signed32}
 use Rattle.little_endian.proofs.Bytes.{u16-back}
 use Rattle.layout.specs.declared.Number.{Number}
 use Rattle.layout.specs.declared.Number.the-variants.{Byte, Half, Word, SignedWord}
-use Rattle.layout.specs.declared.Form.{Form}
-use Rattle.layout.specs.declared.Form.the-variants.{Mpb1, Mpb2}
+use Rattle.layout.specs.Layout.{Form}
+use Rattle.layout.specs.Layout.{mpb1, mpb2}
 use Rattle.layout.specs.Layout.{widthOf, valueAt, proportionOf, proportionAt, proportionBytes, hundredthsOf, greatestProportion}
 use Rattle.old_form.proofs.Parts.{Part}
 
@@ -36,19 +36,19 @@ same-value SignedWord s t at from h = ap signed32 (same-word s t at from h)
 abbrev pub Counted : Form → ℕ → Type 0
 Counted form p = hundredthsOf form * (p / hundredthsOf form) ≡ p
 
-pub fine : (p : ℕ) → Counted Mpb2 p
+pub fine : (p : ℕ) → Counted mpb2 p
 fine p = simp (div-one, one-mul)
 
-pub whole-per-cents : (p : ℕ) → p % 100 ≡ 0 → Counted Mpb1 p
+pub whole-per-cents : (p : ℕ) → p % 100 ≡ 0 → Counted mpb1 p
 whole-per-cents p h = omega arith
 
 pub bytes-length : (form : Form) (p : ℕ) → length (proportionBytes form p) ≡ widthOf (proportionOf form)
-bytes-length Mpb1 p = refl
-bytes-length Mpb2 p = refl
+bytes-length mpb1 p = refl
+bytes-length mpb2 p = refl
 
 written-value : (form : Form) (p : ℕ) → p ≤ greatestProportion → hundredthsOf form * natAbs (valueAt (proportionOf form) (proportionBytes form p) 0) ≡ hundredthsOf form * (p / hundredthsOf form)
-written-value Mpb1 p h = refl
-written-value Mpb2 p h = rw div-one (ap (λ (n : ℕ). 1 * n) (u16-back p (omega arith)))
+written-value mpb1 p h = refl
+written-value mpb2 p h = rw div-one (ap (λ (n : ℕ). 1 * n) (u16-back p (omega arith)))
 
 pub read-back : (form : Form) (s : List ℕ) (offset place p : ℕ) → p ≤ greatestProportion → Counted form p
     → Part s (offset + widthOf (proportionOf form) * place) (proportionBytes form p) → proportionAt form s offset place ≡ p

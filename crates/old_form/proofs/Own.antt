@@ -9,8 +9,8 @@ use lib.ListN.{length, take, drop, replicate, length-replicate, length-drop, get
 use lib.Seq.{drop-cons, drop-drop, take-add, getD-drop, ext-getD}
 use Rattle.little_endian.specs.Bytes.{byteAt}
 use Rattle.little_endian.proofs.Bytes.{bytes-of-u16}
-use Rattle.layout.specs.declared.Form.{Form}
-use Rattle.layout.specs.declared.Form.the-variants.{Mpb1, Mpb2}
+use Rattle.layout.specs.Layout.{Form}
+use Rattle.layout.specs.Layout.{mpb1, mpb2}
 use Rattle.layout.specs.Layout.{widthOf, proportionOf, proportionAt, proportionBytes, formOfRun, runLength, fieldsEnd, markOf, ages, birthYears}
 use Rattle.layout.specs.Layout.{foundationAt, ageProportionsAt, birthYearInitialRatesAt, birthYearProportionsAt}
 use Rattle.basis.specs.Basis.{Accepted}
@@ -32,8 +32,8 @@ module _ (run : List ℕ) (byte : (i : ℕ) → byteAt run i < 256) where
   -- ---- a P, and the P of a table
   one : (form : Form) (offset place : ℕ) → offset + widthOf (proportionOf form) * place + widthOf (proportionOf form) ≤ length run
       → proportionBytes form (proportionAt form run offset place) ≡ take (widthOf (proportionOf form)) (drop (offset + widthOf (proportionOf form) * place) run)
-  one Mpb1 offset place h = rw (drop-cons run (offset + 1 * place) 0 (omega arith)) (ap (λ (n : ℕ). n ∷ []) (omega arith))
-  one Mpb2 offset place h =
+  one mpb1 offset place h = rw (drop-cons run (offset + 1 * place) 0 (omega arith)) (ap (λ (n : ℕ). n ∷ []) (omega arith))
+  one mpb2 offset place h =
       let at = offset + 2 * place in
       rw (one-mul, div-one, drop-cons run at 0 (omega arith), drop-cons run (suc at) 0 (omega arith))
       (sym (bytes-of-u16 (byteAt run at) (byteAt run (at + 1)) (byte at) (byte (at + 1))) ∙ ap (λ (n : ℕ). byteAt run at ∷ byteAt run n ∷ []) (add-one at))

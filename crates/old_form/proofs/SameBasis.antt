@@ -8,7 +8,7 @@ use lib.IntN.{natAbs}
 use Rattle.little_endian.specs.Bytes.{byteAt, u16At, i32At}
 use Rattle.layout.specs.declared.Number.{Number}
 use Rattle.layout.specs.declared.Number.the-variants.{Byte, Half, Word, SignedWord}
-use Rattle.layout.specs.declared.Form.{Form}
+use Rattle.layout.specs.Layout.{Form}
 use Rattle.layout.specs.Layout.{widthOf, valueAt, entryAt, proportionAt, formOfRun, greatestProportion, ages, birthYears}
 use Rattle.layout.specs.Layout.{foundationAt, baseAt, additionAt, discountAt, zerosAt, baseRatesAt}
 use Rattle.layout.specs.Layout.{ageInitialRatesAt, ageLongTermRatesAt, agePeriodsAt, ageProportionsAt}

@@ -7,7 +7,7 @@ use native.Mathlib.Omega.{arith}
 use lib.ListN.{length}
 use borrow.Author.Tests.{eq-eqb, ne-eqb}
 use Rattle.outcome.specs.Outcome.{passed, refusedBy, refusal}
-use Rattle.layout.specs.declared.Form.the-variants.{Mpb1}
+use Rattle.layout.specs.Layout.{mpb1}
 use Rattle.layout.specs.Layout.{widthOf, proportionOf, proportionAt, proportionBytes, formOfRun}
 use Rattle.lent.specs.Lent.{placed}
 use Rattle.lent.proofs.Lent.{placed-none, then, then-length}
@@ -32,19 +32,19 @@ module _ (run : List ℕ) (offset n place : ℕ) where
     whole-stop e = rw (left, ne-eqb (here % 100) 0 e) refl
 
     -- ---- put into an output
-    module _ (out new : List ℕ) (at : ℕ) (room : at + n ≤ length out) (e : new ≡ placed out (at + place) (proportionBytes Mpb1 here)) where
+    module _ (out new : List ℕ) (at : ℕ) (room : at + n ≤ length out) (e : new ≡ placed out (at + place) (proportionBytes mpb1 here)) where
       pub put-length : length new ≡ length out
-      put-length = then-length out (at + place) (proportionBytes Mpb1 here) (omega arith) new e
+      put-length = then-length out (at + place) (proportionBytes mpb1 here) (omega arith) new e
 
-      pub put-turn : placed new (at + (place + 1)) (proportionsIn Mpb1 run offset (place + 1) (n - (place + 1)))
-          ≡ placed out (at + place) (proportionsIn Mpb1 run offset place (n - place))
+      pub put-turn : placed new (at + (place + 1)) (proportionsIn mpb1 run offset (place + 1) (n - (place + 1)))
+          ≡ placed out (at + place) (proportionsIn mpb1 run offset place (n - place))
       unfolding proportionsIn
-      put-turn = rw left (then out (at + place) (proportionBytes Mpb1 here) (omega arith) new e (at + (place + 1)) _ (omega arith))
+      put-turn = rw left (then out (at + place) (proportionBytes mpb1 here) (omega arith) new e (at + (place + 1)) _ (omega arith))
 
   pub whole-end : n ≤ place → wholeFrom run offset place (n - place) ≡ passed
   unfolding wholeFrom
   whole-end h = let e : n - place ≡ 0 = omega arith in rw e refl
 
-  pub put-end : (out : List ℕ) (at : ℕ) → n ≤ place → placed out (at + place) (proportionsIn Mpb1 run offset place (n - place)) ≡ out
+  pub put-end : (out : List ℕ) (at : ℕ) → n ≤ place → placed out (at + place) (proportionsIn mpb1 run offset place (n - place)) ≡ out
   unfolding proportionsIn
   put-end out at h = let e : n - place ≡ 0 = omega arith in rw e (placed-none out (at + place))

@@ -7,8 +7,8 @@ use lib.Dec.{eqb}
 use lib.ListN.{length, take, drop, replicate}
 use Rattle.little_endian.specs.Bytes.{byteAt}
 use Rattle.outcome.specs.Outcome.{Finding, passed, refusal, unless, firstOf}
-use Rattle.layout.specs.declared.Form.{Form}
-use Rattle.layout.specs.declared.Form.the-variants.{Mpb1, Mpb2}
+use Rattle.layout.specs.Layout.{Form}
+use Rattle.layout.specs.Layout.{mpb1, mpb2}
 use Rattle.layout.specs.Layout.{widthOf, proportionOf, proportionAt, proportionBytes, formOfRun, runLength, fileLength, markOf, fieldsEnd}
 use Rattle.layout.specs.Layout.{ages, birthYears, foundationAt, ageProportionsAt, birthYearInitialRatesAt, birthYearProportionsAt, greatestProportion}
 use Rattle.lent.specs.Lent.{roomCheck}
@@ -65,21 +65,21 @@ oldFormCheck run = firstOf (runCheck run) (wholeCheck run)
 
 -- before these the room of a file of MPB1 (11)
 abbrev pub writeOldCheck : List ℕ → List ℕ → Finding
-writeOldCheck run file = firstOf (roomCheck (fileLength Mpb1) file) (oldFormCheck run)
+writeOldCheck run file = firstOf (roomCheck (fileLength mpb1) file) (oldFormCheck run)
 
 -- the file
 abbrev pub oldFileOf : List ℕ → List ℕ
-oldFileOf run = fileOf (inForm Mpb1 run)
+oldFileOf run = fileOf (inForm mpb1 run)
 
 -- ---- the theorems
 pub record Forms : Type 0 where
   -- an accepted run of MPB1 and the run of MPB2 with the same fields and each P times 100 stand for the same basis
-  pub finer : (run : List ℕ) → runCheck run ≡ passed → (runCheck (inForm Mpb2 run) ≡ passed) × (basisOf (inForm Mpb2 run) ≡ basisOf run)
+  pub finer : (run : List ℕ) → runCheck run ≡ passed → (runCheck (inForm mpb2 run) ≡ passed) × (basisOf (inForm mpb2 run) ≡ basisOf run)
   -- what is written in the old form reads back as a run that stands for the same basis
   pub older : (run : List ℕ) → oldFormCheck run ≡ passed
-      → (fileCheck (oldFileOf run) ≡ passed) × (runIn (oldFileOf run) ≡ inForm Mpb1 run)
-      × (runCheck (inForm Mpb1 run) ≡ passed) × (basisOf (inForm Mpb1 run) ≡ basisOf run)
+      → (fileCheck (oldFileOf run) ≡ passed) × (runIn (oldFileOf run) ≡ inForm mpb1 run)
+      × (runCheck (inForm mpb1 run) ≡ passed) × (basisOf (inForm mpb1 run) ≡ basisOf run)
   -- a run in its own form is itself (its elements are bytes, as those of every lent run are), so that one of MPB1 is written as ever,
   -- and is refused by nothing more than its own check
   pub own : (run : List ℕ) → ((i : ℕ) → byteAt run i < 256) → runCheck run ≡ passed → inForm (formOfRun (length run)) run ≡ run
-  pub asEver : (run : List ℕ) → formOfRun (length run) ≡ Mpb1 → oldFormCheck run ≡ runCheck run
+  pub asEver : (run : List ℕ) → formOfRun (length run) ≡ mpb1 → oldFormCheck run ≡ runCheck run

@@ -2,7 +2,7 @@
 ghost use mathlib.Core.Path.{_≡_};
 ghost use Prim.Native.Nat.{_+_, _*_, _≤_};
 ghost use lib.ListN.{length};
-ghost use Rattle.layout.specs.declared.Form.the-variants.{Mpb1};
+ghost use Rattle.layout.specs.Layout.{mpb1};
 ghost use Rattle.layout.specs.Layout.{widthOf, proportionOf, formOfRun, runLength, birthYearInitialRatesAt};
 ghost use Rattle.lent.specs.Lent.{placed};
 ghost use Rattle.basis.specs.Basis.{Accepted};
@@ -16,7 +16,7 @@ use layout::offsets::birth_year_proportions_at;
 fn put_per_cents(run: &[u8], offset: usize, n: usize, out: &mut [u8], at: usize)
     requires { ⌜ Accepted (now run) × ProportionsWithin (now run) offset n × (at + n ≤ length (now out)) ⌝ }
     requires { ⌜ offset + widthOf (proportionOf (formOfRun (length (now run)))) * n ≤ length (now run) ⌝ }
-    ensures { λ _. ⌜ now (out .exit) ≡ placed (now (out .entry)) at (proportionsIn Mpb1 (now (run .entry)) offset 0 n) ⌝ }
+    ensures { λ _. ⌜ now (out .exit) ≡ placed (now (out .entry)) at (proportionsIn mpb1 (now (run .entry)) offset 0 n) ⌝ }
 {
     let form = form_of_run(run.len());
     let mut place: usize = 0;
@@ -29,8 +29,8 @@ fn put_per_cents(run: &[u8], offset: usize, n: usize, out: &mut [u8], at: usize)
 
 // The mark, the fields before the age P as they stand, and the age P.
 fn put_ages(run: &[u8], out: &mut [u8])
-    requires { ⌜ Accepted (now run) × (runLength Mpb1 ≤ length (now out)) ⌝ }
-    ensures { λ _. ⌜ now (out .exit) ≡ placed (now (out .entry)) 0 (agesIn Mpb1 (now (run .entry))) ⌝ }
+    requires { ⌜ Accepted (now run) × (runLength mpb1 ≤ length (now out)) ⌝ }
+    ensures { λ _. ⌜ now (out .exit) ≡ placed (now (out .entry)) 0 (agesIn mpb1 (now (run .entry))) ⌝ }
 {
     lent::put(b"MPB1", out, 0);
     lent::put(
@@ -49,8 +49,8 @@ fn put_ages(run: &[u8], out: &mut [u8])
 
 // The fields by birth year before P as they stand, and P, with which a run of MPB1 ends.
 fn put_birth_years(run: &[u8], out: &mut [u8])
-    requires { ⌜ Accepted (now run) × (runLength Mpb1 ≤ length (now out)) ⌝ }
-    ensures { λ _. ⌜ now (out .exit) ≡ placed (now (out .entry)) (birthYearInitialRatesAt Mpb1) (birthYearsIn Mpb1 (now (run .entry))) ⌝ }
+    requires { ⌜ Accepted (now run) × (runLength mpb1 ≤ length (now out)) ⌝ }
+    ensures { λ _. ⌜ now (out .exit) ≡ placed (now (out .entry)) (birthYearInitialRatesAt mpb1) (birthYearsIn mpb1 (now (run .entry))) ⌝ }
 {
     let form = form_of_run(run.len());
     let from = birth_year_initial_rates_at(form);
@@ -71,8 +71,8 @@ fn put_birth_years(run: &[u8], out: &mut [u8])
 
 // The whole run.
 pub(crate) fn lay_old_form(run: &[u8], out: &mut [u8])
-    requires { ⌜ Accepted (now run) × (length (now out) ≡ runLength Mpb1) ⌝ }
-    ensures { λ _. ⌜ now (out .exit) ≡ inForm Mpb1 (now (run .entry)) ⌝ }
+    requires { ⌜ Accepted (now run) × (length (now out) ≡ runLength mpb1) ⌝ }
+    ensures { λ _. ⌜ now (out .exit) ≡ inForm mpb1 (now (run .entry)) ⌝ }
 {
     put_ages(run, out);
     put_birth_years(run, out);

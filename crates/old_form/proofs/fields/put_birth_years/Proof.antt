@@ -9,6 +9,7 @@ use Rattle.basis.proofs.Lengths.{fields-within}
 use Rattle.old_form.proofs.Parts.{between-length}
 use Rattle.old_form.proofs.SameBasis.{birth-year-limits}
 use Rattle.old_form.proofs.Placing.{birth-years-placed}
+use Rattle.layout.specs.Meaning.{meant}
 use borrow.Author.Needs.{needs}
 use Rattle.old_form.proofs.fields.put_birth_years.Statement.{statement}
 use Rattle.old_form.proofs.fields.put_birth_years.Tie as tie
@@ -18,7 +19,7 @@ part-put-end c =
     let f = c .before .before in
     let s = f .before .before .before in
     let a : Accepted (s .args .run .now) = search needs in
-    let w : fieldsEnd (f .form-of-run .result) ≤ length (s .args .run .now) = rw (f .form-of-run .ensures) (fields-within (s .args .run .now) a) in
+    let w : fieldsEnd (meant (f .form-of-run .result)) ≤ length (s .args .run .now) = rw (f .form-of-run .ensures) (fields-within (s .args .run .now) a) in
     omega (arith, c .birth-year-proportions-at .ensures, w)
 
 put-requires : tie.Need-put-requires
@@ -29,7 +30,7 @@ put-requires c κs =
     let s = f .before .before .before in
     let run = s .args .run .now in
     let a : Accepted run = search needs in
-    let w : fieldsEnd (f .form-of-run .result) ≤ length run = rw (f .form-of-run .ensures) (fields-within run a) in
+    let w : fieldsEnd (meant (f .form-of-run .result)) ≤ length run = rw (f .form-of-run .ensures) (fields-within run a) in
     let h : p .birth-year-proportions-at .result ≤ length run = omega (arith, p .birth-year-proportions-at .ensures, w) in
     let n = between-length run (from .birth-year-initial-rates-at .result) (p .birth-year-proportions-at .result) h in
     omega (arith, n, from .birth-year-initial-rates-at .ensures, p .birth-year-proportions-at .ensures, c .birth-year-initial-rates-at2 .ensures)

@@ -4,7 +4,7 @@ use Prim.Native.Nat.{_+_, _*_, _-_, _≤_}
 use native.Mathlib.Nat.{add-zero, sub-zero}
 use native.Mathlib.Omega.{arith}
 use lib.ListN.{length}
-use Rattle.layout.specs.declared.Form.the-variants.{Mpb1}
+use Rattle.layout.specs.Layout.{mpb1}
 use Rattle.layout.specs.Layout.{widthOf, proportionOf, proportionBytes, formOfRun}
 use Rattle.lent.specs.Lent.{placed}
 use Rattle.basis.specs.Basis.{Accepted}
@@ -18,7 +18,7 @@ use Rattle.old_form.proofs.fields.put_per_cents.Tie as tie
 abbrev Inv-loop : tie.InvT-loop
 Inv-loop run offset n out₀ at form place₀ out place =
     (place ≤ n) × (length out ≡ length out₀)
-    × (placed out (at + place) (proportionsIn Mpb1 run offset place (n - place)) ≡ placed out₀ at (proportionsIn Mpb1 run offset 0 n))
+    × (placed out (at + place) (proportionsIn mpb1 run offset place (n - place)) ≡ placed out₀ at (proportionsIn mpb1 run offset 0 n))
 
 abbrev μ-loop : tie.MeasureT-loop
 μ-loop run offset n out₀ at form place₀ out place = n - place
@@ -56,7 +56,7 @@ loop-again c =
     let f = l .before in
     let a = f .before .before .before .args in
     let e = rw (f .form-of-run .ensures) at (p .proportion-at .ensures) in
-    let new = put .put-proportion .ensures ∙ ap (λ p. placed (l .loop .out) (a .at + l .loop .place) (proportionBytes Mpb1 p)) e in
+    let new = put .put-proportion .ensures ∙ ap (λ p. placed (l .loop .out) (a .at + l .loop .place) (proportionBytes mpb1 p)) e in
     let room : a .at + a .n ≤ length (l .loop .out) = omega arith in (
       omega arith,
       put-length (a .run .now) (a .offset) (a .n) (l .loop .place) (t .loop-test .taken) (l .loop .out) _ (a .at) room new ∙ l .loop .inv .1,
