@@ -1,11 +1,10 @@
 -- What the check of the old form lets through: an accepted run, each P of which is a whole per cent. Assumes nothing.
-use mathlib.Core.Path.{_≡_, refl, sym, ap, _∙_}
+use mathlib.Core.Path.{_≡_, sym, _∙_}
 use mathlib.Core.List.{List}
 use Prim.Native.Nat.{ℕ, zero, suc, _+_, _*_, _%_, _<_}
 use native.Mathlib.Nat.{add-zero, not-suc-le-zero}
 use native.Mathlib.Omega.{arith}
 use lib.ListN.{length}
-use lib.Dec.{eqb}
 use mathlib.Core.Bool.{Bool, true}
 use borrow.Author.Tests.{eqb-true}
 use Rattle.outcome.specs.Outcome.{Finding, passed, refusedBy, refusal, unless}
@@ -16,7 +15,7 @@ use Rattle.layout.specs.Layout.{widthOf, proportionOf, proportionAt, formOfRun,
 use Rattle.basis.specs.Basis.{Accepted}
 use Rattle.run_check.specs.Run.{runCheck}
 use Rattle.run_check.proofs.Acceptance.{accepted}
-use Rattle.old_form.specs.OldForm.{wholeFrom, wholeCheck, oldFormCheck}
+use Rattle.old_form.specs.OldForm.{isWhole, wholeFrom, wholeCheck, oldFormCheck}
 use Rattle.old_form.proofs.Numbers.{whole-per-cents}
 use Rattle.old_form.proofs.SameBasis.{Counts}
 
@@ -27,7 +26,7 @@ module _ (run : List ℕ) where
     rest = wholeFrom run offset (place + 1) n
 
     abbrev ok : Bool
-    ok = eqb (proportionAt (formOfRun (length run)) run offset place % 100) 0
+    ok = isWhole (proportionAt (formOfRun (length run)) run offset place)
 
     abbrev refused-here : Refusal
     refused-here = refusal 17 (offset + widthOf (proportionOf (formOfRun (length run))) * place) 0
@@ -36,7 +35,8 @@ module _ (run : List ℕ) where
     unfolding wholeFrom
     parted h = let e = both-passed (unless ok refused-here) rest h in (unless-passed ok refused-here (e .0), e .1)
 
-  each-whole : (offset place n : ℕ) → wholeFrom run offset place n ≡ passed → (i : ℕ) → i < n → proportionAt (formOfRun (length run)) run offset (place + i) % 100 ≡ 0
+  each-whole : (offset place n : ℕ) → wholeFrom run offset place n ≡ passed → (i : ℕ) → i < n
+      → proportionAt (formOfRun (length run)) run offset (place + i) % 100 ≡ 0
   unfolding wholeFrom
   each-whole offset place zero h i l = absurd (not-suc-le-zero l)
   each-whole offset place (suc n) h zero l =

@@ -1,7 +1,7 @@
 -- The theorems of the forms. Assumes nothing.
-use mathlib.Core.Path.{_≡_, refl, sym, ap, _∙_}
+use mathlib.Core.Path.{_≡_, refl}
 use mathlib.Core.List.{List}
-use Prim.Native.Nat.{ℕ, zero, suc, _+_, _*_, _%_}
+use Prim.Native.Nat.{ℕ, zero, suc, _+_, _%_}
 use native.Mathlib.Omega.{arith}
 use lib.ListN.{length}
 use borrow.Author.Tests.{eq-eqb}
@@ -11,7 +11,7 @@ use Rattle.layout.specs.Layout.{formOfRun, proportionAt, ages, birthYears, ageP
 use Rattle.run_check.specs.Run.{runCheck}
 use Rattle.run_check.proofs.Acceptance.{accepted, passes}
 use Rattle.basis_file.proofs.RoundTrip.{round-trips}
-use Rattle.old_form.specs.OldForm.{inForm, wholeFrom, wholeCheck, oldFormCheck, Forms}
+use Rattle.old_form.specs.OldForm.{inForm, wholeFrom, oldFormCheck, Forms}
 use Rattle.old_form.proofs.Numbers.{fine}
 use Rattle.old_form.proofs.SameBasis.{Counts, same-basis, laid-accepted}
 use Rattle.old_form.proofs.Checking.{old-form-passed}

@@ -1,13 +1,12 @@
 -- An accepted run in a form: its length, and what stands in it. Assumes nothing.
-use mathlib.Core.Path.{_≡_, refl, sym, ap, _∙_}
+use mathlib.Core.Path.{_≡_, refl, ap, _∙_}
 use mathlib.Core.List.{List, _++_}
-use Prim.Native.Nat.{ℕ, _+_, _*_, _-_, _<_, _≤_}
+use Prim.Native.Nat.{ℕ, _+_, _-_, _<_, _≤_}
 use native.Mathlib.Omega.{arith}
-use lib.ListN.{length, take, drop, replicate, length-replicate, getD-replicate}
-use lib.Seq.{take-at}
+use lib.ListN.{length, take, replicate, length-replicate, getD-replicate}
 use Rattle.little_endian.specs.Bytes.{byteAt}
 use Rattle.layout.specs.Layout.{Form}
-use Rattle.layout.specs.Layout.{widthOf, proportionOf, formOfRun, runLength, markOf, fieldsEnd, ages, birthYears}
+use Rattle.layout.specs.Layout.{formOfRun, runLength, markOf, fieldsEnd, ages, birthYears}
 use Rattle.layout.specs.Layout.{foundationAt, ageProportionsAt, birthYearInitialRatesAt, birthYearProportionsAt}
 use Rattle.layout.proofs.EachForm.{fields-inside, of-run}
 use Rattle.basis.specs.Basis.{Accepted}

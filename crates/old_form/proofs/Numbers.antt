@@ -1,5 +1,5 @@
 -- Numbers whose bytes are the same, and a P that is written and read back. Assumes nothing.
-use mathlib.Core.Path.{_≡_, refl, sym, ap, _∙_}
+use mathlib.Core.Path.{_≡_, refl, ap, _∙_}
 use mathlib.Core.List.{List}
 use Prim.Native.Nat.{ℕ, _+_, _*_, _/_, _%_, _<_, _≤_}
 use native.Mathlib.Nat.{add-zero, zero-add, div-one, one-mul}
@@ -46,7 +46,8 @@ pub bytes-length : (form : Form) (p : ℕ) → length (proportionBytes form p) �
 bytes-length mpb1 p = refl
 bytes-length mpb2 p = refl
 
-written-value : (form : Form) (p : ℕ) → p ≤ greatestProportion → hundredthsOf form * natAbs (valueAt (proportionOf form) (proportionBytes form p) 0) ≡ hundredthsOf form * (p / hundredthsOf form)
+written-value : (form : Form) (p : ℕ) → p ≤ greatestProportion
+    → hundredthsOf form * natAbs (valueAt (proportionOf form) (proportionBytes form p) 0) ≡ hundredthsOf form * (p / hundredthsOf form)
 written-value mpb1 p h = refl
 written-value mpb2 p h = rw div-one (ap (λ (n : ℕ). 1 * n) (u16-back p (omega arith)))
 

@@ -5,18 +5,18 @@ use Prim.Native.Nat.{ℕ, zero, suc, _+_, _*_, _-_, _<_, _≤_}
 use native.Mathlib.Nat.{mul-zero, mul-suc, one-mul, div-one}
 use native.Mathlib.Numerals.{add-one}
 use native.Mathlib.Omega.{arith}
-use lib.ListN.{length, take, drop, replicate, length-replicate, length-drop, getD-replicate, take-append-drop}
+use lib.ListN.{length, take, drop, length-replicate, length-drop, getD-replicate, take-append-drop}
 use lib.Seq.{drop-cons, drop-drop, take-add, getD-drop, ext-getD}
 use Rattle.little_endian.specs.Bytes.{byteAt}
 use Rattle.little_endian.proofs.Bytes.{bytes-of-u16}
 use Rattle.layout.specs.Layout.{Form}
 use Rattle.layout.specs.Layout.{mpb1, mpb2}
-use Rattle.layout.specs.Layout.{widthOf, proportionOf, proportionAt, proportionBytes, formOfRun, runLength, fieldsEnd, markOf, ages, birthYears}
+use Rattle.layout.specs.Layout.{widthOf, proportionOf, proportionAt, proportionBytes, formOfRun, runLength, fieldsEnd, ages, birthYears}
 use Rattle.layout.specs.Layout.{foundationAt, ageProportionsAt, birthYearInitialRatesAt, birthYearProportionsAt}
 use Rattle.basis.specs.Basis.{Accepted}
-use Rattle.basis.proofs.Lengths.{long-enough, fields-within}
+use Rattle.basis.proofs.Lengths.{fields-within}
 use Rattle.old_form.specs.OldForm.{proportionsIn, between, inForm}
-use Rattle.old_form.proofs.Laying.{front, agePs, births, birthPs, tail, in-six}
+use Rattle.old_form.proofs.Laying.{tail, in-six}
 
 -- six stretches of a list, one after another
 glued : (run a b c d e f : List ℕ) (n₁ n₂ n₃ n₄ n₅ : ℕ) → n₁ ≤ n₂ → n₂ ≤ n₃ → n₃ ≤ n₄ → n₄ ≤ n₅

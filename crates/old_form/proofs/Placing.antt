@@ -1,7 +1,7 @@
 -- One part of a run of MPB1 after another, put into an output. Assumes nothing.
 use mathlib.Core.Path.{_≡_, refl, sym, ap, _∙_}
-use mathlib.Core.List.{List, [], _++_, append-nil}
-use Prim.Native.Nat.{ℕ, _+_, _*_, _-_, _≤_}
+use mathlib.Core.List.{List, _++_, append-nil}
+use Prim.Native.Nat.{ℕ, _+_, _-_, _≤_}
 use native.Mathlib.Omega.{arith}
 use lib.ListN.{length, length-append}
 use Rattle.layout.specs.Layout.{mpb1}
@@ -10,7 +10,7 @@ use Rattle.layout.specs.Layout.{foundationAt, ageProportionsAt, birthYearInitia
 use Rattle.lent.specs.Lent.{placed}
 use Rattle.lent.proofs.Lent.{then, placed-whole}
 use Rattle.basis.specs.Basis.{Accepted}
-use Rattle.old_form.specs.OldForm.{proportionsIn, between, agesIn, birthYearsIn, inForm}
+use Rattle.old_form.specs.OldForm.{agesIn, birthYearsIn, inForm}
 use Rattle.old_form.proofs.Proportions.{proportions-length}
 use Rattle.old_form.proofs.Laying.{front, agePs, births, birthPs, front-length, births-length, laid-length}
 

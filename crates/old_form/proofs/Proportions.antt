@@ -1,15 +1,15 @@
 -- The P of a table, as a form writes them: how many bytes, and which stand at each place. Assumes nothing.
-use mathlib.Core.Path.{_≡_, refl, sym, ap, _∙_}
-use mathlib.Core.List.{List, _++_}
+use mathlib.Core.Path.{_≡_, refl}
+use mathlib.Core.List.{List}
 use Prim.Native.Nat.{ℕ, zero, suc, _+_, _*_, _<_, _≤_}
 use native.Mathlib.Nat.{mul-zero, mul-suc, add-zero, not-suc-le-zero}
 use native.Mathlib.Omega.{arith}
 use lib.ListN.{length, length-append}
 use Rattle.layout.specs.Layout.{Form}
-use Rattle.layout.specs.Layout.{widthOf, proportionOf, proportionAt, proportionBytes, formOfRun, greatestProportion}
+use Rattle.layout.specs.Layout.{widthOf, proportionOf, proportionAt, proportionBytes, formOfRun}
 use Rattle.basis.proofs.Lengths.{entry-inside}
 use Rattle.old_form.specs.OldForm.{proportionsIn, ProportionsWithin}
-use Rattle.old_form.proofs.Parts.{Part, last, ahead, behind, within}
+use Rattle.old_form.proofs.Parts.{Part, ahead, behind, within}
 use Rattle.old_form.proofs.Numbers.{Counted, bytes-length, read-back}
 
 module _ (form : Form) (run : List ℕ) (offset : ℕ) where

@@ -1,16 +1,16 @@
 -- An accepted run in a form whose counting loses nothing of its P stands for the same basis, and is accepted. Assumes nothing.
-use mathlib.Core.Path.{_≡_, refl, sym, ap, _∙_, fun-ext}
+use mathlib.Core.Path.{_≡_, refl, ap, _∙_, fun-ext}
 use mathlib.Core.List.{List}
 use Prim.Native.Nat.{ℕ, _+_, _*_, _-_, _<_, _≤_}
 use native.Mathlib.Omega.{arith}
 use lib.ListN.{length}
 use lib.IntN.{natAbs}
-use Rattle.little_endian.specs.Bytes.{byteAt, u16At, i32At}
+use Rattle.little_endian.specs.Bytes.{byteAt}
 use Rattle.layout.specs.declared.Number.{Number}
 use Rattle.layout.specs.declared.Number.the-variants.{Byte, Half, Word, SignedWord}
 use Rattle.layout.specs.Layout.{Form}
-use Rattle.layout.specs.Layout.{widthOf, valueAt, entryAt, proportionAt, formOfRun, greatestProportion, ages, birthYears}
-use Rattle.layout.specs.Layout.{foundationAt, baseAt, additionAt, discountAt, zerosAt, baseRatesAt}
+use Rattle.layout.specs.Layout.{widthOf, valueAt, proportionAt, formOfRun, ages, birthYears}
+use Rattle.layout.specs.Layout.{foundationAt, baseAt, additionAt, discountAt, baseRatesAt}
 use Rattle.layout.specs.Layout.{ageInitialRatesAt, ageLongTermRatesAt, agePeriodsAt, ageProportionsAt}
 use Rattle.layout.specs.Layout.{birthYearInitialRatesAt, birthYearLongTermRatesAt, birthYearPeriodsAt, birthYearProportionsAt}
 use Rattle.basis.specs.Basis.{basisOf, ageTermsAt, birthYearTermsAt, agePlace, birthYearPlace, Accepted}

@@ -1,17 +1,16 @@
 -- The loops over the P of a table, one P more: what is left gives the same in the end. Assumes nothing.
-use mathlib.Core.Path.{_≡_, refl, sym, ap, _∙_}
+use mathlib.Core.Path.{_≡_, refl}
 use mathlib.Core.List.{List}
-use mathlib.Core.Logic.{_≢_}
-use Prim.Native.Nat.{ℕ, suc, _+_, _*_, _-_, _%_, _<_, _≤_}
+use mathlib.Core.Bool.{true, false}
+use Prim.Native.Nat.{ℕ, suc, _+_, _*_, _-_, _<_, _≤_}
 use native.Mathlib.Omega.{arith}
 use lib.ListN.{length}
-use borrow.Author.Tests.{eq-eqb, ne-eqb}
 use Rattle.outcome.specs.Outcome.{passed, refusedBy, refusal}
 use Rattle.layout.specs.Layout.{mpb1}
 use Rattle.layout.specs.Layout.{widthOf, proportionOf, proportionAt, proportionBytes, formOfRun}
 use Rattle.lent.specs.Lent.{placed}
 use Rattle.lent.proofs.Lent.{placed-none, then, then-length}
-use Rattle.old_form.specs.OldForm.{proportionsIn, wholeFrom}
+use Rattle.old_form.specs.OldForm.{proportionsIn, isWhole, wholeFrom}
 
 module _ (run : List ℕ) (offset n place : ℕ) where
   abbrev here : ℕ
@@ -22,14 +21,14 @@ module _ (run : List ℕ) (offset n place : ℕ) where
     left = omega arith
 
     -- ---- looked at
-    pub whole-turn : here % 100 ≡ 0 → wholeFrom run offset (place + 1) (n - (place + 1)) ≡ wholeFrom run offset place (n - place)
+    pub whole-turn : {p : ℕ} → p ≡ here → isWhole p ≡ true → wholeFrom run offset (place + 1) (n - (place + 1)) ≡ wholeFrom run offset place (n - place)
     unfolding wholeFrom
-    whole-turn e = rw (left, eq-eqb (here % 100) 0 e) refl
+    whole-turn same e = rw (left, ← same, e) refl
 
-    pub whole-stop : here % 100 ≢ 0
+    pub whole-stop : {p : ℕ} → p ≡ here → isWhole p ≡ false
         → refusedBy (refusal 17 (offset + widthOf (proportionOf (formOfRun (length run))) * place) 0) ≡ wholeFrom run offset place (n - place)
     unfolding wholeFrom
-    whole-stop e = rw (left, ne-eqb (here % 100) 0 e) refl
+    whole-stop same e = rw (left, ← same, e) refl
 
     -- ---- put into an output
     module _ (out new : List ℕ) (at : ℕ) (room : at + n ≤ length out) (e : new ≡ placed out (at + place) (proportionBytes mpb1 here)) where

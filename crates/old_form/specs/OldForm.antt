@@ -2,6 +2,7 @@
 -- no whole per cent (17).
 use Prim.Native.Nat.{ℕ, zero, suc, _+_, _*_, _-_, _%_, _<_, _≤_}
 use mathlib.Core.Path.{_≡_}
+use mathlib.Core.Bool.{Bool}
 use mathlib.Core.List.{List, [], _++_}
 use lib.Dec.{eqb}
 use lib.ListN.{length, take, drop, replicate}
@@ -47,13 +48,17 @@ unfoldable pub inForm : Form → List ℕ → List ℕ
 inForm form run = agesIn form run ++ birthYearsIn form run
 
 -- ---- the check
+-- a P in whole per cents
+abbrev pub isWhole : ℕ → Bool
+isWhole hundredths = eqb (hundredths % 100) 0
+
 -- the first of n P of a table, from a place on, that is no whole per cent
 unfoldable pub wholeFrom : List ℕ → ℕ → ℕ → ℕ → Finding
 wholeFrom run offset place zero = passed
 wholeFrom run offset place (suc n) =
     let form = formOfRun (length run) in
     firstOf
-    (unless (eqb (proportionAt form run offset place % 100) 0) (refusal 17 (offset + widthOf (proportionOf form) * place) 0))
+    (unless (isWhole (proportionAt form run offset place)) (refusal 17 (offset + widthOf (proportionOf form) * place) 0))
     (wholeFrom run offset (place + 1) n)
 
 abbrev pub wholeCheck : List ℕ → Finding

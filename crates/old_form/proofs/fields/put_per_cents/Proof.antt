@@ -1,11 +1,11 @@
 -- What is left of the P gives the same output as all of them.
-use mathlib.Core.Path.{_≡_, refl, sym, ap, _∙_}
-use Prim.Native.Nat.{_+_, _*_, _-_, _≤_}
+use mathlib.Core.Path.{_≡_, refl, sym, _∙_}
+use Prim.Native.Nat.{_+_, _-_, _≤_}
 use native.Mathlib.Nat.{add-zero, sub-zero}
 use native.Mathlib.Omega.{arith}
 use lib.ListN.{length}
 use Rattle.layout.specs.Layout.{mpb1}
-use Rattle.layout.specs.Layout.{widthOf, proportionOf, proportionBytes, formOfRun}
+use Rattle.layout.specs.Layout.{widthOf, proportionOf, formOfRun}
 use Rattle.lent.specs.Lent.{placed}
 use Rattle.basis.specs.Basis.{Accepted}
 use Rattle.basis.proofs.Lengths.{entry-inside, short-enough}
@@ -56,7 +56,7 @@ loop-again c =
     let f = l .before in
     let a = f .before .before .before .args in
     let e = rw (f .form-of-run .ensures) at (p .proportion-at .ensures) in
-    let new = put .put-proportion .ensures ∙ ap (λ p. placed (l .loop .out) (a .at + l .loop .place) (proportionBytes mpb1 p)) e in
+    let new = rw e at (put .put-proportion .ensures) in
     let room : a .at + a .n ≤ length (l .loop .out) = omega arith in (
       omega arith,
       put-length (a .run .now) (a .offset) (a .n) (l .loop .place) (t .loop-test .taken) (l .loop .out) _ (a .at) room new ∙ l .loop .inv .1,

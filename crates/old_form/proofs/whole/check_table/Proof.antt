@@ -1,9 +1,10 @@
 -- What is left of a table gives the same answer as the whole table.
-use mathlib.Core.Path.{_≡_, refl, sym, ap, _∙_}
-use Prim.Native.Nat.{_+_, _*_, _-_, _≤_, _%_}
+use mathlib.Core.Path.{_≡_, sym, _∙_}
+use Prim.Native.Nat.{_-_, _≤_}
 use native.Mathlib.Nat.{sub-zero}
 use native.Mathlib.Omega.{arith}
 use lib.ListN.{length}
+use borrow.Author.Tests.{eq-eqb, ne-eqb}
 use Rattle.layout.specs.Layout.{widthOf, proportionOf, formOfRun}
 use Rattle.basis.specs.Basis.{Accepted}
 use Rattle.basis.proofs.Lengths.{entry-inside, short-enough}
@@ -62,7 +63,7 @@ returns c =
     let a = f .before .before .args in
     let e = rw (f .form-of-run .ensures) at (p .proportion-at .ensures) in
     rw (w .proportion-width .ensures, f .form-of-run .ensures)
-    (whole-stop (a .run .now) (a .offset) (a .n) (l .loop .place) (t .loop-test .taken) (rw e at (c .if1 .taken)) ∙ l .loop .inv .1)
+    (whole-stop (a .run .now) (a .offset) (a .n) (l .loop .place) (t .loop-test .taken) e (ne-eqb _ 0 (c .if1 .taken)) ∙ l .loop .inv .1)
 
 loop-again : tie.Need-loop-again Inv-loop μ-loop
 loop-again c =
@@ -73,7 +74,7 @@ loop-again c =
     let a = f .before .before .args in
     let e = rw (f .form-of-run .ensures) at (p .proportion-at .ensures) in (
       omega arith,
-      whole-turn (a .run .now) (a .offset) (a .n) (l .loop .place) (t .loop-test .taken) (rw e at (c .if1 .left)) ∙ l .loop .inv .1,
+      whole-turn (a .run .now) (a .offset) (a .n) (l .loop .place) (t .loop-test .taken) e (eq-eqb _ 0 (c .if1 .left)) ∙ l .loop .inv .1,
     )
 
 returns-2 : tie.Need-returns-2 Inv-loop μ-loop

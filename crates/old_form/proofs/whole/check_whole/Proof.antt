@@ -1,7 +1,6 @@
 -- Both tables end inside the run, and what is found first in them is what the definition finds first.
-use mathlib.Core.Path.{_≡_, _∙_}
+use mathlib.Core.Path.{_∙_}
 use native.Mathlib.Omega.{arith}
-use lib.ListN.{length}
 use Rattle.outcome.proofs.Outcome.{first-same}
 use Rattle.basis.specs.Basis.{Accepted}
 use Rattle.basis.proofs.Lengths.{fields-within}
@@ -20,7 +19,7 @@ check-table-requires-2 c κs =
     let f = c .before .before in
     let s = f .before .before in
     let a : Accepted (s .args .run .now) = search needs in
-    (a, rw (c .birth-year-proportions-at .ensures, f .form-of-run .ensures) (fields-within (s .args .run .now) a))
+    (a, rw (c .birth-year-proportions-at .ensures, f .form-of-run .ensures) (omega (arith, fields-within (s .args .run .now) a)))
 
 returns : tie.Need-returns
 returns c =
