@@ -46,7 +46,7 @@ module _ (run : List ℕ) (h : length run ≡ runLength (formOfRun (length run))
   file-size = file-length ∙ ap fileLength (sym file-form)
 
 module _ (file : List ℕ) (h : length file ≡ fileLength (formOfFile (length file))) where
-  run-length : length (runIn file) ≡ runLength (formOfFile (length file))
+  pub run-length : length (runIn file) ≡ runLength (formOfFile (length file))
   unfolding runIn
   run-length = parts-length (blocksIn (formOfFile (length file))) file h
 

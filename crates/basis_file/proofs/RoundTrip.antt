@@ -15,7 +15,7 @@ use Rattle.block.proofs.Blocks.{block-length, data-stand, block-accepted, block
 use Rattle.block.specs.Blocks.{partsOf, blocksOf, blocksCheck}
 use Rattle.basis_file.specs.File.{runIn, fileOf, fileBlocksCheck, fileCheck}
 use Rattle.basis_file.specs.RoundTrips.{RoundTrips}
-use Rattle.basis_file.proofs.Files.{file-form, file-size, run-form, right-size, outer-passed, file-passed, accepted-run}
+use Rattle.basis_file.proofs.Files.{file-form, file-size, run-length, run-form, right-size, outer-passed, file-passed, accepted-run}
 use Rattle.outcome.specs.Outcome.{passed}
 
 -- ---- from a run to its file and back
@@ -82,6 +82,10 @@ blocks-back (suc n) place file l b h =
 -- the run in an accepted file is accepted
 pub run-accepted : (file : List ℕ) → fileCheck file ≡ passed → runCheck (runIn file) ≡ passed
 run-accepted file h = file-passed file h .1
+
+-- and has the length of the file's form
+pub run-size : (file : List ℕ) → fileCheck file ≡ passed → length (runIn file) ≡ runLength (formOfFile (length file))
+run-size file h = run-length file (outer-passed file (file-passed file h .0) .0)
 
 -- ---- both ways round
 pub round-trips : RoundTrips
