@@ -10,7 +10,7 @@ use Rattle.outcome.specs.Outcome.{Finding, passed, finding}
 use Rattle.outcome.proofs.Outcome.{both-passed}
 use Rattle.lent.specs.Lent.{written}
 use Rattle.lent.proofs.Lent.{roomy, filled}
-use Rattle.layout.specs.declared.Form.the-variants.{Mpb2}
+use Rattle.layout.specs.Layout.{mpb2}
 use Rattle.layout.specs.Layout.{runLength, formOfFile}
 use Rattle.layout.proofs.EachForm.{run-high}
 use Rattle.run_check.proofs.Acceptance.{accepted}
@@ -36,7 +36,7 @@ module _ (file : List ℕ) (h : fileCheck file ≡ passed) where
       ap (take n) (filled c (runIn file) room n e size) ∙ take-at (runIn file) (drop n room) n size
 
 -- where there is room, the file's own check decides
-pub read-check : (file room : List ℕ) → runLength Mpb2 ≤ length room → (c : Finding) → c ≡ readCheck file room → fileCheck file ≡ c
+pub read-check : (file room : List ℕ) → runLength mpb2 ≤ length room → (c : Finding) → c ≡ readCheck file room → fileCheck file ≡ c
 read-check file room l c e =
     let form = formOfFile (length file) in
     sym (roomy (runLength form) room (fileCheck file) (omega (arith, run-high form))) ∙ sym e

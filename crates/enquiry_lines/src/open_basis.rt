@@ -3,7 +3,7 @@ ghost use mathlib.Core.Path.{_≡_};
 ghost use Prim.Native.Nat.{_≤_};
 ghost use lib.ListN.{length};
 ghost use Rattle.outcome.specs.Outcome.{finding};
-ghost use Rattle.layout.specs.declared.Form.the-variants.{Mpb2};
+ghost use Rattle.layout.specs.Layout.{mpb2};
 ghost use Rattle.layout.specs.Layout.{runLength};
 ghost use Rattle.lent.specs.Lent.{written};
 ghost use Rattle.basis_file.specs.File.{runIn};
@@ -17,7 +17,7 @@ use reply_text::reply;
 // The file's data run, put into the front of `run` where neither the file nor the history is refused. There is room for
 // either form. It is read into an array of its own first, since the history is checked against it.
 fn read_files(file: &[u8], history: &[u8], run: &mut [u8]) -> Check
-    requires { ⌜ runLength Mpb2 ≤ length (now run) ⌝ }
+    requires { ⌜ runLength mpb2 ≤ length (now run) ⌝ }
     ensures { λ r. ⌜ finding r ≡ filesCheck (now (file .entry)) (now (history .entry)) ⌝ }
     ensures { λ r. ⌜ now (run .exit) ≡ written (finding r) (runIn (now (file .entry))) (now (run .entry)) ⌝ }
 {
@@ -36,7 +36,7 @@ fn read_files(file: &[u8], history: &[u8], run: &mut [u8]) -> Check
 
 // The same, and the opening line at the start of `out`.
 pub fn open_files(file: &[u8], history: &[u8], run: &mut [u8], out: &mut [u8]) -> Opening
-    requires { ⌜ runLength Mpb2 ≤ length (now run) ⌝ }
+    requires { ⌜ runLength mpb2 ≤ length (now run) ⌝ }
     requires { ⌜ replyRoom ≤ length (now out) ⌝ }
     ensures { λ r. ⌜ Opened (now (file .entry)) (now (history .entry)) (now (run .entry)) (now (out .entry)) (now (run .exit)) (now (out .exit)) r ⌝ }
 {

@@ -3,7 +3,7 @@
 ghost use mathlib.Core.Path.{_≡_};
 ghost use Prim.Native.Nat.{_+_, _*_, _≤_};
 ghost use lib.ListN.{length};
-ghost use Rattle.layout.specs.declared.Form.the-variants.{Mpb2};
+ghost use Rattle.layout.specs.Layout.{mpb2};
 ghost use Rattle.layout.specs.Layout.{runLength, fileLength};
 ghost use Rattle.history.specs.History.{Workable};
 ghost use Rattle.factor_table.specs.FactorTable.{tableLength};
@@ -32,7 +32,7 @@ struct Turn {
 const FILE_ROOM: usize = layout::MPB2_FILE_LENGTH + 1;
 
 fn file_room() -> [u8; FILE_ROOM]
-    ensures { λ r. ⌜ fileLength Mpb2 + 1 ≡ length r ⌝ }
+    ensures { λ r. ⌜ fileLength mpb2 + 1 ≡ length r ⌝ }
 {
     [0; FILE_ROOM]
 }
@@ -46,7 +46,7 @@ fn history_room() -> [u8; 90113]
 
 // Room for the run of either form, which stands in front of it.
 fn run_room() -> [u8; layout::MPB2_RUN_LENGTH]
-    ensures { λ r. ⌜ runLength Mpb2 ≡ length r ⌝ }
+    ensures { λ r. ⌜ runLength mpb2 ≡ length r ⌝ }
 {
     [0; layout::MPB2_RUN_LENGTH]
 }

@@ -10,7 +10,7 @@ use Rattle.basis.specs.Basis.{basisOf}
 use Rattle.outcome.proofs.Outcome.{first-passed, first-refused}
 use Rattle.lent.specs.Lent.{placed}
 use Rattle.lent.proofs.Lent.{kept, put-in-front}
-use Rattle.layout.specs.declared.Form.the-variants.{Mpb2}
+use Rattle.layout.specs.Layout.{mpb2}
 use Rattle.layout.specs.Layout.{runLength, formOfFile}
 use Rattle.layout.proofs.EachForm.{run-high}
 use Rattle.basis_file.specs.File.{fileCheck, runIn}
@@ -27,7 +27,7 @@ abbrev start : tie.After-read-file → tie.Start
 start k = k .before .before .before .before .before
 
 decides : (k : tie.After-read-file) → fileCheck (start k .args .file .now) ≡ finding (k .read-file .result)
-decides k = read-check _ (replicate (runLength Mpb2) 0) (room-long (runLength Mpb2)) _ (k .read-file .ensures .0)
+decides k = read-check _ (replicate (runLength mpb2) 0) (room-long (runLength mpb2)) _ (k .read-file .ensures .0)
 
 -- where that is nothing against it
 abbrev reads : tie.After-length-needed → tie.After-read-file
@@ -41,7 +41,7 @@ holds : (m : tie.After-length-needed) → take (m .length-needed .result) (reads
 holds m =
     let k = reads m in
     ap (take (m .length-needed .result)) (k .read-file .ensures .1)
-    ∙ run-in-front _ (decides k ∙ goes m) (replicate (runLength Mpb2) 0) _ (goes m) _ (m .length-needed .ensures)
+    ∙ run-in-front _ (decides k ∙ goes m) (replicate (runLength mpb2) 0) _ (goes m) _ (m .length-needed .ensures)
 
 judged : (h : tie.After-check-history) →
     let a = start (reads (h .before .before)) .args in
