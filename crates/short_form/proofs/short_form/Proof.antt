@@ -12,19 +12,21 @@ use borrow.Author.Needs.{needs}
 use Rattle.short_form.proofs.short_form.Statement.{statement}
 use Rattle.short_form.proofs.short_form.Tie as tie
 
-checked : (k : tie.After-first-of)
-    → finding (k .first-of .result)
-    ≡ shortCheck (k .before .before .before .before .before .before .before .args .run .now) (k .before .before .before .before .before .before .before .args .rate) (k .before .before .before .before .before .before .before .args .out .now)
+abbrev start : tie.After-first-of → tie.Start
+start k = k .before .before .before .before .before .before .before
+
+-- what is found is the definition's
+checked : (k : tie.After-first-of) → finding (k .first-of .result) ≡ shortCheck (start k .args .run .now) (start k .args .rate) (start k .args .out .now)
 checked k =
     let form = k .before .before .before .before .form-of-run .ensures in
     let room = rw (k .before .before .before .run-length .ensures, form) at (k .before .before .check-room .ensures) in
-    rw (room, k .before .check-short-form .ensures, toZ-ofZ (k .before .before .before .before .before .before .before .fits .rate)) at (k .first-of .ensures)
+    rw (room, k .before .check-short-form .ensures, toZ-ofZ (start k .fits .rate)) at (k .first-of .ensures)
 
 put-ages-requires : tie.Need-put-ages-requires
 put-ages-requires c κs =
     let told = c .before in
     let k = told .before .before in
-    let s = k .before .before .before .before .before .before .before in
+    let s = start k in
     rw (toZ-ofZ (s .fits .rate))
     (through (s .args .run .now) (s .args .rate) _ (s .args .out .now) (k .before .before .before .before .form-of-run .ensures) (found (checked k) (told .enum-told .given .1)))
 
@@ -32,7 +34,7 @@ put-birth-years-requires : tie.Need-put-birth-years-requires
 put-birth-years-requires c κs =
     let told = c .before .before .before .before .before in
     let k = told .before .before in
-    let s = k .before .before .before .before .before .before .before in
+    let s = start k in
     let p =
     through (s .args .run .now) (s .args .rate) _ (s .args .out .now) (k .before .before .before .before .form-of-run .ensures) (found (checked k) (told .enum-told .given .1)) in
     (p .0, omega arith)
@@ -42,7 +44,7 @@ returns c =
     let ages = c .before .before .before .before .before .before in
     let told = ages .before .before in
     let k = told .before .before in
-    let s = k .before .before .before .before .before .before .before in
+    let s = start k in
     let form = k .before .before .before .before .form-of-run .ensures in
     let p = through (s .args .run .now) (s .args .rate) _ (s .args .out .now) form (found (checked k) (told .enum-told .given .1)) in (
       checked k,

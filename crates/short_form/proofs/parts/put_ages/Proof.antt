@@ -16,11 +16,15 @@ put-requires c κs = search (needs, run-low (meant (c .before .before .before .b
 put-rates-requires : tie.Need-put-rates-requires
 put-rates-requires c κs = search (needs, run-low (meant (c .before .before .before .before .before .before .before .before .args .form)))
 
+-- the start, from behind the second part
+abbrev two-put : tie.After-slice-known3 → tie.Start
+two-put c = c .before .before .before .before .before .before .before .before .before .before .before
+
 put-repeated-requires : tie.Need-put-repeated-requires
-put-repeated-requires c κs = search (needs, run-low (meant (c .before .before .before .before .before .before .before .before .before .before .before .before .args .form)))
+put-repeated-requires c κs = search (needs, run-low (meant (two-put (c .before) .args .form)))
 
 put-proportions-requires : tie.Need-put-proportions-requires
-put-proportions-requires c κs = search (needs, fields-inside (meant (c .before .before .before .before .before .before .before .before .before .before .before .before .before .before .before .before .args .form)))
+put-proportions-requires c κs = search (needs, fields-inside (meant (two-put (c .before .before .before .before .before) .args .form)))
 
 returns : tie.Need-returns
 returns c =
