@@ -37,7 +37,7 @@ put-proportions-requires : tie.Need-put-proportions-requires
 put-proportions-requires c κs = search (needs, fields-inside (meant (three-put (c .before .before) .args .form)))
 
 sub-put-repeated : tie.Need-sub-put-repeated
-sub-put-repeated c = search (needs, fields-inside (four-put c .args .form))
+sub-put-repeated c = search (needs, fields-inside (meant (four-put c .args .form)))
 
 put-repeated-requires-3 : tie.Need-put-repeated-requires-3
 put-repeated-requires-3 c κs = search (needs, fields-inside (meant (four-put (c .before) .args .form)))
