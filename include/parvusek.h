@@ -14,11 +14,18 @@
    A basis comes as a file; parvusek_read_basis makes of it, once, the data run that the other calls are lent. Every
    call checks its data run afresh (1, 4, 5), so nothing depends on where the host keeps it.
 
+   A basis has one of two forms, which differ in the proportions remaining at mid-point, P. In the old form, marked MPB1,
+   a P is one byte, 0 to 150 per cent; in the new form, marked MPB2, it is two bytes, 0 to 15,000 hundredths of a per cent,
+   and zero bytes fill the last block. The length alone tells the form: 4,608 or 5,120 bytes for a file, 4,554 or 5,060
+   for a data run. Any other length is 1, and the mark of the other form is 4. So a data run is lent with its own length,
+   and not with that of a longer array it may stand in. Every call takes either form, and answers the same on a basis in
+   the old form as on the one that has the same fields and each P times 100 in the new.
+
    A basis whose base year B is before its foundation year F needs a history: a second file, lent as it is, with the
    actual improvements of each year from B + 1 to F. It has 1,024 bytes for each of these years, two blocks of the basis
    file's kind, numbered from 0: ages 20 to 85, then 86 to 150, signed 4 bytes each, -500,000,000 to 500,000,000 units,
    the remaining data bytes zero. With B at F or later none is needed: its length is then 0, with any pointer.
-   Every call that is lent a data run, but the four directly after parvusek_version, is lent the history after it, and
+   Every call that is lent a data run, but the five directly after parvusek_version, is lent the history after it, and
    checks it afresh after the run's own 1, 4, 5: 13 (any other length: the length needed), blocks ascending 2 (check)
    before 3 (number), then 4 (a byte that must be zero), then 5 (an improvement beyond its limits). Offsets are counted
    in its joined data, of which block i has the 506 bytes from 506 x i on. A refused history counts as a refused basis:
@@ -37,10 +44,12 @@
 extern "C" {
 #endif
 
-#define PARVUSEK_VERSION 500u        /* of this header, 0.5.0: 10,000 x major + 100 x minor + patch */
+#define PARVUSEK_VERSION 600u        /* of this header, 0.6.0: 10,000 x major + 100 x minor + patch */
 #define PARVUSEK_UNIT 1000000000u    /* U, units to one */
-#define PARVUSEK_FILE_LENGTH 4608u   /* bytes of a basis file */
-#define PARVUSEK_RUN_LENGTH 4554u    /* bytes of a data run */
+#define PARVUSEK_FILE_LENGTH 4608u   /* bytes of a basis file in the old form, MPB1 */
+#define PARVUSEK_RUN_LENGTH 4554u    /* bytes of a data run in the old form */
+#define PARVUSEK_FILE_LENGTH_2 5120u /* bytes of a basis file in the new form, MPB2 */
+#define PARVUSEK_RUN_LENGTH_2 5060u  /* bytes of a data run in the new form */
 #define PARVUSEK_HISTORY_YEAR 1024u  /* bytes of a history file for each year from B + 1 to F */
 #define PARVUSEK_SMALL_SET 6u        /* points of the small set */
 #define PARVUSEK_GRID 119u           /* records of the grid */
@@ -66,23 +75,36 @@ typedef struct { parvusek_refusal_t refusal; uint64_t survivors; uint32_t age, y
    call no other function. */
 uint32_t parvusek_version(void);
 
-/* ---- the data run: a file of 4,608 bytes, a run of 4,554. No history is lent here, and none is missed */
+/* ---- the data run: a file of 4,608 bytes and a run of 4,554, or a file of 5,120 and a run of 5,060. No history is lent
+   here, and none is missed. What is needed of an output follows the form of the file or run that is lent; where that has
+   any other length, it is the old form's */
 
-/* Whether a data run may be used. Refused: 1 (length), 4 (mark or zero bytes), 5 (a field outside its limits).
-   B is 1992 to 2130, before F too. The rate of discount may be below zero: it is -10,000,000 to 200,000,000 units. */
+/* Whether a data run may be used. Refused: 1 (length), 4 (mark or zero bytes; in the new form those from 4,954 on too), 5
+   (a field outside its limits). B is 1992 to 2130, before F too. The rate of discount may be below zero: it is
+   -10,000,000 to 200,000,000 units. */
 parvusek_refusal_t parvusek_check_basis(const uint8_t *run, size_t run_len);
 
-/* Writes the data run of a file into the first 4,554 bytes of run; further bytes are kept.
-   Refused: 11 (run too short: 4554), 1 (length), blocks ascending 2 (check) before 3 (number), then 4, 5. */
+/* Writes the data run of a file, in the file's own form, into the first 4,554 or 5,060 bytes of run; further bytes are
+   kept. No P is changed: an old one stays in per cent.
+   Refused: 11 (run too short: 4554, or 5060 for a file of 5,120 bytes), 1 (length), blocks ascending 2 (check) before 3
+   (number), then 4, 5. */
 parvusek_refusal_t parvusek_read_basis(const uint8_t *file, size_t file_len, uint8_t *run, size_t run_len);
 
-/* Writes the file of a data run into the first 4,608 bytes of file; further bytes are kept.
-   Refused: 11 (file too short: 4608), 1, 4, 5. */
+/* Writes the file of a data run, in the run's own form, into the first 4,608 or 5,120 bytes of file; further bytes are
+   kept. Refused: 11 (file too short: 4608, or 5120 for a run of 5,060 bytes), 1, 4, 5. */
 parvusek_refusal_t parvusek_write_basis(const uint8_t *run, size_t run_len, uint8_t *file, size_t file_len);
 
-/* Writes the short form into the first 4,554 bytes of out: the data run with this one long-term rate, in units, run
-   off over the ages 91 to 119, every period 20 and every proportion 50; further bytes are kept.
-   Refused: 11 (out too short: 4554), 1, 4, 5, then 5 at offset 1078 for a rate beyond 200,000,000 either way. */
+/* Writes the file of a data run of either form in the old form into the first 4,608 bytes of file; further bytes are kept.
+   It holds the same fields, a P of the new form over 100; a run in the old form is written as above. No call writes one in
+   the new form. Refused: 11 (file too short: 4608, whatever the run's length), 1, 4, 5, then 17 for a P that is no whole
+   per cent (offset of the first such P in the data run that is lent). */
+parvusek_refusal_t parvusek_write_old_form(const uint8_t *run, size_t run_len, uint8_t *file, size_t file_len);
+
+/* Writes the short form into the first 4,554 or 5,060 bytes of out, in the run's own form: the data run with this one
+   long-term rate, in units, run off over the ages 91 to 119, every period 20 and every proportion 50 per cent (50 in
+   the old form, 5,000 in the new); further bytes are kept.
+   Refused: 11 (out too short: 4554, or 5060 for a run of 5,060 bytes), 1, 4, 5, then 5 at offset 1078 for a rate beyond
+   200,000,000 either way. */
 parvusek_refusal_t parvusek_short_form(const uint8_t *run, size_t run_len, int32_t long_term_rate, uint8_t *out, size_t out_len);
 
 /* ---- single cells. Refused: by the basis, 6 (age outside 20 to 150), 7 (year after 2130, or before the first that may
@@ -139,8 +161,8 @@ parvusek_refusal_t parvusek_grid(const uint8_t *run, size_t run_len, const uint8
 parvusek_lifeline_t parvusek_lifeline_start(const uint8_t *run, size_t run_len, const uint8_t *history,
                                             size_t history_len, uint32_t age, uint32_t year);
 /* One year of cohort survivorship, or ended at age 150. Refused: by the basis, 6, 7 (year before B, or year - age after
-   2110; a year after 2130 may stand), 5 at 4554 for survivors above U, then 9 and 10. A step that ends or is refused
-   hands back the age, year and survivors that it was given. */
+   2110; a year after 2130 may stand), 5 at the run's length, 4554 or 5060, for survivors above U, then 9 and 10. A step
+   that ends or is refused hands back the age, year and survivors that it was given. */
 parvusek_lifeline_t parvusek_lifeline_step(const uint8_t *run, size_t run_len, const uint8_t *history,
                                            size_t history_len, uint32_t age, uint32_t year, uint64_t survivors);
 

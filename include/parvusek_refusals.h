@@ -13,7 +13,7 @@ static inline const char *parvusek_refusal_sentence(uint32_t number) {
     switch (number) {
     case 0: return "not refused";
     /* made by tools/make_refusals: sentences */
-    case 1: return "file not 4,608 bytes, or data run not 4,554";
+    case 1: return "file not 4,608 or 5,120 bytes, or data run not 4,554 or 5,060";
     case 2: return "a block's check is wrong";
     case 3: return "a block's number is not its place";
     case 4: return "mark or zero bytes wrong";
@@ -29,6 +29,7 @@ static inline const char *parvusek_refusal_sentence(uint32_t number) {
     case 14: return "the roll is full";
     case 15: return "the member number is not on the roll";
     case 16: return "the member number is on the roll already";
+    case 17: return "a proportion is no whole per cent";
     /* end of what tools/make_refusals makes */
     default: return "no such refusal";
     }
@@ -39,7 +40,7 @@ static inline const char *parvusek_refusal_first(uint32_t number) {
     switch (number) {
     /* made by tools/make_refusals: first places */
     case 2: case 3: return "block";
-    case 4: case 5: return "offset";
+    case 4: case 5: case 17: return "offset";
     case 6: case 8: case 9: case 10: return "age";
     case 7: return "year";
     case 11: case 13: return "needed";

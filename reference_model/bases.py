@@ -4,18 +4,18 @@ import random
 from dataclasses import replace
 
 from reference_model.basis import Basis
-from reference_model.layout import ADDITION_LIMIT, GREATEST_DISCOUNT, LOWEST_DISCOUNT, RATE_LIMIT, TABLES
+from reference_model.layout import ADDITION_LIMIT, GREATEST_DISCOUNT, LOWEST_DISCOUNT, MPB1, RATE_LIMIT
 from reference_model.units import (AGES, BIRTH_YEARS, FIRST_AGE, FIRST_BIRTH_YEAR, FIRST_YEAR,
-                                   LAST_FOUNDATION_YEAR, LAST_YEAR, UNIT, rounded)
+                                   LAST_FOUNDATION_YEAR, LAST_YEAR, PER_CENT, UNIT, rounded)
 
 
 def level(foundation_year=2006, base_year=None, addition=0, discount=0, base_rate=100_000_000,
-          age=(0, 0, 20, 50), cohort=(0, 0, 20, 50)):
+          age=(0, 0, 20, 50), cohort=(0, 0, 20, 50), form=MPB1):
     """A basis with the same I, L, T and P at every age, and others the same in every birth year."""
     by_age = [(number,) * len(AGES) for number in (base_rate,) + tuple(age)]
     by_birth_year = [(number,) * len(BIRTH_YEARS) for number in cohort]
     return Basis(foundation_year, foundation_year if base_year is None else base_year,
-                 addition, discount, *by_age, *by_birth_year)
+                 addition, discount, *by_age, *by_birth_year, form)
 
 
 def sample():
@@ -92,7 +92,7 @@ def exactly_four():
 # ---- random bases
 
 def random_basis(seed, rate_low, rate_high, base_rate_high=UNIT, years_after=60,
-                 greatest_proportion=150):
+                 greatest_per_cent=150, form=MPB1):
     """Every field drawn evenly; rates from rate_low to rate_high, the addition half as wide."""
     draw = random.Random(seed).randint
     foundation_year = draw(FIRST_YEAR, LAST_FOUNDATION_YEAR)
@@ -102,23 +102,23 @@ def random_basis(seed, rate_low, rate_high, base_rate_high=UNIT, years_after=60,
 
     def convergence(count):
         return (many(count, rate_low, rate_high), many(count, rate_low, rate_high),
-                many(count, 1, 50), many(count, 0, greatest_proportion))
+                many(count, 1, 50), many(count, 0, greatest_per_cent * form.whole // PER_CENT))
 
     base_year = draw(foundation_year, min(LAST_YEAR, foundation_year + years_after))
     return Basis(foundation_year, base_year,
                  draw(rate_low // 2, rate_high // 2), draw(LOWEST_DISCOUNT, GREATEST_DISCOUNT),
                  many(len(AGES), 0, base_rate_high),
-                 *convergence(len(AGES)), *convergence(len(BIRTH_YEARS)))
+                 *convergence(len(AGES)), *convergence(len(BIRTH_YEARS)), form)
 
 
-def limits_basis(seed):
+def limits_basis(seed, form=MPB1):
     """Every table entry at one of its two limits, drawn evenly."""
     draw = random.Random(seed).choice
     tables = {table.name: tuple(draw((table.low, table.high)) for _ in range(table.entries))
-              for table in TABLES}
+              for table in form.tables}
     foundation_year = draw((FIRST_YEAR, LAST_FOUNDATION_YEAR))
     return Basis(foundation_year, foundation_year, draw((-ADDITION_LIMIT, ADDITION_LIMIT)),
-                 draw((LOWEST_DISCOUNT, GREATEST_DISCOUNT)), **tables)
+                 draw((LOWEST_DISCOUNT, GREATEST_DISCOUNT)), **tables, form=form)
 
 
 def gentle_bases():

@@ -1,4 +1,5 @@
-"""Damaged data runs, each with the refusal that the paper gives it, or None where it is accepted.
+"""Damaged data runs of either form, each with the refusal that the paper gives it, or None where it
+is accepted.
 
 The offsets and limits are written out here a second time, from the paper, so that an error in
 `layout` would show.
@@ -15,17 +16,42 @@ _LOWEST_DISCOUNT = -10_000_000
 _MOST = 2 ** 31 - 1
 
 # Name, offset, entries, width, low, high, and one number far outside on each side.
-_TABLES = (
+_UP_TO_AGE_T = (
     ("base rate", 30, 131, 4, 0, _UNIT, -_MOST - 1, _MOST),
     ("age I", 554, 131, 4, -_RATE, _RATE, -_MOST - 1, _MOST),
     ("age L", 1078, 131, 4, -_RATE, _RATE, -_MOST - 1, _MOST),
     ("age T", 1602, 131, 1, 1, 50, 0, 255),
+)
+_OLD_TABLES = _UP_TO_AGE_T + (
     ("age P", 1733, 131, 1, 0, 150, None, 255),
     ("birth-year I", 1864, 269, 4, -_RATE, _RATE, -_MOST - 1, _MOST),
     ("birth-year L", 2940, 269, 4, -_RATE, _RATE, -_MOST - 1, _MOST),
     ("birth-year T", 4016, 269, 1, 1, 50, 0, 255),
     ("birth-year P", 4285, 269, 1, 0, 150, None, 255),
 )
+_NEW_TABLES = _UP_TO_AGE_T + (
+    ("age P", 1733, 131, 2, 0, 15_000, None, 65_535),
+    ("birth-year I", 1995, 269, 4, -_RATE, _RATE, -_MOST - 1, _MOST),
+    ("birth-year L", 3071, 269, 4, -_RATE, _RATE, -_MOST - 1, _MOST),
+    ("birth-year T", 4147, 269, 1, 1, 50, 0, 255),
+    ("birth-year P", 4416, 269, 2, 0, 15_000, None, 65_535),
+)
+OLD_LENGTH, NEW_LENGTH = 4_554, 5_060
+_TAIL = range(4_954, 5_060)  # the zero bytes behind the new form's tables
+
+
+def is_new(run):
+    return len(run) == NEW_LENGTH
+
+
+def _tables(run):
+    return _NEW_TABLES if is_new(run) else _OLD_TABLES
+
+
+def _beyond(run, name, place):
+    """Offset, width and a number just above its limit, of the first (0) or last (-1) of a table."""
+    _, offset, entries, width, _, high, _, _ = next(each for each in _tables(run) if each[0] == name)
+    return range(offset, offset + width * entries, width)[place], width, high + 1
 
 
 def with_bytes(content, offset, replacement):
@@ -62,8 +88,9 @@ def wrong_lengths(run):
 def wrong_marks(run):
     for place in range(4):
         yield Damage("mark byte %d" % place, with_flipped(run, place, 1), Refusal(4, place))
-    yield Damage("a small letter", with_bytes(run, 0, b"mPB1"), Refusal(4, 0))
-    yield Damage("another form's mark", with_bytes(run, 0, b"MPB2"), Refusal(4, 3))
+    yield Damage("a small letter", with_bytes(run, 0, b"m"), Refusal(4, 0))
+    yield Damage("another form's mark", with_bytes(run, 0, b"MPB1" if is_new(run) else b"MPB2"),
+                 Refusal(4, 3))
     for place in range(16, 30):
         yield Damage("zero byte %d" % place, with_bytes(run, place, b"\x01"), Refusal(4, place))
     yield Damage("a high zero byte", with_bytes(run, 23, b"\x80"), Refusal(4, 23))
@@ -103,7 +130,7 @@ def numbers_at_limits(run):
     yield from _around(run, "addition", 8, 4, -100_000_000, 100_000_000, -_MOST - 1, _MOST)
     yield from _around(run, "discount", 12, 4, _LOWEST_DISCOUNT, 200_000_000, -_MOST - 1, _MOST)
     yield Damage("discount -1 at 12", with_number(run, 12, 4, -1), None)
-    for name, first_offset, entries, width, low, high, far_below, far_above in _TABLES:
+    for name, first_offset, entries, width, low, high, far_below, far_above in _tables(run):
         for entry in (0, entries // 2, entries - 1):
             yield from _around(run, name, first_offset + width * entry, width,
                                low, high, far_below, far_above)
@@ -136,18 +163,67 @@ def several(run):
     yield Damage("two entries of one table",
                  with_numbers(run, (1078 + 4 * 130, 4, _MOST), (1078 + 4 * 77, 4, -_MOST)),
                  Refusal(5, 1078 + 4 * 77))
+
+
+def several_curves(run):
+    last_age_t, first_age_p, last_age_p = (
+        _beyond(run, "age T", -1), _beyond(run, "age P", 0), _beyond(run, "age P", -1))
+    last_l, first_t = _beyond(run, "birth-year L", -1), _beyond(run, "birth-year T", 0)
     yield Damage("the last age P and the last birth-year P",
-                 with_numbers(run, (4_553, 1, 151), (1_863, 1, 151)), Refusal(5, 1_863))
+                 with_numbers(run, _beyond(run, "birth-year P", -1), last_age_p),
+                 Refusal(5, last_age_p[0]))
     yield Damage("the last age T and the first age P",
-                 with_numbers(run, (1_732, 1, 51), (1_733, 1, 151)), Refusal(5, 1_732))
+                 with_numbers(run, last_age_t, first_age_p), Refusal(5, last_age_t[0]))
     yield Damage("the last birth-year L and the first birth-year T",
-                 with_numbers(run, (4_012, 4, _RATE + 1), (4_016, 1, 0)), Refusal(5, 4_012))
-    yield Damage("a short run with a wrong mark", with_flipped(run, 0)[:4_553], Refusal(1))
+                 with_numbers(run, last_l, (first_t[0], 1, 0)), Refusal(5, last_l[0]))
+    yield Damage("a short run with a wrong mark", with_flipped(run, 0)[:-1], Refusal(1))
     yield Damage("a long run with F outside",
-                 of_length(with_number(run, 4, 2, 0), 4_555), Refusal(1))
+                 of_length(with_number(run, 4, 2, 0), len(run) + 1), Refusal(1))
+
+
+# ---- the other form's length, and what the new form alone has
+
+def other_lengths(run):
+    for length in (5_059, 5_061, 5_120):
+        yield Damage("a run of %d bytes" % length, of_length(run, length), Refusal(1))
+    other = OLD_LENGTH if is_new(run) else NEW_LENGTH
+    yield Damage("this form's mark at %d bytes" % other, of_length(run, other), Refusal(4, 3))
+    yield Damage("only the mark, at %d bytes" % other, of_length(run[:4], other), Refusal(4, 3))
+    yield Damage("no mark at %d bytes" % other, bytes(other), Refusal(4, 0))
+
+
+def tails(run):
+    """Zero bytes that are none, alone and with a 4 or a 5 before them."""
+    for place in (_TAIL[0], _TAIL[-1] - 52, _TAIL[-1]):
+        for byte in (1, 128, 255):
+            yield Damage("tail byte %d, %d" % (place, byte), with_number(run, place, 1, byte),
+                         Refusal(4, place))
+    first, last = (_TAIL[0], 1, 1), (_TAIL[-1], 1, 1)
+    last_p = _beyond(run, "birth-year P", -1)
+    yield Damage("first and last tail byte", with_numbers(run, last, first), Refusal(4, 4_954))
+    yield Damage("a zero byte and a tail byte", with_numbers(run, first, (29, 1, 1)), Refusal(4, 29))
+    yield Damage("the last mark byte and a tail byte",
+                 with_numbers(run, last, (3, 1, ord("1"))), Refusal(4, 3))
+    yield Damage("F and the last tail byte", with_numbers(run, (4, 2, 0), last), Refusal(4, 5_059))
+    yield Damage("the last P and the first tail byte", with_numbers(run, last_p, first),
+                 Refusal(4, 4_954))
+
+
+def proportions_of_two_bytes(run):
+    """Numbers that one byte, or the two in the other order, would make something else of."""
+    for offset in (1_733, 1_993, 4_416, 4_952):
+        for number, expected in ((151, None), (255, None), (256, None), (14_848, None),
+                                 (14_999, None), (15_104, Refusal(5, offset)),
+                                 (32_768, Refusal(5, offset)), (38_970, Refusal(5, offset))):
+            yield Damage("P %d at %d" % (number, offset), with_number(run, offset, 2, number),
+                         expected)
 
 
 def damaged_runs(run):
-    """Every kind, on an accepted data run."""
-    for kind in (wrong_lengths, wrong_marks, years_at_limits, numbers_at_limits, several):
+    """Every kind, on an accepted data run of either form."""
+    for kind in (wrong_lengths, wrong_marks, years_at_limits, numbers_at_limits, several,
+                 several_curves, other_lengths):
         yield from kind(run)
+    if is_new(run):
+        yield from tails(run)
+        yield from proportions_of_two_bytes(run)

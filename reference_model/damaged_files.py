@@ -1,12 +1,15 @@
-"""Damaged basis files, each with the refusal that the paper gives it, or None where accepted."""
+"""Damaged basis files of either form, each with the refusal that the paper gives it, or None where
+accepted.
+"""
 
 from reference_model.basis import encode_file
 from reference_model.blocks import block_check
-from reference_model.damage import (Damage, damaged_runs, of_length, with_flipped, with_number,
-                                    with_numbers)
+from reference_model.damage import (NEW_LENGTH, OLD_LENGTH, Damage, damaged_runs, of_length, with_flipped,
+                                    with_number, with_numbers)
 from reference_model.refusals import Refusal
 
 _BLOCK, _CHECK_AT = 512, 508  # bytes in a block, and where in it the check stands
+_OLD_FILE, _NEW_FILE = 4_608, 5_120
 
 
 def mended(file, *blocks):
@@ -77,8 +80,9 @@ def unseen(file):
     yield Damage("top bit in an odd place", top_bit(0, 11), Refusal(2, 0))
     # From block 1 on the words lie two bytes across the fields: here the bit is worth 32,768.
     yield Damage("top bit in place 40, within limits", top_bit(1, 40), None)
+    # Data byte 4,549: a P of the old form, and of the new one the high byte of that at 4,548.
     yield Damage("top bit in place 126, in block 8 in a P", top_bit(8, 126),
-                 Refusal(5, 506 * 8 + 4 * 126 - 3))
+                 Refusal(5, 4_548 if len(file) == _NEW_FILE else 4_549))
     yield Damage("two words that cancel out",
                  with_word_added(with_word_added(file, 1, 40, -1), 1, 20, 2), None)
     yield Damage("a number whose check is met by another word",
@@ -88,23 +92,50 @@ def unseen(file):
 # ---- several at once
 
 def several(file):
+    last = len(file) // _BLOCK - 1
     yield Damage("3 in block 0, 2 in block 1", bad_check(bad_number(file, 0), 1), Refusal(3, 0))
     yield Damage("2 in block 1, 3 in block 2", bad_check(bad_number(file, 2), 1), Refusal(2, 1))
-    yield Damage("3 in block 7, 2 in block 8", bad_check(bad_number(file, 7), 8), Refusal(3, 7))
+    yield Damage("3 in the last block but one, 2 in the last",
+                 bad_check(bad_number(file, last - 1), last), Refusal(3, last - 1))
     yield Damage("2 and 3 in block 4", bad_check(bad_number(file, 4), 4), Refusal(2, 4))
     yield Damage("2 in blocks 3 and 6", bad_check(bad_check(file, 6), 3), Refusal(2, 3))
     yield Damage("blocks 2 and 5 exchanged", swapped(file, 2, 5), Refusal(3, 2))
-    yield Damage("blocks 0 and 8 exchanged", swapped(file, 0, 8), Refusal(3, 0))
+    yield Damage("the first and the last block exchanged", swapped(file, 0, last), Refusal(3, 0))
     wrong_mark = mended(with_flipped(file, 2), 0)  # data byte 0 of block 0
     wrong_year = mended(with_number(file, 2 + 4, 2, 0), 0)
-    yield Damage("4 in block 0, 2 in block 8", bad_check(wrong_mark, 8), Refusal(2, 8))
-    yield Damage("4 in block 0, 3 in block 8", bad_number(wrong_mark, 8), Refusal(3, 8))
-    yield Damage("5 in block 0, 3 in block 8", bad_number(wrong_year, 8), Refusal(3, 8))
+    yield Damage("4 in block 0, 2 in the last", bad_check(wrong_mark, last), Refusal(2, last))
+    yield Damage("4 in block 0, 3 in the last", bad_number(wrong_mark, last), Refusal(3, last))
+    yield Damage("5 in block 0, 3 in the last", bad_number(wrong_year, last), Refusal(3, last))
     yield Damage("5 before 4 by offset",
                  mended(with_numbers(file, (2 + 4, 2, 0), (2 + 29, 1, 9)), 0), Refusal(4, 29))
-    yield Damage("a short file with a wrong check", bad_check(file, 0)[:4_607], Refusal(1))
-    yield Damage("all bytes zero", bytes(4_608), Refusal(3, 1))
-    yield Damage("all bytes 255", b"\xff" * 4_608, Refusal(2, 0))
+    yield Damage("a short file with a wrong check", bad_check(file, 0)[:-1], Refusal(1))
+    yield Damage("all bytes zero", bytes(len(file)), Refusal(3, 1))
+    yield Damage("all bytes 255", b"\xff" * len(file), Refusal(2, 0))
+
+
+# ---- the other form's length
+
+def other_lengths(file):
+    """A length that no form's file has, though a data run may; and the other form's, whose blocks
+    are looked at before its mark.
+    """
+    for length in (4_553, 4_555, 5_059, 5_060, 5_061, 5_119, 5_121, 5_200):
+        yield Damage("a file of %d bytes" % length, of_length(file, length), Refusal(1))
+    if len(file) == _NEW_FILE:
+        yield Damage("nine blocks of ten", file[:_OLD_FILE], Refusal(4, 3))
+        yield Damage("nine blocks of ten, 2 in block 8", bad_check(file[:_OLD_FILE], 8),
+                     Refusal(2, 8))
+    else:
+        yield Damage("a tenth block of zeros", of_length(file, _NEW_FILE), Refusal(3, 9))
+        yield Damage("a tenth block, numbered", mended(
+            with_number(of_length(file, _NEW_FILE), _OLD_FILE, 2, 9), 9), Refusal(4, 3))
+
+
+def tail_of_a_file(file):
+    """In the tenth block: a byte that the check does not see, and one that it does."""
+    yield Damage("top bit in place 126 of block 9", with_word_added(file, 9, 126, 2 ** 31),
+                 Refusal(4, 5_055))
+    yield Damage("a tail byte, not mended", with_flipped(file, 512 * 9 + 507, 1), Refusal(2, 9))
 
 
 def damaged_files(file, run):
@@ -112,5 +143,8 @@ def damaged_files(file, run):
     for kind in (wrong_lengths, single_blocks, unseen, several):
         yield from kind(file)
     for damage in damaged_runs(run):
-        if len(damage.content) == len(run):
+        if len(damage.content) in (OLD_LENGTH, NEW_LENGTH):
             yield damage._replace(content=encode_file(damage.content))
+    yield from other_lengths(file)
+    if len(file) == _NEW_FILE:
+        yield from tail_of_a_file(file)

@@ -5,8 +5,9 @@ input and output, `crates/check_answers/stdin` and `stdout`; that the program wr
 the gate's to say. For each of the six kinds it prints how many answers were checked and how near to
 its bound the worst one came; annuities at a rate of discount below zero, whose bound is four times
 as much, are a kind of their own here. Answers that take actual improvements into a factor are
-counted a second time, under a name of their own. It ends with status 1 if a bound is broken or
-cannot be decided, or if fewer answers under a name than `LEAST_CHECKED` says could be checked.
+counted a second time, under a name of their own, and so are those on bases in the new form. It ends
+with status 1 if a bound is broken or cannot be decided, or if fewer answers under a name than
+`LEAST_CHECKED` says could be checked.
 """
 
 import struct
@@ -21,39 +22,42 @@ from reference_model.enquiries import (ANNUITY, EXPECTATION, FACTOR, IMPROVEMENT
                                        SURVIVORSHIP)
 from reference_model.exact import ExactModel
 from reference_model.history import decode_history
-from reference_model.layout import RUN_LENGTH
+from reference_model.layout import MPB2, form_of_run
+from reference_model.make_answer_cases import CASE
 
 FOLDER = Path("crates/check_answers")
 BELOW_ZERO = "annuity below 0"  # an annuity whose rate of discount is below zero
 ACTUAL = "actual years"  # an answer of any kind that takes actual improvements into a factor
+NEW_FORM = "new form"  # an answer of any kind on a basis in the new form
 
 # What is judged, and the least number of each; for an improvement no premise can fail.
 LEAST_CHECKED = {IMPROVEMENT: 700, FACTOR: 700, RATE: 700, SURVIVORSHIP: 700, EXPECTATION: 700,
-                 ANNUITY: 700, BELOW_ZERO: 300, ACTUAL: 700}
+                 ANNUITY: 700, BELOW_ZERO: 300, ACTUAL: 700, NEW_FORM: 700}
 
-# Of one case: its kind, the place of its basis, age, deferment and year, its history, and its line
-# of output.
+# Of one case: its kind, the place of its basis among the data runs in the order in which they are asked
+# about, age, deferment and year, its history, and its line of output.
 Case = namedtuple("Case", "kind place question history line")
 
 
 def read_cases(asked, answered):
-    """The data runs, and the cases, each with its line."""
-    first = 2 + RUN_LENGTH * int.from_bytes(asked[:2], "little")
-    runs = [asked[start:start + RUN_LENGTH] for start in range(2, first, RUN_LENGTH)]
-    end = first + 4 + int.from_bytes(asked[first:first + 4], "little")
-    histories = asked[first + 4:end]
-    cases = list(struct.iter_unpack("<BBIIIII", asked[end:]))
+    """The data runs, each once, and the cases, each with its line."""
+    end = 4 + int.from_bytes(asked[:4], "little")
+    lent = asked[4:end]
+    cases = list(struct.iter_unpack(CASE, asked[end:]))
     *lines, last = answered.decode("ascii").splitlines()
     if len(lines) != len(cases) or last != "cases %d" % len(cases):
         raise ValueError("the output is not that of %d cases" % len(cases))
-    return runs, [Case(KINDS[kind], place, tuple(question),
-                       stretch(histories, start, length), line)
-                  for (kind, place, *question, start, length), line in zip(cases, lines)]
+    places, read = {}, []
+    for (kind, *question, start, length, history_start, history_length), line in zip(cases, lines):
+        place = places.setdefault(stretch(lent, start, length), len(places))
+        read.append(Case(KINDS[kind], place, tuple(question),
+                         stretch(lent, history_start, history_length), line))
+    return list(places), read
 
 
-def stretch(histories, start, length):
-    """The bytes of a history; none where they do not lie within those of all histories."""
-    return histories[start:start + length] if start + length <= len(histories) else b""
+def stretch(lent, start, length):
+    """The bytes of a stretch; none where it does not lie within those that are lent."""
+    return lent[start:start + length] if start + length <= len(lent) else b""
 
 
 class Tally:
@@ -93,7 +97,9 @@ def judged(asked, answered):
     runs, cases = read_cases(asked, answered)
     model_of = cache(lambda place, history: ExactModel(decode(runs[place]),
                                                        decode_history(history)))
-    below_zero = {place for place, run in enumerate(runs) if decode(run).discount_rate < 0}
+    forms = [form_of_run(len(run)) for run in runs]
+    below_zero = {place for place, run in enumerate(runs)
+                  if forms[place] and decode(run).discount_rate < 0}
     tallies = {name: Tally() for name in LEAST_CHECKED}
     for case in cases:
         tally = tallies[judged_as(case, below_zero)]
@@ -106,6 +112,8 @@ def judged(asked, answered):
         tally.add(found, case)
         if takes_actual(model, case.kind, *case.question):
             tallies[ACTUAL].add(found, case)
+        if forms[case.place] == MPB2:
+            tallies[NEW_FORM].add(found, case)
     return tallies
 
 
@@ -116,8 +124,8 @@ def main():
         return "distances: %s" % error
     status = 0
     for name, tally in tallies.items():
-        # What a refused enquiry would have taken is not looked at.
-        refused = "" if name == ACTUAL else ", refused %d" % tally.counts["refused"]
+        # Refused enquiries are counted by their kind alone.
+        refused = "" if name in (ACTUAL, NEW_FORM) else ", refused %d" % tally.counts["refused"]
         print("%-15s checked %d (premise fails %d%s), worst distance / bound %.6f" % (
             name, tally.counts["checked"], tally.counts["premise fails"], refused, tally.worst))
         if tally.worst_case:

@@ -6,18 +6,23 @@ from reference_model.basis import check_run, decode
 from reference_model.history import actual_years, check_history, decode_history
 from reference_model.refusals import Refusal
 from reference_model.units import (FACTOR_LIMIT, FIRST_AGE, FIRST_BIRTH_YEAR, IMPROVEMENT_LIMIT, LAST_AGE,
-                                   LAST_YEAR, UNIT, rounded)
+                                   LAST_YEAR, PER_CENT, UNIT, rounded)
 
 PERIOD, COHORT = "period", "cohort"
 
 
-def component(initial_rate, long_term_rate, convergence_period, proportion_remaining, years):
-    """L + (I - L) x weight, unrounded: a numerator and its denominator; L alone from T years on."""
+def component(initial_rate, long_term_rate, convergence_period, proportion_remaining, years,
+              whole=PER_CENT):
+    """L + (I - L) x weight, unrounded: a numerator and its denominator; L alone from T years on.
+
+    P is so many parts of a whole: per cents of 100, or hundredths of a per cent of 10,000.
+    """
     if years >= convergence_period:
         return long_term_rate, 1
     weight_numerator = ((convergence_period - years) ** 2
-                        * (100 * convergence_period + (8 * proportion_remaining - 200) * years))
-    denominator = 100 * convergence_period ** 3
+                        * (whole * convergence_period
+                           + (8 * proportion_remaining - 2 * whole) * years))
+    denominator = whole * convergence_period ** 3
     return (long_term_rate * denominator + (initial_rate - long_term_rate) * weight_numerator,
             denominator)
 
@@ -59,10 +64,12 @@ class Projection:
         i, j = age - FIRST_AGE, year - age - FIRST_BIRTH_YEAR
         by_age = component(
             basis.age_initial_rates[i], basis.age_long_term_rates[i],
-            basis.age_convergence_periods[i], basis.age_proportions_remaining[i], years)
+            basis.age_convergence_periods[i], basis.age_proportions_remaining[i], years,
+            basis.form.whole)
         by_birth_year = component(
             basis.cohort_initial_rates[j], basis.cohort_long_term_rates[j],
-            basis.cohort_convergence_periods[j], basis.cohort_proportions_remaining[j], years)
+            basis.cohort_convergence_periods[j], basis.cohort_proportions_remaining[j], years,
+            basis.form.whole)
         return by_age, by_birth_year
 
     @staticmethod

@@ -12,7 +12,7 @@ from fractions import Fraction
 from itertools import accumulate
 
 from reference_model.history import actual_years
-from reference_model.units import FIRST_AGE, FIRST_BIRTH_YEAR, LAST_AGE, LAST_YEAR, UNIT
+from reference_model.units import FIRST_AGE, FIRST_BIRTH_YEAR, LAST_AGE, LAST_YEAR, PER_CENT, UNIT
 
 SCALE = 2 ** 256
 
@@ -42,19 +42,21 @@ def total(numbers):
 
 # ---- the model
 
-def weight(convergence_period, proportion_remaining, years):
+def weight(convergence_period, proportion_remaining, years, whole=PER_CENT):
+    """P is so many parts of a whole, which is 100 per cents or 10,000 hundredths of a per cent."""
     if years >= convergence_period:
         return Fraction(0)
     return Fraction((convergence_period - years) ** 2
-                    * (100 * convergence_period + (8 * proportion_remaining - 200) * years),
-                    100 * convergence_period ** 3)
+                    * (whole * convergence_period + (8 * proportion_remaining - 2 * whole) * years),
+                    whole * convergence_period ** 3)
 
 
-def component(initial_rate, long_term_rate, convergence_period, proportion_remaining, years):
+def component(initial_rate, long_term_rate, convergence_period, proportion_remaining, years,
+              whole=PER_CENT):
     if years >= convergence_period:
         return long_term_rate  # the weight is 0, and most years are such
     return long_term_rate + ((initial_rate - long_term_rate)
-                             * weight(convergence_period, proportion_remaining, years))
+                             * weight(convergence_period, proportion_remaining, years, whole))
 
 
 class ExactModel:
@@ -78,10 +80,12 @@ class ExactModel:
         i, j = age - FIRST_AGE, year - age - FIRST_BIRTH_YEAR
         by_age = component(
             basis.age_initial_rates[i], basis.age_long_term_rates[i],
-            basis.age_convergence_periods[i], basis.age_proportions_remaining[i], years)
+            basis.age_convergence_periods[i], basis.age_proportions_remaining[i], years,
+            basis.form.whole)
         by_birth_year = component(
             basis.cohort_initial_rates[j], basis.cohort_long_term_rates[j],
-            basis.cohort_convergence_periods[j], basis.cohort_proportions_remaining[j], years)
+            basis.cohort_convergence_periods[j], basis.cohort_proportions_remaining[j], years,
+            basis.form.whole)
         return by_age + by_birth_year + (basis.constant_addition if years > 0 else 0)
 
     def _row(self, age):

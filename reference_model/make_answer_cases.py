@@ -2,13 +2,12 @@
 
 Run with `python3 -m reference_model.make_answer_cases [folder]` from the folder that holds `crates/`.
 
-Standard input, all numbers little-endian: the number of bases (2 bytes), as many data runs of 4,554
-bytes; the number of bytes of all histories together (4), and as many bytes, the history files
-joined one after the other; then cases to the end. A case is its kind (1 byte, its place in
-`enquiries.KINDS`), the place of its basis (1), age, deferment and year (4 each, unsigned), and
-where its history starts in those bytes (4) and its length (4). A place beyond the bases stands for
-a data run of no bytes, and a stretch that does not lie within the bytes for a history of no bytes.
-Expected, a line a case: `value` and the number, or `refused` and the refusal's number and places.
+Standard input, all numbers little-endian: the number of bytes that are lent (4 bytes), and as many
+bytes, data runs of either form and history files one after the other; then cases to the end. A case is
+its kind (1 byte, its place in `enquiries.KINDS`), age, deferment and year (4 each, unsigned), where its
+data run starts in those bytes (4) and its length (4), and the same of its history. A stretch that does
+not lie within the bytes stands for no bytes. Expected, a line a case: `value` and the number, or
+`refused` and the refusal's number and places.
 """
 
 import random
@@ -16,17 +15,23 @@ import struct
 
 from reference_model.bases import discounted_bases, gentle_bases, named_bases, realistic
 from reference_model.basis import decode, encode
-from reference_model.damage import with_number
+from reference_model.damage import other_lengths, proportions_of_two_bytes, tails, with_number
 from reference_model.enquiries import ANNUITY, IMPROVEMENT, KINDS, SURVIVORSHIP, ask
+from reference_model.finer_bases import (finer_bases, finer_celled_bases, fitted, fitted_table_of_2000,
+                                         gentle_finer_bases)
 from reference_model.history import NO_HISTORY
-from reference_model.history_cases import Group, beyond_the_bytes, groups_with_history, without_history
+from reference_model.history_cases import (REFUSED, Group, along_history, beyond_the_bytes,
+                                           groups_with_history, in_turn, without_history)
+from reference_model.layout import form_of_run
+from reference_model.older_bases import lent
 from reference_model.refusals import Refusal, outcome
 from reference_model.rounding_bases import ONE_WAY_AGE, ONE_WAY_YEARS, celled_bases, rounded_one_way
 from reference_model.units import LAST_AGE, LAST_YEAR
 from reference_model.vectors import command, expected_output, write
 
 GREATEST = 4_294_967_295
-MOST_RUNS, MOST_HISTORY_BYTES = 64, 262_144  # the program's room
+MOST_BYTES = 1_048_576  # the program's room for what is lent
+CASE = "<BIIIIIII"
 
 CHOSEN = ("sample", "realistic", "improvements high", "all limits low", "P 150", "B 2130", "F 2080",
           "9 in mid-course", "9 and 10 in one year", "10 in mid-course", "exactly four",
@@ -35,6 +40,10 @@ CHOSEN = ("sample", "realistic", "improvements high", "all limits low", "P 150",
 # At the limits of the rate of discount and just below zero.
 DISCOUNTED = ("nobody dies, lowest discount", "nobody dies, discount -1",
               "nobody dies, greatest discount", "lowest discount")
+
+# In the new form, the edges on the first of them.
+FINER = ("fitted", "finer 9 in mid-course", "finer 10 in mid-course", "finer random gentle",
+         "finer random mixed", "finer random wide", "finer random limits")
 
 
 # ---- the questions
@@ -117,6 +126,15 @@ def at_cells(cells):
                                       for age, year, _ in cells]
 
 
+def along_convergence(kind, basis, draw):
+    """One age in every year of the longest period of convergence and just after it; of the kinds
+    that go on to other ages, a few.
+    """
+    years = range(52) if kind[1] is None else (1, 24, 25, 48)
+    for each in years:
+        yield 60, 1 if kind[0] == SURVIVORSHIP else 0, basis.foundation_year + each
+
+
 def refused(kind, basis, draw):
     """The data run's refusal comes before what could be said of the question."""
     yield from [(60, 0, 2020), (19, 0, 2020), (150, 1, 2020), (60, 0, 2131)]
@@ -142,6 +160,25 @@ def bases():
             + [(b"", refused)])
 
 
+def groups_in_the_new_form():
+    """Each data run with its history and its questions; refused ones too, of every length."""
+    by_name = finer_bases()
+    for place, name in enumerate(FINER):
+        yield Group(encode(by_name[name]), NO_HISTORY, stopping if place else stopping_and_edges)
+    yield Group(encode(by_name["realistic in the new form"]), NO_HISTORY, stopping)
+    yield Group(encode(by_name["widest"]), NO_HISTORY, along_convergence)
+    for basis in gentle_finer_bases().values():
+        yield Group(encode(basis), NO_HISTORY, answerable)
+    for basis, cells in finer_celled_bases().values():
+        yield Group(encode(basis), NO_HISTORY, at_cells(cells))
+    yield Group(*lent(fitted_table_of_2000()), along_history)
+    run, history = encode(fitted()), lent(fitted_table_of_2000())[1]
+    yield Group(run, history, refused)
+    damages = (*other_lengths(run), *tails(run), *list(proportions_of_two_bytes(run))[::3])
+    for place, damage in enumerate(damages):
+        yield Group(damage.content, NO_HISTORY, in_turn(place, REFUSED))
+
+
 def line_of(answer):
     return str(answer) if isinstance(answer, Refusal) else "value %d" % answer
 
@@ -150,31 +187,27 @@ class Cases:
     """The data runs and histories that are asked about, and the cases, each with its line."""
 
     def __init__(self):
-        self.runs, self.histories = [], b""
+        self.lent, self.starts = b"", {}
         self.asked, self.lines = [], []
 
-    def place_of(self, run):
-        """The place of a data run; of an empty one a place at which there will be none."""
-        if not run:
-            return 255
-        if run not in self.runs:
-            self.runs.append(run)
-        return self.runs.index(run)
-
-    def start_of(self, history):
-        """Where these bytes stand, which may be within those of another history."""
-        if history not in self.histories:
-            self.histories += history
-        return self.histories.index(history)
+    def stretch_of(self, content):
+        """Where these bytes stand and how many they are, at most once each; they may be within
+        others.
+        """
+        if content not in self.starts:
+            if content not in self.lent:
+                self.lent += content
+            self.starts[content] = self.lent.index(content)
+        return self.starts[content], len(content)
 
     def add(self, group, kind, question, stretch=None):
         """Asks about a group's data run and history, or about a stretch that stands for none."""
         age, deferment, year = question
         if kind[1] is None:
             deferment = 0
-        start, length = stretch or (self.start_of(group.history), len(group.history))
-        self.asked.append(struct.pack("<BBIIIII", KINDS.index(kind), self.place_of(group.run),
-                                      age, deferment, year, start, length))
+        self.asked.append(struct.pack(CASE, KINDS.index(kind), age, deferment, year,
+                                      *self.stretch_of(group.run),
+                                      *(stretch or self.stretch_of(group.history))))
         self.lines.append(line_of(outcome(ask, group.run, group.history, kind, age, deferment,
                                           year)))
 
@@ -182,15 +215,14 @@ class Cases:
         draw = random.Random(seed).randint
         for kind in KINDS:
             for group in groups:
-                basis = decode(group.run) if group.run else None
+                basis = decode(group.run) if form_of_run(len(group.run)) else None
                 for question in group.questions(kind, basis, draw):
                     self.add(group, kind, question)
 
     def input_and_output(self):
-        assert len(self.runs) <= MOST_RUNS and len(self.histories) <= MOST_HISTORY_BYTES
-        return (len(self.runs).to_bytes(2, "little") + b"".join(self.runs)
-                + len(self.histories).to_bytes(4, "little") + self.histories
-                + b"".join(self.asked), expected_output(self.lines))
+        assert len(self.lent) <= MOST_BYTES
+        return (len(self.lent).to_bytes(4, "little") + self.lent + b"".join(self.asked),
+                expected_output(self.lines))
 
 
 def input_and_output():
@@ -198,9 +230,15 @@ def input_and_output():
     cases = Cases()
     cases.add_all([Group(run, NO_HISTORY, questions) for run, questions in bases()], 20_060_101)
     cases.add_all(list(groups_with_history(edges)), 20_000_101)
-    for place, stretch in enumerate(beyond_the_bytes(len(cases.histories))):
+    # What is lent from here on stands already, so that these stretches are beyond it.
+    new_form = list(groups_in_the_new_form())
+    for group in new_form:
+        cases.stretch_of(group.run)
+        cases.stretch_of(group.history)
+    for place, stretch in enumerate(beyond_the_bytes(len(cases.lent))):
         for group, kind, question in without_history(place):
             cases.add(group, kind, question, stretch)
+    cases.add_all(new_form, 20_070_101)
     return cases.input_and_output()
 
 

@@ -16,19 +16,23 @@ from itertools import accumulate
 from reference_model.bases import named_bases, realistic
 from reference_model.basis import decode, encode, table
 from reference_model.damage import damaged_runs
+from reference_model.finer_bases import finer_bases, fitted, fitted_table_of_2000
 from reference_model.history import NO_HISTORY
-from reference_model.layout import RUN_LENGTH, TABLES
+from reference_model.layout import MPB1, form_of_run
 from reference_model.older_bases import lent, older_bases
 from reference_model.points import start_lifeline, step_lifeline
 from reference_model.refusals import outcome
-from reference_model.units import LAST_AGE, LAST_YEAR
+from reference_model.units import LAST_YEAR
 from reference_model.vectors import command, write
 
-LONGEST_RUN, LONGEST_HISTORY = 5_000, 90_112  # the program's room
+LONGEST_RUN, LONGEST_HISTORY = 5_200, 90_112  # the program's room
 
 # Lifelines that go to their end, and that stop by 9 or 10 on the way; B from 1992 to 2130.
 CHOSEN = ("sample", "realistic", "9 in mid-course", "10 in mid-course", "exactly four",
           "just beyond low", "B 2130", "F 2080", "random gentle", "random wide")
+
+FINER = ("fitted", "widest", "finer 9 in mid-course", "finer 10 in mid-course", "finer random gentle",
+         "finer random wide", "finer random limits")
 
 
 # ---- what is asked
@@ -51,12 +55,24 @@ def accepted_cases():
         yield lent(older)
 
 
-def refused_cases():
-    """Data runs of every damage, whole and too short or too long; histories that are not theirs."""
-    run = encode(realistic())
+def in_the_new_form():
+    by_name = finer_bases()
+    for name in FINER:
+        yield encode(by_name[name]), NO_HISTORY
+    yield lent(fitted_table_of_2000())
+
+
+def damaged_cases(run):
+    """Data runs of every damage, whole and too short or too long."""
     for place, damage in enumerate(damaged_runs(run)):
-        if place % 5 == 0 or len(damage.content) != RUN_LENGTH:
+        if place % 5 == 0 or len(damage.content) != len(run):
             yield damage.content, NO_HISTORY
+
+
+def refused_cases():
+    """Damaged data runs, and histories that are not theirs."""
+    run = encode(realistic())
+    yield from damaged_cases(run)
     older, history = lent(next(iter(older_bases().values())))
     yield from [(older, NO_HISTORY), (run, history), (older, history[:-1]),
                 (older, history[:-1] + bytes([history[-1] ^ 1]))]
@@ -80,13 +96,14 @@ def line_of(run, history, age, year, steps):
 def input_and_output():
     """The bytes of standard input and of the expected standard output."""
     asked, lines = b"", []
-    for place, (run, history) in enumerate(list(accepted_cases()) + list(refused_cases())):
+    for run, history in (*accepted_cases(), *refused_cases(), *in_the_new_form(),
+                         *damaged_cases(encode(fitted()))):
         assert len(run) <= LONGEST_RUN and len(history) <= LONGEST_HISTORY
-        base_year = decode(run).base_year if len(run) == RUN_LENGTH else 2006
-        followed = list(lifelines(base_year))
+        base_year = decode(run).base_year if form_of_run(len(run)) else 0
+        followed = list(lifelines(base_year or 2006))
         asked += struct.pack("<II", len(run), len(history)) + run + history
         asked += len(followed).to_bytes(2, "little")
-        lines += [table_line(run, each.name) for each in TABLES]
+        lines += [table_line(run, each.name) for each in MPB1.tables]  # the names are either form's
         for age, year, steps in followed:
             asked += struct.pack("<III", age, year, steps)
             lines.append(line_of(run, history, age, year, steps))

@@ -1,10 +1,11 @@
-"""Writes the samples that ship with the project: a realistic basis and a list of model points, and
-in the folder `older` the same with a base table of 2000 and its history.
+"""Writes the samples that ship with the project: a realistic basis and a list of model points; in
+the folder `older` the same with a base table of 2000 and its history; and in the folder `finer` the
+first with proportions that are fitted to a hundredth of a per cent, in the new form.
 
 Run with `python3 -m reference_model.make_samples [folder]` from the folder that holds `samples/`. The bases
-are `bases.realistic` and `older_bases.table_of_2000`, whose numbers are worked out from the
-formulas given there: synthetic numbers of a realistic size, no published table and no scheme's
-experience.
+are `bases.realistic`, `older_bases.table_of_2000` and `finer_bases.fitted`, whose numbers are worked
+out from the formulas given there: synthetic numbers of a realistic size, no published table and no
+scheme's experience.
 """
 
 import sys
@@ -12,6 +13,7 @@ from pathlib import Path
 
 from reference_model.bases import realistic
 from reference_model.basis import encode, encode_file
+from reference_model.finer_bases import fitted
 from reference_model.history import encode_history
 from reference_model.older_bases import table_of_2000
 
@@ -43,6 +45,7 @@ def main():
     write_sample(folder, realistic(), POINTS)
     write_sample(folder / "older", older.basis, OLDER_POINTS)
     (folder / "older" / "history.bin").write_bytes(encode_history(older.rows))
+    write_sample(folder / "finer", fitted(), POINTS)
 
 
 if __name__ == "__main__":

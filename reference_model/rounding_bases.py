@@ -46,16 +46,17 @@ def with_cells(cells, first_age, **numbers):
 def half_way(hundredths, years=1, whole=0):
     """A curve that is so many hundredths above a whole number after these years, a half of its T.
 
-    There it has P of the way still to go, here of one unit.
+    There it has P of the way still to go, here of one unit. In the new form P counts
+    ten-thousandths, and so does the first number.
     """
     return whole + (1 if hundredths > 0 else -1), whole, 2 * years, abs(hundredths)
 
 
-def both_half_way(rows, years=1, whole=0):
-    """Cells with equal T, so with equal divisors: hundredths by age and by birth year."""
+def both_half_way(rows, years=1, whole=0, parts=100):
+    """Cells with equal T, so with equal divisors: hundredths (or parts) by age and birth year."""
     for by_age, by_birth_year, once, apart in rows:
         yield Cell(years, half_way(by_age, years, whole), half_way(by_birth_year, years, whole),
-                   2 * whole + Fraction(by_age + by_birth_year, 100), once, apart)
+                   2 * whole + Fraction(by_age + by_birth_year, parts), once, apart)
 
 
 # ---- small sums

@@ -1,6 +1,7 @@
 """The unit, the rounding rule, and the ranges of ages and calendar years."""
 
 UNIT = 1_000_000_000  # U: rates, factors and values are whole numbers of units, U to one
+PER_CENT = 100  # per cents to one
 
 FIRST_AGE, LAST_AGE = 20, 150
 FIRST_YEAR, LAST_YEAR = 1992, 2130

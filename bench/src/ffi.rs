@@ -82,6 +82,7 @@ pub mod raw {
         pub fn parvusek_check_basis(run: *const u8, run_len: usize) -> Refusal;
         pub fn parvusek_read_basis(file: *const u8, file_len: usize, run: *mut u8, run_len: usize) -> Refusal;
         pub fn parvusek_write_basis(run: *const u8, run_len: usize, file: *mut u8, file_len: usize) -> Refusal;
+        pub fn parvusek_write_old_form(run: *const u8, run_len: usize, file: *mut u8, file_len: usize) -> Refusal;
         pub fn parvusek_short_form(
             run: *const u8,
             run_len: usize,
@@ -155,6 +156,10 @@ pub fn read_basis(file: &[u8], run: &mut [u8]) -> Refusal {
 
 pub fn write_basis(run: &[u8], file: &mut [u8]) -> Refusal {
     unsafe { raw::parvusek_write_basis(run.as_ptr(), run.len(), file.as_mut_ptr(), file.len()) }
+}
+
+pub fn write_old_form(run: &[u8], file: &mut [u8]) -> Refusal {
+    unsafe { raw::parvusek_write_old_form(run.as_ptr(), run.len(), file.as_mut_ptr(), file.len()) }
 }
 
 pub fn short_form(run: &[u8], long_term_rate: i32, out: &mut [u8]) -> Refusal {

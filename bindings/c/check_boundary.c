@@ -1,7 +1,7 @@
 /* Checks the boundary that nothing proves: C sees the engine's structs where the engine puts them, and each function
    answers and refuses as the definitions say on a few cases worked by hand. Prints one line, and each check that failed.
-   The sets and the lifeline are in check_sets.c, bases older than their foundation year in check_histories.c, rolls of
-   pensions in payment in check_rolls.c. */
+   The new form is in check_forms.c, the sets and the lifeline are in check_sets.c, bases older than their foundation year in
+   check_histories.c, rolls of pensions in payment in check_rolls.c. */
 #include <stddef.h>
 #include <stdio.h>
 #include <string.h>
@@ -33,7 +33,7 @@ int declined(parvusek_answer_t a, uint32_t number, uint64_t first, uint64_t seco
 
 int is_signed(parvusek_signed_answer_t a, int64_t value) { return passed(a.refusal) && a.value == value; }
 
-static int all(const uint8_t *at, size_t n, uint8_t byte) {
+int all(const uint8_t *at, size_t n, uint8_t byte) {
     for (size_t i = 0; i < n; i++)
         if (at[i] != byte) return 0;
     return 1;
@@ -51,7 +51,7 @@ void put4(uint8_t *at, int32_t n) {
     put2(at + 2, (uint32_t)n >> 16);
 }
 
-static uint32_t get4(const uint8_t *at) {
+uint32_t get4(const uint8_t *at) {
     return at[0] | (uint32_t)at[1] << 8 | (uint32_t)at[2] << 16 | (uint32_t)at[3] << 24;
 }
 
@@ -331,6 +331,7 @@ int main(void) {
     check_short_forms();
     check_cells();
     check_values();
+    check_forms();
     check_small_sets();
     check_grids();
     check_lifelines();

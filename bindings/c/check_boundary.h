@@ -3,7 +3,7 @@
 #define CHECK_BOUNDARY_H
 #include "parvusek.h"
 
-enum { RUN = 4554, FILE_SIZE = 4608, BLOCK = 512, FURTHER = 16, KEPT = 0xA5 };
+enum { RUN = 4554, FILE_SIZE = 4608, RUN_2 = 5060, FILE_SIZE_2 = 5120, BLOCK = 512, FURTHER = 16, KEPT = 0xA5 };
 
 /* what is lent beside a data run that needs no history */
 #define NO_HISTORY NULL, 0
@@ -17,10 +17,13 @@ int passed(parvusek_refusal_t r);
 int is(parvusek_answer_t a, uint64_t value);
 int is_signed(parvusek_signed_answer_t a, int64_t value);
 int declined(parvusek_answer_t a, uint32_t number, uint64_t first, uint64_t second);
+/* whether so many bytes are all this one */
+int all(const uint8_t *at, size_t n, uint8_t byte);
 
 void put2(uint8_t *at, uint32_t n);
 void put4(uint8_t *at, int32_t n);
 void fill4(uint8_t *at, size_t count, int32_t n);
+uint32_t get4(const uint8_t *at);
 /* the check that belongs behind the 508 bytes of a block */
 uint32_t block_check(const uint8_t *block);
 
@@ -32,6 +35,9 @@ void sample_with_addition(uint8_t *run, int32_t addition);
 void sample_worsening(uint8_t *run);
 /* the same with an improvement of 587,500,000 in the year after F */
 void sample_beyond(uint8_t *run);
+
+/* the checks of check_forms.c */
+void check_forms(void);
 
 /* the checks of check_sets.c */
 void check_small_sets(void);

@@ -15,7 +15,9 @@ enum { HISTORY_YEARS = 88 };
 
 /* The engine keeps nothing, so run and history are ours to keep. */
 typedef struct {
-    uint8_t run[PARVUSEK_RUN_LENGTH];
+    /* Room for either form; the run's own length is what is lent. */
+    uint8_t run[PARVUSEK_RUN_LENGTH_2];
+    size_t run_length;
     /* One byte more than the longest history has: a longer file is then refused, too. */
     uint8_t history[HISTORY_YEARS * PARVUSEK_HISTORY_YEAR + 1];
     size_t history_length;
@@ -46,12 +48,13 @@ static int say_refusal(const char *path, parvusek_refusal_t refusal) {
 
 /* The data run of a basis file. Hands back 0, or 1 where it has said what is wrong. */
 static int read_run(const char *path, basis_t *basis) {
-    /* One byte more than a basis file has, for the same reason. */
-    uint8_t file[PARVUSEK_FILE_LENGTH + 1];
+    /* One byte more than the longer form has, for the same reason. */
+    uint8_t file[PARVUSEK_FILE_LENGTH_2 + 1];
     size_t length;
     if (read_file(path, file, sizeof file, &length) != 0) {
         return 1;
     }
+    basis->run_length = length == PARVUSEK_FILE_LENGTH_2 ? PARVUSEK_RUN_LENGTH_2 : PARVUSEK_RUN_LENGTH;
     return say_refusal(path, parvusek_read_basis(file, length, basis->run, sizeof basis->run));
 }
 
@@ -65,7 +68,7 @@ static int read_history(const char *path, basis_t *basis) {
     }
     /* A set is refused as a whole by its basis alone. The run is accepted, so that this is the history's refusal. */
     memset(&none, 0, sizeof none);
-    set = parvusek_small_set(basis->run, sizeof basis->run, basis->history, basis->history_length, none);
+    set = parvusek_small_set(basis->run, basis->run_length, basis->history, basis->history_length, none);
     return say_refusal(path == NULL ? "no history" : path, set.refusal);
 }
 

@@ -58,7 +58,7 @@ static void run_call(const basis_t *basis, uint64_t *roll, const call_t *call) {
     parvusek_answer_t answer;
     char line[128];
     if (call->is_join) {
-        answer = parvusek_roll_join(basis->run, sizeof basis->run, basis->history, basis->history_length, roll,
+        answer = parvusek_roll_join(basis->run, basis->run_length, basis->history, basis->history_length, roll,
                                     PARVUSEK_ROLL_LENGTH, call->number, call->age, call->pension);
         printf("join  %10" PRIu32 " %3" PRIu32 " %10" PRIu32, call->number, call->age, call->pension);
     } else {

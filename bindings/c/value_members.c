@@ -68,7 +68,7 @@ static void value(const basis_t *basis, const member_t *members, size_t count) {
         questions.points[i] = members[i].question;
     }
     /* The set as a whole can only be refused for its basis, which was accepted when it was read. */
-    set = parvusek_small_set(basis->run, sizeof basis->run, basis->history, basis->history_length, questions);
+    set = parvusek_small_set(basis->run, basis->run_length, basis->history, basis->history_length, questions);
     for (i = 0; i < count; i++) {
         print_member(&members[i], &set.points[i]);
     }

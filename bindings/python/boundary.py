@@ -5,6 +5,7 @@ import struct
 from ctypes import POINTER, Structure, c_int32, c_int64, c_size_t, c_uint8, c_uint32, c_uint64, sizeof
 
 RUN, FILE, GRID, ROLL, FURTHER, KEPT = 4554, 4608, 119, 2002, 16, 0xA5
+RUN_2, FILE_2 = 5060, 5120
 UNIT = 1_000_000_000
 
 
@@ -63,6 +64,7 @@ OF_A_RUN = {
     "check_basis": (Refusal, []),
     "read_basis": (Refusal, [POINTER(c_uint8), c_size_t]),
     "write_basis": (Refusal, [POINTER(c_uint8), c_size_t]),
+    "write_old_form": (Refusal, [POINTER(c_uint8), c_size_t]),
     "short_form": (Refusal, [c_int32, POINTER(c_uint8), c_size_t]),
 }
 
@@ -151,6 +153,17 @@ def sample(addition=0, discount=0, initial=0, long_term=0, birth_year=0, period=
     return (b"MPB1" + struct.pack("<HHii", 2006, base_year, addition, discount) + bytes(14) + words(131, 100_000_000)
             + words(131, initial) + words(131, long_term) + bytes([period]) * 131 + bytes([remaining]) * 131
             + words(269, birth_year) + words(269, birth_year) + bytes([20]) * 269 + bytes([50]) * 269)
+
+
+def in_new_form(old, changes=()):
+    """The run of the same fields in the new form: each P byte replaced by two, times 100, then zero bytes. Numbers of two
+    bytes may be put in other places afterwards."""
+    def wide(per_cents):
+        return struct.pack(f"<{len(per_cents)}H", *[100 * p for p in per_cents])
+    run = bytearray((b"MPB2" + old[4:1733] + wide(old[1733:1864]) + old[1864:4285] + wide(old[4285:])).ljust(RUN_2, b"\0"))
+    for offset, number in changes:
+        struct.pack_into("<H", run, offset, number)
+    return bytes(run)
 
 
 def worsening():

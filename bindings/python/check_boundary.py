@@ -12,6 +12,7 @@ from pathlib import Path
 import boundary
 from boundary import (FILE, FURTHER, GRID, KEPT, LAYOUTS, ROLL, RUN, UNIT, Engine, Point, Question, Questions,
                       answers_of_grid, asked_of_grid, beyond, file_of, lent, opened, places, position, same, sample, worsening)
+from check_forms import check_forms
 from check_histories import check_histories
 
 
@@ -275,6 +276,7 @@ def main():
     check_version(engine)
     check_layouts()
     check_bases(engine)
+    check_forms(engine)
     check_enquiries(engine)
     check_small_sets(engine)
     check_grids(engine)

@@ -6,7 +6,7 @@ from collections import Counter
 from functools import cache
 
 from reference_model import make_answer_cases, make_file_cases, make_reader_cases
-from reference_model.basis import encode, read_file, short_form, write_file
+from reference_model.basis import encode, read_file, short_form, write_file, write_old_form
 from reference_model.blocks import joined_data
 from reference_model.distances import read_cases
 from reference_model.enquiries import KINDS, ask
@@ -29,12 +29,13 @@ def answered(function, *arguments):
 
 def file_case_lines(text):
     """What a program that follows the format's description prints."""
-    file, place, lines = text[:4_608], 4_608, []
+    files, place, lines = (text[:4_608], text[4_608:9_728]), 9_728, []
     while place < len(text):
-        kind, input_length, output_length, rate, patches = struct.unpack_from("<BHHiH", text, place)
-        place += 11
-        base = file if kind == 0 else joined_data(file)
-        lent = bytearray((base + bytes(5_000))[:input_length])
+        kind, base, input_length, output_length, rate, patches = struct.unpack_from("<BBHHiH", text,
+                                                                                    place)
+        place += 12
+        content = files[base] if kind == 0 else joined_data(files[base])
+        lent = bytearray((content + bytes(5_200))[:input_length])
         for _ in range(patches):
             offset, byte = struct.unpack_from("<HB", text, place)
             place += 3
@@ -43,30 +44,27 @@ def file_case_lines(text):
         if kind == 2:
             answer, numbers = answered(short_form, bytes(lent), rate, output_length)
         else:
-            answer, numbers = answered((read_file, write_file)[kind], bytes(lent), output_length)
+            call = (read_file, write_file, None, write_old_form)[kind]
+            answer, numbers = answered(call, bytes(lent), output_length)
         output[:len(answer)] = answer
-        assert len(output) == output_length <= 5_000 and input_length <= 5_000
+        assert len(output) == output_length <= 5_200 and input_length <= 5_200
         total = sum((i + 1) * byte for i, byte in enumerate(output)) % 4_294_967_296
         lines.append("%d %d %d %d" % (numbers + (total,)))
     return lines
 
 
 def answer_case_lines(text):
-    (count,) = struct.unpack_from("<H", text)
-    runs = [text[2 + 4_554 * i:2 + 4_554 * (i + 1)] for i in range(count)]
-    place = 2 + 4_554 * count
-    (total,) = struct.unpack_from("<I", text, place)
-    histories, lines, place = text[place + 4:place + 4 + total], [], place + 4 + total
-    assert count <= 64 and len(histories) == total <= 262_144
+    (total,) = struct.unpack_from("<I", text)
+    lent, lines, place = text[4:4 + total], [], 4 + total
+    assert len(lent) == total <= 1_048_576
+
+    def stretch(start, length):
+        return lent[start:start + length] if start + length <= total else b""
     while place < len(text):
-        kind, basis, age, deferment, year, start, length = struct.unpack_from("<BBIIIII", text,
-                                                                              place)
-        place += 22
-        history = histories[start:start + length]
-        if len(history) != length:
-            history = b""
+        kind, age, deferment, year, *stretches = struct.unpack_from("<BIIIIIII", text, place)
+        place += 29
+        run, history = stretch(*stretches[:2]), stretch(*stretches[2:])
         try:
-            run = runs[basis] if basis < count else b""
             lines.append("value %d" % ask(run, history, KINDS[kind], age, deferment, year))
         except Refusal as refusal:
             lines.append("refused %d %d %d" % refusal.numbers())
@@ -108,8 +106,12 @@ class WrittenCases(unittest.TestCase):
         lines = file_case_lines(asked)
         self.assertEqual(with_last_line(lines), expected)
         found = Counter(line.split()[0] for line in lines)
-        self.assertEqual(set(found), {"0", "1", "2", "3", "4", "5", "11"})
+        self.assertEqual(set(found), {"0", "1", "2", "3", "4", "5", "11", "17"})
         self.assertGreater(min(found.values()), 20)
+        found = {line.rsplit(" ", 1)[0] for line in lines}
+        # 11 by both forms' lengths, 17 at the first and the last of both tables, 4 in the tail.
+        self.assertLessEqual({"11 4554 0", "11 4608 0", "11 5060 0", "11 5120 0", "17 1733 0", "17 1993 0",
+                              "17 4416 0", "17 4952 0", "4 3 0", "4 4954 0", "4 5059 0", "5 4952 0"}, found)
 
     def test_answer_cases(self):
         asked, expected = answer_cases()
@@ -124,7 +126,7 @@ class WrittenCases(unittest.TestCase):
         asked, expected = answer_cases()
         lines = expected.decode("ascii").splitlines()[:-1]
         found = {kind: set() for kind in range(9)}
-        cases = struct.iter_unpack("<BBIIIII", asked[-22 * len(lines):])
+        cases = struct.iter_unpack("<BIIIIIII", asked[-29 * len(lines):])
         for (kind, *_, length), line in zip(cases, lines):
             word, *numbers = line.split()
             if length:

@@ -1,4 +1,6 @@
 //! A data run in the making, every field of which can be set.
+use super::forms::in_hundredths;
+use crate::engine::form::{BY_AGE, BY_BIRTH_YEAR, Form, Table};
 use crate::engine::layout::*;
 
 #[derive(Clone)]
@@ -21,19 +23,21 @@ impl Component {
         }
     }
 
-    fn offsets(self) -> [usize; 4] {
+    /// Its I, L, T and P.
+    fn tables(self) -> [Table; 4] {
         match self {
-            Component::Age => [AGE_INITIAL, AGE_LONG_TERM, AGE_PERIODS, AGE_PROPORTIONS],
-            Component::BirthYear => [BIRTH_INITIAL, BIRTH_LONG_TERM, BIRTH_PERIODS, BIRTH_PROPORTIONS],
+            Component::Age => BY_AGE,
+            Component::BirthYear => BY_BIRTH_YEAR,
         }
     }
 }
 
 impl Draft {
-    /// Every rate 0, T 20, P 50: accepted as it is.
+    /// Every rate 0, T 20, P 50, in the old form: accepted as it is.
     pub fn plain(foundation_year: u16, base_year: u16) -> Self {
-        let mut draft = Draft { run: vec![0; RUN_LENGTH] };
-        draft.run[..4].copy_from_slice(&MARK);
+        let form = Form::Mpb1;
+        let mut draft = Draft { run: vec![0; form.run_length()] };
+        draft.run[..4].copy_from_slice(&form.mark());
         draft.set_years(foundation_year, base_year);
         for component in [Component::Age, Component::BirthYear] {
             for index in 0..component.entries() {
@@ -41,6 +45,15 @@ impl Draft {
             }
         }
         draft
+    }
+
+    /// The same fields in this form; a draft of the new form is there already.
+    pub fn in_form(self, form: Form) -> Self {
+        if form == self.form() { self } else { Draft { run: in_hundredths(&self.run) } }
+    }
+
+    pub fn form(&self) -> Form {
+        Form::of_run(self.run.len()).expect("a draft has one of the two lengths")
     }
 
     pub fn set_years(&mut self, foundation_year: u16, base_year: u16) {
@@ -66,17 +79,47 @@ impl Draft {
         self.set_number(DISCOUNT_RATE, rate);
     }
 
-    pub fn set_base_rate(&mut self, index: usize, rate: i32) {
-        self.set_number(BASE_RATES + 4 * index, rate);
+    fn set_rate(&mut self, table: Table, index: usize, rate: i32) {
+        self.set_number(self.form().offset(table) + 4 * index, rate);
     }
 
-    /// The initial and the long-term rate, T and P of one age or birth year, counted from the first.
-    pub fn set_component(&mut self, component: Component, index: usize, rates: [i32; 2], period: u8, proportion: u8) {
-        let [initial, long_term, periods, proportions] = component.offsets();
-        self.set_number(initial + 4 * index, rates[0]);
-        self.set_number(long_term + 4 * index, rates[1]);
+    pub fn set_base_rate(&mut self, index: usize, rate: i32) {
+        self.set_rate(Table::BaseRates, index, rate);
+    }
+
+    /// The initial and the long-term rate, T and P in per cents of one age or birth year, counted from the first.
+    pub fn set_component(&mut self, component: Component, index: usize, rates: [i32; 2], period: u8, per_cents: u8) {
+        let [initial, long_term, periods, _] = component.tables();
+        self.set_rate(initial, index, rates[0]);
+        self.set_rate(long_term, index, rates[1]);
+        let periods = self.form().offset(periods);
         self.run[periods + index] = period;
-        self.run[proportions + index] = proportion;
+        self.set_proportion(component, index, 100 * u16::from(per_cents));
+    }
+
+    /// P in hundredths of a per cent, whole per cents in the old form.
+    pub fn set_proportion(&mut self, component: Component, index: usize, hundredths: u16) {
+        let form = self.form();
+        let [.., proportions] = component.tables();
+        let offset = form.offset(proportions);
+        match form {
+            Form::Mpb1 => {
+                assert!(hundredths.is_multiple_of(100), "{hundredths} hundredths are no whole per cents");
+                self.run[offset + index] = (hundredths / 100) as u8;
+            }
+            Form::Mpb2 => self.run[offset + 2 * index..][..2].copy_from_slice(&hundredths.to_le_bytes()),
+        }
+    }
+
+    /// P in hundredths of a per cent.
+    pub fn proportion(&self, component: Component, index: usize) -> u16 {
+        let form = self.form();
+        let [.., proportions] = component.tables();
+        let offset = form.offset(proportions);
+        match form {
+            Form::Mpb1 => 100 * u16::from(self.run[offset + index]),
+            Form::Mpb2 => u16::from_le_bytes([self.run[offset + 2 * index], self.run[offset + 2 * index + 1]]),
+        }
     }
 
     /// The benchmark's basis with other years.

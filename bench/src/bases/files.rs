@@ -4,7 +4,7 @@ use crate::random::Random;
 
 /// The file of any joined data, accepted or not.
 pub fn file_of(joined: &[u8]) -> Vec<u8> {
-    let mut file = Vec::with_capacity(FILE_LENGTH);
+    let mut file = Vec::with_capacity(joined.len().div_ceil(BLOCK_DATA) * BLOCK_LENGTH);
     for (number, data) in joined.chunks(BLOCK_DATA).enumerate() {
         let mut block = (number as u16).to_le_bytes().to_vec();
         block.extend_from_slice(data);
@@ -36,7 +36,7 @@ pub fn damage(random: &mut Random, file: &mut Vec<u8>) {
             }
         }
         1 => resealed(random, file, |random, block| {
-            let number = random.pick(&[0u16, 1, 8, 9, 256, 65535]);
+            let number = random.pick(&[0u16, 1, 8, 9, 10, 256, 65535]);
             block[..2].copy_from_slice(&number.to_le_bytes());
         }),
         2 => resealed(random, file, |random, block| {
@@ -45,7 +45,7 @@ pub fn damage(random: &mut Random, file: &mut Vec<u8>) {
         }),
         3 => swap_blocks(random, file),
         4 => {
-            let length = random.pick(&[0, 1, 4096, 4554, 4607, 4609, 5120]);
+            let length = random.pick(&[0, 1, 4096, 4554, 4607, 4608, 4609, 5060, 5119, 5120, 5121, 5632]);
             file.resize(length, 0);
         }
         5 => top_bit(random, file),

@@ -2,6 +2,7 @@
 pub mod damaged;
 pub mod draft;
 pub mod files;
+pub mod forms;
 pub mod histories;
 pub mod valid;
 

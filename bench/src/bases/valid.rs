@@ -1,4 +1,4 @@
-//! Accepted data runs at random: of modest size, anywhere in the limits, and at the limits.
+//! Accepted data runs at random, in the old form: of modest size, anywhere in the limits, and at the limits.
 use super::draft::{Component, Draft};
 use crate::engine::layout::*;
 use crate::random::Random;
@@ -179,7 +179,7 @@ fn components(random: &mut Random, draft: &mut Draft, mut terms: impl FnMut(&mut
 mod tests {
     use super::*;
     use crate::bases::histories::MOST_YEARS;
-    use crate::engine::basis::accept_run;
+    use crate::engine::run::Run;
     use std::ops::RangeInclusive;
 
     #[test]
@@ -187,12 +187,13 @@ mod tests {
         let mut random = Random::new(1);
         for kind in [modest, anywhere, extreme, brink, uneven] {
             let runs: Vec<Vec<u8>> = (0..200).map(|_| kind(&mut random).run).collect();
-            let rates = runs.iter().map(|run| signed(accept_run(run).expect("within its limits"), DISCOUNT_RATE));
+            let rates =
+                runs.iter().map(|run| signed(Run::accept(run).expect("within its limits").bytes, DISCOUNT_RATE));
             let below = rates.filter(|&rate| rate < 0).count();
             assert!((1..200).contains(&below), "{below} of 200");
         }
         for kind in [edge, fourfold] {
-            assert!(accept_run(&kind(&mut random).run).is_ok());
+            assert!(Run::accept(&kind(&mut random).run).is_ok());
         }
     }
 

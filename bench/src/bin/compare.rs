@@ -2,7 +2,7 @@
 //! compare [--seed N] [--comparisons N] [--workers N] [--base N]
 use parvusek_bench::compare::report::Tally;
 use parvusek_bench::compare::worker::{Found, compare};
-use parvusek_bench::compare::{calls::Calls, lent, worker};
+use parvusek_bench::compare::{calls::Calls, lengths, lent, worker};
 use std::os::unix::process::ExitStatusExt;
 use std::process::{Command, ExitCode};
 use std::sync::atomic::{AtomicU64, Ordering};
@@ -55,6 +55,7 @@ fn compare_all(settings: &Settings) -> Result<(), String> {
     println!("compare: seed {}, {} workers", settings.seed, settings.workers);
     guards_stand()?;
     lent::empty_lendings()?;
+    every_length(settings)?;
     let start = Instant::now();
     let tally = match settings.base {
         Some(base) => {
@@ -70,6 +71,16 @@ fn compare_all(settings: &Settings) -> Result<(), String> {
     if settings.comparisons >= 100_000 && settings.base.is_none() && !missing.is_empty() {
         return Err(format!("the inputs never led to: {}", missing.join(", ")));
     }
+    Ok(())
+}
+
+fn every_length(settings: &Settings) -> Result<(), String> {
+    let tally = lengths::compare_lengths(settings.seed).map_err(|found| describe(settings, *found))?;
+    println!(
+        "compare: runs and files of every length from 0 to {} that begin like either form, {} calls, no difference",
+        lengths::LAST_LENGTH,
+        tally.calls()
+    );
     Ok(())
 }
 

@@ -2,7 +2,8 @@
 //! standard output as they come, in memory that does not grow with the input. bench/points_throughput compares the proved
 //! program with it.
 use parvusek_bench::engine::basis::Basis;
-use parvusek_bench::engine::layout::{FILE_LENGTH, HISTORY_YEAR, RUN_LENGTH};
+use parvusek_bench::engine::form::Form;
+use parvusek_bench::engine::layout::HISTORY_YEAR;
 use parvusek_bench::engine::{Refusal, file};
 use parvusek_bench::points::Answering;
 use parvusek_bench::points::reply::{HEADER, put_refusal};
@@ -25,9 +26,11 @@ fn bytes_of(name: &str, longest: usize) -> Vec<u8> {
     bytes
 }
 
-fn read_run() -> Result<[u8; RUN_LENGTH], Refusal> {
-    let mut run = [0; RUN_LENGTH];
-    file::read_basis(&bytes_of("basis.bin", FILE_LENGTH), &mut run).map(|()| run)
+/// The run of a basis file of either form.
+fn read_run() -> Result<Vec<u8>, Refusal> {
+    let file = bytes_of("basis.bin", Form::Mpb2.file_length());
+    let mut run = vec![0; file::run_needed(file.len())];
+    file::read_basis(&file, &mut run).map(|()| run)
 }
 
 /// Answers each block of the input before the next is read.

@@ -2,6 +2,7 @@
 //! After them, in the same way, how many times as fast the proved grid is by its year sweep as point by point.
 //! ratios [--rounds N] [--markdown]
 use parvusek_bench::bases::{Draft, draft::Component, files, histories};
+use parvusek_bench::engine::form::Form;
 use parvusek_bench::engine::layout::*;
 use parvusek_bench::engine::sets::{self, GRID, Record};
 use parvusek_bench::engine::valuation::Kind;
@@ -173,7 +174,7 @@ fn two_grids<'a>(lent: Lent<'a>, name: &str, asked: Asked) -> Case<'a> {
 }
 
 fn read<'a>(file: &'a [u8]) -> Case<'a> {
-    let (mut lent, mut own) = ([0; RUN_LENGTH], [0; RUN_LENGTH]);
+    let (mut lent, mut own) = ([0; Form::Mpb2.run_length()], [0; Form::Mpb2.run_length()]);
     case(
         "reading a file",
         move || done(ffi::read_basis(black_box(file), black_box(&mut lent))),
@@ -182,7 +183,7 @@ fn read<'a>(file: &'a [u8]) -> Case<'a> {
 }
 
 fn write<'a>(run: &'a [u8]) -> Case<'a> {
-    let (mut lent, mut own) = ([0; FILE_LENGTH], [0; FILE_LENGTH]);
+    let (mut lent, mut own) = ([0; Form::Mpb2.file_length()], [0; Form::Mpb2.file_length()]);
     case(
         "writing a file",
         move || done(ffi::write_basis(black_box(run), black_box(&mut lent))),
@@ -190,8 +191,17 @@ fn write<'a>(run: &'a [u8]) -> Case<'a> {
     )
 }
 
+fn write_old_form<'a>(run: &'a [u8]) -> Case<'a> {
+    let (mut lent, mut own) = ([0; Form::Mpb1.file_length()], [0; Form::Mpb1.file_length()]);
+    case(
+        "writing one in the old form",
+        move || done(ffi::write_old_form(black_box(run), black_box(&mut lent))),
+        move || done(file::write_old_form(black_box(run), black_box(&mut own))),
+    )
+}
+
 fn shorten<'a>(run: &'a [u8]) -> Case<'a> {
-    let (mut lent, mut own) = ([0; RUN_LENGTH], [0; RUN_LENGTH]);
+    let (mut lent, mut own) = ([0; Form::Mpb2.run_length()], [0; Form::Mpb2.run_length()]);
     case(
         "short form",
         move || done(ffi::short_form(black_box(run), black_box(15_000_000), black_box(&mut lent))),
@@ -203,7 +213,7 @@ fn shorten<'a>(run: &'a [u8]) -> Case<'a> {
 const YEARS_ON: [u32; 3] = [40, 94, 124];
 
 /// The first so many cases are the files' and the single cells'.
-const FILES_AND_CELLS: usize = 4 + 2 * YEARS_ON.len();
+const FILES_AND_CELLS: usize = 5 + 2 * YEARS_ON.len();
 
 fn cases<'a>(lent: Lent<'a>, file: &'a [u8]) -> Vec<Case<'a>> {
     let run = lent.run;
@@ -215,6 +225,7 @@ fn cases<'a>(lent: Lent<'a>, file: &'a [u8]) -> Vec<Case<'a>> {
         ),
         read(file),
         write(run),
+        write_old_form(run),
         shorten(run),
     ];
     cases.extend(YEARS_ON.map(|years| cell(lent, "factor", years, ffi::factor, enquiries::factor)));
@@ -286,7 +297,12 @@ fn main() {
         settings.rounds
     );
     let mut worst = 0.0f64;
-    for (what, draft) in [("convergence over 10 to 40 years", Draft::benchmark()), ("over 50 years", slow_basis())] {
+    let bases = [
+        ("convergence over 10 to 40 years", Draft::benchmark()),
+        ("the same in the form MPB2", Draft::benchmark().in_form(Form::Mpb2)),
+        ("over 50 years", slow_basis()),
+    ];
+    for (what, draft) in bases {
         let file = files::file_of(&draft.run);
         title(&settings, &ENGINES, &format!("Nothing cleared (caches warm), {what}:"));
         worst = worst.max(warm(&settings, cases(Lent::new(&draft, &[]), &file)));

@@ -1,8 +1,8 @@
 //! The stack that each call of the archive touches, and the direct grid beside them: the most over answered and refused
 //! questions, as lines of CSV. What goes by value lies above what is counted.
-use parvusek_bench::bases::{Draft, files};
+use parvusek_bench::bases::{Draft, damaged, files};
 use parvusek_bench::compare::inputs;
-use parvusek_bench::engine::layout::{FILE_LENGTH, RUN_LENGTH};
+use parvusek_bench::engine::form::{FORMS, Form};
 use parvusek_bench::engine::roll;
 use parvusek_bench::engine::sets::{GRID, Record};
 use parvusek_bench::ffi::{Question, Questions, Records, raw::*};
@@ -22,9 +22,10 @@ struct Lent {
 fn lent(random: &mut Random, run: Vec<u8>, history: Vec<u8>) -> Lent {
     let records = (0..GRID).map(|_| inputs::record(random, &run)).collect();
     let mut whole = run.clone();
-    whole.resize(RUN_LENGTH, 0);
+    damaged::of_some_form(random, &mut whole);
     let roll = vec![0; roll::LENGTH];
-    Lent { run, history, file: files::file_of(&whole), output: vec![0; FILE_LENGTH], records, roll }
+    let output = vec![0; Form::Mpb2.file_length()];
+    Lent { run, history, file: files::file_of(&whole), output, records, roll }
 }
 
 /// A record as it is passed by value.
@@ -51,13 +52,14 @@ impl Lent {
         self.touched(function, &[&self.run, &self.history], rest, &[])
     }
 
-    fn file_calls(&mut self) -> [(&'static str, usize); 4] {
+    fn file_calls(&mut self) -> [(&'static str, usize); 5] {
         let (out, length) = (self.output.as_mut_ptr() as u64, self.output.len() as u64);
         let (run, file): (&[u8], &[u8]) = (&self.run, &self.file);
         [
             ("check_basis", self.touched(parvusek_check_basis as *const (), &[run], &[], &[])),
             ("read_basis", self.touched(parvusek_read_basis as *const (), &[file], &[out, length], &[])),
             ("write_basis", self.touched(parvusek_write_basis as *const (), &[run], &[out, length], &[])),
+            ("write_old_form", self.touched(parvusek_write_old_form as *const (), &[run], &[out, length], &[])),
             ("short_form", self.touched(parvusek_short_form as *const (), &[run], &[10_000_000, out, length], &[])),
         ]
     }
@@ -128,8 +130,8 @@ fn main() {
     };
     let mut random = Random::new(1);
     for base in 0..60 {
-        let mut lent = if base == 0 {
-            lent(&mut random, Draft::benchmark().run, Vec::new())
+        let mut lent = if let Some(&form) = FORMS.get(base) {
+            lent(&mut random, Draft::benchmark().in_form(form).run, Vec::new())
         } else {
             let inputs::Basis { run, history, .. } = inputs::basis(&mut random);
             lent(&mut random, run, history)

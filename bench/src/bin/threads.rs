@@ -2,6 +2,7 @@
 //! answers that one thread got before: there is no state to share.
 use parvusek_bench::bases::{Draft, histories};
 use parvusek_bench::compare::inputs;
+use parvusek_bench::engine::form::FORMS;
 use parvusek_bench::engine::roll::{Joiner, LENGTH};
 use parvusek_bench::ffi::{self, Answer, Lifeline, Question, Refusal, SignedAnswer, SmallSet};
 use parvusek_bench::random::Random;
@@ -47,28 +48,38 @@ fn ask(run: &[u8], history: &[u8], index: usize, question: Question) -> Answers 
     }
 }
 
-fn main() -> ExitCode {
-    let (Draft { run }, history) = (Draft::benchmark_from(2006, 2000), histories::benchmark(6));
-    let mut random = Random::new(1);
-    let questions: Vec<Question> = (0..400).map(|_| inputs::question(&mut random, &run)).collect();
-    let alone: Vec<Answers> =
-        questions.iter().enumerate().map(|(index, asked)| ask(&run, &history, index, *asked)).collect();
+/// The questions that two threads, one of them backwards, got another answer to than one thread.
+fn differing(run: &[u8], history: &[u8], questions: &[Question]) -> Vec<Option<usize>> {
+    let asked = |index: usize| ask(run, history, index, questions[index]);
+    let alone: Vec<Answers> = (0..questions.len()).map(asked).collect();
     let together = Barrier::new(2);
     let compare = |backwards: bool| {
         together.wait();
         (0..questions.len()).find(|&index| {
             let index = if backwards { questions.len() - 1 - index } else { index };
-            ask(&run, &history, index, questions[index]) != alone[index]
+            asked(index) != alone[index]
         })
     };
-    let found: Vec<Option<usize>> = thread::scope(|scope| {
+    thread::scope(|scope| {
         let threads = [scope.spawn(|| compare(false)), scope.spawn(|| compare(true))];
         threads.into_iter().map(|thread| thread.join().expect("a thread panicked")).collect()
-    });
-    if found.iter().any(Option::is_some) {
-        println!("threads: FAILED: two threads on one run and history got other answers than one thread, at {found:?}");
-        return ExitCode::FAILURE;
+    })
+}
+
+fn main() -> ExitCode {
+    let history = histories::benchmark(6);
+    let mut random = Random::new(1);
+    for form in FORMS {
+        let run = Draft::benchmark_from(2006, 2000).in_form(form).run;
+        let questions: Vec<Question> = (0..400).map(|_| inputs::question(&mut random, &run)).collect();
+        let found = differing(&run, &history, &questions);
+        if found.iter().any(Option::is_some) {
+            println!(
+                "threads: FAILED: two threads on one {form} run and history got other answers than one, at {found:?}"
+            );
+            return ExitCode::FAILURE;
+        }
     }
-    println!("threads: 2 threads on one run and history got the answers of one, {} questions each", questions.len());
+    println!("threads: 2 threads on one run and history of either form got the answers of one, 400 questions each");
     ExitCode::SUCCESS
 }

@@ -1,13 +1,14 @@
 //! One call of each function to both engines, compared in every field and in every byte of the lent output.
+use super::form_report::Seen;
 use super::inputs;
 use super::report::{Difference, FUNCTIONS, Function, Tally};
-use crate::bases::{damaged, files};
+use crate::bases::damaged;
 use crate::engine::basis::Basis;
-use crate::engine::layout::{FILE_LENGTH, RUN_LENGTH};
+use crate::engine::enquiries;
+use crate::engine::form::Form;
 use crate::engine::lifeline::{self, Position};
 use crate::engine::sets::{self, GRID, Record};
 use crate::engine::valuation::Kind;
-use crate::engine::{Refusal as EngineRefusal, enquiries, file, short_form};
 use crate::ffi::{self, Answer, Lifeline, Records, Refusal, SignedAnswer, SmallSet};
 use crate::guard::{Edge, Guarded};
 use crate::random::Random;
@@ -20,8 +21,10 @@ pub struct Calls {
     pub(super) run: Guarded,
     pub(super) history: Guarded,
     part: HistoryPart,
-    file: Guarded,
-    output: Guarded,
+    /// The run of the new form with the same fields as the one of the old form that is lent.
+    pub(super) twin: Guarded,
+    pub(super) file: Guarded,
+    pub(super) output: Guarded,
     records: Guarded,
     pub(super) roll: Guarded,
     pub tally: Tally,
@@ -47,6 +50,7 @@ impl Default for Calls {
             // a year more than the longest has
             history: room(23),
             part: HistoryPart::None,
+            twin: room(2),
             file: room(2),
             output: room(3),
             records: room(2),
@@ -85,18 +89,29 @@ impl Calls {
             }
     }
 
-    fn same<T: PartialEq + Debug>(
+    /// The form of what is lent to this function, if it has one.
+    pub(super) fn form(&self, function: Function) -> Option<Form> {
+        match function {
+            Function::ReadBasis => Form::of_file(self.file.bytes().len()),
+            Function::RollOpen | Function::RollLeave | Function::RollTotal => None,
+            _ => Form::of_run(self.run.bytes().len()),
+        }
+    }
+
+    pub(super) fn same<T: PartialEq + Debug>(
         &mut self,
         function: Function,
-        refusal: u32,
+        refusal: Refusal,
         asked: &dyn Fn() -> String,
         rust: &T,
         proved: &T,
     ) -> Compared {
+        let number = refusal.number;
         self.tally.call();
-        self.tally.outcome(function, refusal);
-        if self.by_history(function, refusal) {
-            self.tally.by_history(function, refusal);
+        self.tally.outcome(function, number, self.form(function));
+        self.tally.forms.note(&Seen { function, run: self.run.bytes(), refusal });
+        if self.by_history(function, number) {
+            self.tally.by_history(function, number);
         }
         Self::compared(function, asked, rust, proved)
     }
@@ -108,74 +123,42 @@ impl Calls {
         rust: &T,
         proved: &T,
     ) -> Compared {
-        if rust == proved {
+        Self::differing(function, asked, [("Rust", rust), ("proved", proved)])
+    }
+
+    /// The same of two who have a name.
+    pub(super) fn differing<T: PartialEq + Debug>(
+        function: Function,
+        asked: &dyn Fn() -> String,
+        answers: [(&'static str, &T); 2],
+    ) -> Compared {
+        let [(_, one), (_, other)] = answers;
+        if one == other {
             return Ok(());
         }
-        let answers = [("Rust", format!("{rust:?}")), ("proved", format!("{proved:?}"))];
+        let answers = answers.map(|(who, answer)| (who, format!("{answer:?}")));
         Err(Difference { function, asked: asked(), answers })
     }
 
     pub fn check_basis(&mut self) -> Compared {
         let proved = ffi::check_basis(self.run.bytes());
         let rust = Refusal::from(enquiries::check_basis(self.run.bytes()));
-        self.same(Function::CheckBasis, rust.number, &|| "the run".into(), &rust, &proved)
+        self.same(Function::CheckBasis, rust, &|| "the run".into(), &rust, &proved)
     }
 
-    /// Reads the run's file, damaged now and then, or the file of a damaged run.
-    pub fn read_basis(&mut self, random: &mut Random) -> Compared {
-        let mut run = self.run.bytes().to_vec();
-        run.resize(RUN_LENGTH, 0);
-        if random.one_in(4) {
-            damaged::damage(random, &mut run);
-            run.resize(RUN_LENGTH, 0);
+    /// Lends copies of the run that is lent, each damaged in a way of its own, and then the run again.
+    pub fn damaged_copies(&mut self, random: &mut Random) -> Compared {
+        let (kind, (run, history)) = (self.kind, self.lent());
+        let (run, history) = (run.to_vec(), history.to_vec());
+        for _ in 0..4 {
+            let mut copy = run.clone();
+            damaged::damage(random, &mut copy);
+            self.lend(random, inputs::Basis { kind: "damaged", run: copy, history: history.clone() });
+            self.check_basis()?;
+            self.write_old_form(random)?;
         }
-        let mut file = files::file_of(&run);
-        if random.one_in(2) {
-            files::damage(random, &mut file);
-        }
-        self.file.lend(&file, edge(random));
-        self.output(random, Function::ReadBasis, RUN_LENGTH, "a file of the run".into(), |calls, out| {
-            (ffi::read_basis(calls.file.bytes(), out.proved), file::read_basis(&file, out.rust))
-        })
-    }
-
-    pub fn write_basis(&mut self, random: &mut Random) -> Compared {
-        self.output(random, Function::WriteBasis, FILE_LENGTH, "the run".into(), |calls, out| {
-            let run = calls.run.bytes();
-            (ffi::write_basis(run, out.proved), file::write_basis(run, out.rust))
-        })
-    }
-
-    pub fn short_form(&mut self, random: &mut Random) -> Compared {
-        let rate = inputs::long_term_rate(random);
-        self.output(random, Function::ShortForm, RUN_LENGTH, format!("long-term rate {rate}"), |calls, out| {
-            let run = calls.run.bytes();
-            (ffi::short_form(run, rate, out.proved), short_form::short_form(run, rate, out.rust))
-        })
-    }
-
-    /// A call with a lent output: prefilled alike for both, it must end alike, and unchanged after a refusal.
-    fn output(
-        &mut self,
-        random: &mut Random,
-        function: Function,
-        needed: usize,
-        asked: String,
-        call: impl FnOnce(&Self, Outputs) -> (Refusal, Result<(), EngineRefusal>),
-    ) -> Compared {
-        let mut output = std::mem::replace(&mut self.output, Guarded::new(0));
-        let length = inputs::output_length(random, needed);
-        let lent = output.place(length, edge(random));
-        inputs::fill(random, lent);
-        let before = lent.to_vec();
-        let mut rust_output = before.clone();
-        let (proved, rust) = call(self, Outputs { proved: lent, rust: &mut rust_output });
-        let rust = Refusal::from(rust);
-        let asked = move || format!("{asked}, output of {length} bytes");
-        let kept = proved.number == 0 || output.bytes() == before;
-        let alike = output.bytes() == rust_output;
-        self.output = output;
-        self.same(function, rust.number, &asked, &(rust, true, true), &(proved, kept, alike))
+        self.lend(random, inputs::Basis { kind, run, history });
+        Ok(())
     }
 
     pub fn improvement(&mut self, random: &mut Random) -> Compared {
@@ -184,7 +167,7 @@ impl Calls {
         let proved = ffi::improvement(run, history, age, year);
         let rust = SignedAnswer::from(enquiries::improvement(run, history, age, year));
         let asked = || format!("age {age} year {year}");
-        self.same(Function::Improvement, rust.refusal.number, &asked, &rust, &proved)
+        self.same(Function::Improvement, rust.refusal, &asked, &rust, &proved)
     }
 
     pub fn factor_or_rate(&mut self, random: &mut Random) -> Compared {
@@ -196,7 +179,7 @@ impl Calls {
             (Function::Rate, ffi::rate(run, history, age, year), enquiries::rate(run, history, age, year))
         };
         let rust = Answer::from(rust);
-        self.same(function, rust.refusal.number, &|| format!("age {age} year {year}"), &rust, &proved)
+        self.same(function, rust.refusal, &|| format!("age {age} year {year}"), &rust, &proved)
     }
 
     /// Survivorship, expectation or annuity, period or cohort.
@@ -210,7 +193,7 @@ impl Calls {
         let proved = ffi::enquiry(which, run, history, question);
         let rust = Answer::from(ask(run, history, kind, age, deferment, year));
         let function = FUNCTIONS[Function::PeriodSurvivorship as usize + which];
-        self.same(function, rust.refusal.number, &|| format!("{question:?}"), &rust, &proved)
+        self.same(function, rust.refusal, &|| format!("{question:?}"), &rust, &proved)
     }
 
     pub fn small_set(&mut self, random: &mut Random) -> Compared {
@@ -219,11 +202,12 @@ impl Calls {
         let proved = ffi::small_set(run, history, questions);
         let rust = SmallSet::from(sets::small_set(run, history, &questions.points.map(sets::Question::from)));
         if rust.refusal.number == 0 {
+            let form = self.form(Function::SmallSet);
             for point in &rust.points {
-                self.tally.outcome(Function::SmallSet, point.refusal.number);
+                self.tally.outcome(Function::SmallSet, point.refusal.number, form);
             }
         }
-        self.same(Function::SmallSet, rust.refusal.number, &|| format!("{questions:?}"), &rust, &proved)
+        self.same(Function::SmallSet, rust.refusal, &|| format!("{questions:?}"), &rust, &proved)
     }
 
     /// The grid, with the same promise about its records as an output has about its bytes.
@@ -246,10 +230,11 @@ impl Calls {
             self.tally.direct_grid();
         }
         if rust.number == 0 {
-            self.tally.filled_grid(&rust_records[..GRID]);
+            let form = self.form(Function::Grid);
+            self.tally.filled_grid(&rust_records[..GRID], form);
         }
         let asked = || format!("{count} records; place, before, Rust, proved of the first that differs: {found:?}");
-        self.same(Function::Grid, rust.number, &asked, &(rust, true, true), &(proved, kept, found.is_none()))
+        self.same(Function::Grid, rust, &asked, &(rust, true, true), &(proved, kept, found.is_none()))
     }
 
     pub fn lifeline_start(&mut self, random: &mut Random) -> Compared {
@@ -257,7 +242,7 @@ impl Calls {
         let (age, year) = (inputs::age(random), inputs::year(random, run));
         let proved = ffi::lifeline_start(run, history, age, year);
         let rust = Lifeline::of_start(lifeline::start(run, history, age, year));
-        self.same(Function::LifelineStart, rust.refusal.number, &|| format!("age {age} year {year}"), &rust, &proved)
+        self.same(Function::LifelineStart, rust.refusal, &|| format!("age {age} year {year}"), &rust, &proved)
     }
 
     pub fn lifeline_step(&mut self, random: &mut Random) -> Compared {
@@ -270,7 +255,7 @@ impl Calls {
         let position = Position { age, year, survivors: inputs::survivors(random) };
         let proved = ffi::lifeline_step(run, history, age, year, position.survivors);
         let rust = Lifeline::of_step(position, lifeline::step(run, history, position));
-        self.same(Function::LifelineStep, rust.refusal.number, &|| format!("{position:?}"), &rust, &proved)
+        self.same(Function::LifelineStep, rust.refusal, &|| format!("{position:?}"), &rust, &proved)
     }
 }
 
@@ -285,11 +270,6 @@ fn same_directly(run: &[u8], history: &[u8], before: &[Record; GRID], filled: &[
         }),
         None => Ok(()),
     }
-}
-
-struct Outputs<'lent> {
-    proved: &'lent mut [u8],
-    rust: &'lent mut [u8],
 }
 
 pub fn edge(random: &mut Random) -> Edge {

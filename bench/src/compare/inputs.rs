@@ -1,5 +1,5 @@
 //! What is asked: numbers that are mostly in their limits, often at them, and sometimes any 32 bits.
-use crate::bases::{Draft, damaged, histories, valid};
+use crate::bases::{Draft, damaged, forms, histories, valid};
 use crate::engine::layout::*;
 use crate::engine::sets::{Record, Results};
 use crate::engine::units::UNIT;
@@ -48,7 +48,7 @@ fn any_accepted(random: &mut Random) -> Basis {
     accepted(random, kind)
 }
 
-/// The draft of a kind, with a history of the years that it needs and mostly of its own kind.
+/// The draft of a kind in either form, with a history of the years that it needs and mostly of its own kind.
 fn accepted(random: &mut Random, kind: &'static str) -> Basis {
     let draft = match kind {
         "modest" if random.one_in(16) => Draft::benchmark(),
@@ -60,6 +60,7 @@ fn accepted(random: &mut Random, kind: &'static str) -> Basis {
         _ if random.one_in(3) => valid::edge(random),
         _ => valid::brink(random),
     };
+    let draft = forms::in_either_form(random, draft);
     let mut improvements = match kind {
         "modest" | "uneven" => histories::modest,
         "anywhere" => histories::anywhere,
@@ -152,12 +153,17 @@ pub fn long_term_rate(random: &mut Random) -> i32 {
     }
 }
 
+/// The lengths of a run and a file of either form, and those next to them.
+pub const LENGTHS: [usize; 12] = [4553, 4554, 4555, 4607, 4608, 4609, 5059, 5060, 5061, 5119, 5120, 5121];
+
 /// The length of a lent output that should have `needed` bytes.
 pub fn output_length(random: &mut Random, needed: usize) -> usize {
     match random.below(8) {
         0 => random.below(needed as u64) as usize,
-        1 => random.pick(&[0, 1, needed - 1]),
-        2..=5 => needed,
+        1 => random.pick(&[0, 1, needed - 1, needed - 1]),
+        2 => random.pick(&LENGTHS),
+        3..=5 => needed,
+        6 => needed + 1,
         _ => needed + random.below(4000) as usize,
     }
 }

@@ -1,6 +1,6 @@
 //! What is lent at its oddest: nothing, at a pointer that cannot be read, and the proof that guards are noticed.
 use crate::bases::Draft;
-use crate::engine::layout::RUN_LENGTH;
+use crate::engine::form::Form;
 use crate::engine::roll;
 use crate::engine::sets::{GRID, Record};
 use crate::ffi::raw::*;
@@ -11,7 +11,7 @@ use std::ptr;
 /// Reads beyond a lent buffer; the caller wants to see this end the program.
 pub fn trespass(front: bool) {
     let mut lent = Guarded::new(2);
-    lent.place(RUN_LENGTH, if front { Edge::Front } else { Edge::Back });
+    lent.place(Form::Mpb2.run_length(), if front { Edge::Front } else { Edge::Back });
     lent.trespass(if front { Edge::Front } else { Edge::Back });
 }
 
@@ -26,7 +26,7 @@ pub fn empty_lendings() -> Result<(), String> {
         }
         let refusals = refusals_of_nothing(pointer);
         let wanted = |number, first| Refusal { number, first, second: 0 };
-        let outputs = [4554, 4608, 4554, 119, 16_016, 16_016, 16_016, 16_016];
+        let outputs = [4554, 4608, 4608, 4554, 119, 16_016, 16_016, 16_016, 16_016];
         let mut expected = outputs.map(|needed| wanted(11, needed)).to_vec();
         expected.resize(refusals.len(), wanted(1, 0));
         if refusals != expected {
@@ -71,6 +71,7 @@ fn refusals_of_nothing(nothing: *mut u8) -> Vec<Refusal> {
         let mut refusals = vec![
             parvusek_read_basis(nothing, 0, nothing, 0),
             parvusek_write_basis(nothing, 0, nothing, 0),
+            parvusek_write_old_form(nothing, 0, nothing, 0),
             parvusek_short_form(nothing, 0, 0, nothing, 0),
             parvusek_grid(nothing, 0, nothing, 0, nothing.cast(), 0),
             parvusek_roll_open(2010, nothing.cast(), 0),

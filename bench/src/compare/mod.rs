@@ -1,7 +1,11 @@
 //! The Rust engine against the archive on random inputs, every lent buffer between guard pages.
 pub mod calls;
+pub mod form_report;
+pub mod forms;
 pub mod inputs;
+pub mod lengths;
 pub mod lent;
+pub mod outputs;
 pub mod report;
 pub mod roll_report;
 pub mod rolls;

@@ -1,5 +1,7 @@
 //! What was compared, and the first difference.
+use super::form_report::Forms;
 use super::roll_report::Rolls;
+use crate::engine::form::{FORMS, Form};
 use crate::engine::sets::Record;
 use std::fmt;
 
@@ -9,6 +11,7 @@ pub enum Function {
     CheckBasis,
     ReadBasis,
     WriteBasis,
+    WriteOldForm,
     ShortForm,
     Improvement,
     Factor,
@@ -29,10 +32,11 @@ pub enum Function {
     RollTotal,
 }
 
-pub const FUNCTIONS: [Function; 21] = [
+pub const FUNCTIONS: [Function; 22] = [
     Function::CheckBasis,
     Function::ReadBasis,
     Function::WriteBasis,
+    Function::WriteOldForm,
     Function::ShortForm,
     Function::Improvement,
     Function::Factor,
@@ -57,12 +61,19 @@ impl Function {
     /// All but those that ask about the data run alone, or about a roll alone.
     pub fn lends_history(self) -> bool {
         use Function::*;
-        !matches!(self, CheckBasis | ReadBasis | WriteBasis | ShortForm | RollOpen | RollLeave | RollTotal)
+        !matches!(self, CheckBasis | ReadBasis | WriteBasis | WriteOldForm | ShortForm) && self.has_form()
+    }
+
+    /// All but those that ask about a roll alone are lent a run or a file, which may be of either form.
+    fn has_form(self) -> bool {
+        !matches!(self, Function::RollOpen | Function::RollLeave | Function::RollTotal)
     }
 }
 
-/// 0 for an answer, and the refusals 1 to 16; 12 belongs to lines of text, and no call of the archive gives it.
-const OUTCOMES: usize = 17;
+/// 0 for an answer, and the refusals 1 to 17; 12 belongs to lines of text, and no call of the archive gives it.
+const OUTCOMES: usize = 18;
+
+const EVERY_OUTCOME: [usize; OUTCOMES] = [0, 1, 2, 3, 4, 5, 6, 7, 8, 9, 10, 11, 12, 13, 14, 15, 16, 17];
 
 /// What a history leads to: an answer by means of it, and its own refusals in their order.
 const HISTORY_OUTCOMES: [usize; 6] = [0, 13, 2, 3, 4, 5];
@@ -76,8 +87,11 @@ pub struct Tally {
     outcomes: Counts,
     /// Of these, the answers on a run whose history is needed, and what the history itself refused.
     by_history: Counts,
+    /// Of all outcomes, those on a run or a file of each form.
+    by_form: [Counts; FORMS.len()],
     grids: Grids,
     pub rolls: Rolls,
+    pub forms: Forms,
 }
 
 /// Grids as a whole.
@@ -114,8 +128,12 @@ impl Tally {
         self.calls += 1;
     }
 
-    pub fn outcome(&mut self, function: Function, refusal: u32) {
-        self.outcomes[function as usize][(refusal as usize).min(OUTCOMES - 1)] += 1;
+    pub fn outcome(&mut self, function: Function, refusal: u32, form: Option<Form>) {
+        let place = (refusal as usize).min(OUTCOMES - 1);
+        self.outcomes[function as usize][place] += 1;
+        if let Some(form) = form {
+            self.by_form[form as usize][function as usize][place] += 1;
+        }
     }
 
     pub fn by_history(&mut self, function: Function, refusal: u32) {
@@ -128,13 +146,19 @@ impl Tally {
         self.grids.direct += 1;
     }
 
+    /// So many answers of the archive that are the same on both forms of a basis.
+    pub fn alike(&mut self, answers: u64) {
+        self.calls += answers;
+        self.forms.alike(answers);
+    }
+
     /// The records of a grid on an accepted basis, as they were filled.
-    pub fn filled_grid(&mut self, records: &[Record]) {
+    pub fn filled_grid(&mut self, records: &[Record], form: Option<Form>) {
         self.grids.filled += 1;
         for (count, (_, is_met)) in self.grids.mixed.iter_mut().zip(MIXTURES) {
             *count += u64::from(is_met(records));
         }
-        records.iter().for_each(|record| self.outcome(Function::Grid, record.refusal));
+        records.iter().for_each(|record| self.outcome(Function::Grid, record.refusal, form));
     }
 
     pub fn calls(&self) -> u64 {
@@ -143,11 +167,14 @@ impl Tally {
 
     pub fn add(&mut self, other: &Tally) {
         self.calls += other.calls;
-        for (counts, more) in [(&mut self.outcomes, &other.outcomes), (&mut self.by_history, &other.by_history)] {
+        let counts = [&mut self.outcomes, &mut self.by_history].into_iter().chain(&mut self.by_form);
+        let more = [&other.outcomes, &other.by_history].into_iter().chain(&other.by_form);
+        for (counts, more) in counts.zip(more) {
             counts.as_flattened_mut().iter_mut().zip(more.as_flattened()).for_each(|(sum, count)| *sum += count);
         }
         self.grids.add(&other.grids);
         self.rolls.add(&other.rolls);
+        self.forms.add(&other.forms);
     }
 
     /// Answers and refusals that can be given and that were never met.
@@ -158,6 +185,10 @@ impl Tally {
                 if self.outcomes[function as usize][refusal] == 0 {
                     missing.push(format!("{function:?} {refusal}"));
                 }
+                let never = |form: &Form| self.by_form[*form as usize][function as usize][refusal] == 0;
+                for form in FORMS.iter().filter(|&form| in_form(function, refusal, *form) && never(form)) {
+                    missing.push(format!("{function:?} {refusal} of {form}"));
+                }
             }
             for refusal in HISTORY_OUTCOMES {
                 if function.lends_history() && self.by_history[function as usize][refusal] == 0 {
@@ -167,6 +198,7 @@ impl Tally {
         }
         missing.extend(self.grids.missing());
         missing.extend(self.rolls.missing());
+        missing.extend(self.forms.missing());
         missing
     }
 }
@@ -203,6 +235,7 @@ fn possible(function: Function) -> &'static [usize] {
         CheckBasis => &[0, 1, 4, 5],
         ReadBasis => &[0, 1, 2, 3, 4, 5, 11],
         WriteBasis | ShortForm => &[0, 1, 4, 5, 11],
+        WriteOldForm => &[0, 1, 4, 5, 11, 17],
         Improvement => &[0, 1, 4, 5, 6, 7, 9],
         Factor | Rate => &[0, 1, 4, 5, 6, 7, 9, 10],
         SmallSet => &[0, 1, 4, 5, 6, 7, 8, 9, 10],
@@ -216,12 +249,20 @@ fn possible(function: Function) -> &'static [usize] {
     }
 }
 
+/// Whether a run or a file of this form can lead to this outcome: 1 is for those of none, and 17 for the new form.
+fn in_form(function: Function, refusal: usize, form: Form) -> bool {
+    function.has_form() && refusal != 1 && (refusal != 17 || form == Form::Mpb2)
+}
+
 impl fmt::Display for Tally {
     fn fmt(&self, f: &mut fmt::Formatter) -> fmt::Result {
-        table(f, "", &FUNCTIONS, &std::array::from_fn::<usize, OUTCOMES, _>(|refusal| refusal), &self.outcomes)?;
+        table(f, "", &FUNCTIONS, &EVERY_OUTCOME, &self.outcomes)?;
         let lending: Vec<Function> = FUNCTIONS.into_iter().filter(|function| function.lends_history()).collect();
         table(f, "by the history", &lending, &HISTORY_OUTCOMES, &self.by_history)?;
-        write!(f, "{}{}", self.grids, self.rolls)
+        let formed: Vec<Function> = FUNCTIONS.into_iter().filter(|function| function.has_form()).collect();
+        let new = Form::Mpb2;
+        table(f, &format!("of {new}"), &formed, &EVERY_OUTCOME, &self.by_form[new as usize])?;
+        write!(f, "{}{}{}", self.grids, self.rolls, self.forms)
     }
 }
 

@@ -49,6 +49,14 @@ impl Calls {
         self.mixed(random, &mut walk, if kind == 0 { 8 } else { 30 })
     }
 
+    /// A roll that is opened, and one who would join it on the basis that is lent.
+    pub fn one_join(&mut self, random: &mut Random) -> Compared {
+        let mut walk = self.walk(random, 8, LENGTH);
+        self.open_roll(random, &mut walk)?;
+        let joiner = walk.joiner(random);
+        self.call(&mut walk, Call::Join(joiner))
+    }
+
     /// A roll that fills up, by high ages whose annuities are soon worked out, and stays about full.
     pub fn full_roll(&mut self, random: &mut Random) -> Compared {
         let mut walk = self.walk(random, MEMBERS + 60, LENGTH);
@@ -169,7 +177,7 @@ impl Calls {
                 self.tally.rolls.note(Event::Pension);
             }
             _ => {
-                self.tally.outcome(function, number);
+                self.tally.outcome(function, number, self.form(function));
                 if !matches!(number, 14 | 16) && self.by_history(function, number) {
                     self.tally.by_history(function, number);
                 }

@@ -3,7 +3,7 @@ use super::calls::Calls;
 use super::inputs;
 use super::report::{Difference, Tally};
 use crate::engine::basis::Basis;
-use crate::engine::layout::RUN_LENGTH;
+use crate::engine::form::Form;
 use crate::random::Random;
 
 /// A difference, with what is needed to see it again.
@@ -32,11 +32,13 @@ pub fn compare_base(calls: &mut Calls, seed: u64, base: u64) -> Result<(), Box<F
     let mut random = Random::case(seed, base);
     let basis = inputs::basis(&mut random);
     calls.lend(&mut random, basis);
-    ask(calls, &mut random).map_err(|difference| {
-        // a roll goes on from one basis to another: the one that was lent when they differed
-        let (run, history) = calls.lent();
-        Box::new(Found { base, kind: calls.kind, run: run.to_vec(), history: history.to_vec(), difference })
-    })
+    ask(calls, &mut random).map_err(|difference| found(calls, base, difference))
+}
+
+/// A roll goes on from one basis to another: the one that was lent when they differed.
+pub(super) fn found(calls: &Calls, base: u64, difference: Difference) -> Box<Found> {
+    let (run, history) = calls.lent();
+    Box::new(Found { base, kind: calls.kind, run: run.to_vec(), history: history.to_vec(), difference })
 }
 
 fn ask(calls: &mut Calls, random: &mut Random) -> Result<(), Difference> {
@@ -44,12 +46,13 @@ fn ask(calls: &mut Calls, random: &mut Random) -> Result<(), Difference> {
     let (run, history) = calls.lent();
     // the sets cost the most, unless the basis is refused
     let refused = Basis::accept(run, history).is_err();
-    let rounds = if run.len() == RUN_LENGTH { 10 } else { 2 };
+    let rounds = if Form::of_run(run.len()).is_some() { 10 } else { 2 };
     for round in 0..rounds {
         calls.lifeline_start(random)?;
         if round % 4 == 0 {
             calls.read_basis(random)?;
             calls.write_basis(random)?;
+            calls.write_old_form(random)?;
             calls.short_form(random)?;
         }
         for _ in 0..3 {
@@ -58,6 +61,10 @@ fn ask(calls: &mut Calls, random: &mut Random) -> Result<(), Difference> {
             calls.enquiry(random)?;
             calls.lifeline_step(random)?;
         }
+    }
+    if !refused {
+        calls.damaged_copies(random)?;
+        calls.both_forms(random)?;
     }
     if refused || random.one_in(8) {
         calls.small_set(random)?;

@@ -1,7 +1,8 @@
 //! The enquiries: the run and the history are checked, then the question by 6, 8, 7, then the work is done.
-use super::basis::{Basis, accept_run};
+use super::basis::Basis;
 use super::layout::{FIRST_AGE, LAST_AGE, LAST_YEAR};
 use super::refusal::Refusal;
+use super::run::Run;
 use super::valuation::Kind;
 
 fn check_age(age: u32) -> Result<(), Refusal> {
@@ -22,7 +23,7 @@ pub fn check_question(basis: &Basis, age: u32, deferment: u32, year: u32) -> Res
 }
 
 pub fn check_basis(run: &[u8]) -> Result<(), Refusal> {
-    accept_run(run).map(|_| ())
+    Run::accept(run).map(|_| ())
 }
 
 pub fn improvement(run: &[u8], history: &[u8], age: u32, year: u32) -> Result<i64, Refusal> {

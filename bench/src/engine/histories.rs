@@ -123,9 +123,9 @@ fn values_use_the_history() {
 fn the_run_alone_does_not_ask_for_a_history() {
     let run = older().run;
     assert_eq!(check_basis(&run), Ok(()));
-    let mut file = [0; FILE_LENGTH];
+    let mut file = [0; 4608];
     assert_eq!(super::file::write_basis(&run, &mut file), Ok(()));
-    let mut back = [0; RUN_LENGTH];
+    let mut back = [0; 4554];
     assert_eq!(super::file::read_basis(&file, &mut back), Ok(()));
     assert_eq!(super::short_form::short_form(&run, 0, &mut back), Ok(()));
 }

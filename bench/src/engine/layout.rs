@@ -1,4 +1,5 @@
-//! Where the fields of a data run and of a history stand, and their limits.
+//! What all data runs and histories have in common: ages and years, blocks, the fields before the tables, and limits.
+//! Where the tables of a run stand depends on its form.
 use std::ops::RangeInclusive;
 
 pub const FIRST_AGE: u32 = 20;
@@ -13,31 +14,20 @@ pub const FIRST_BIRTH_YEAR: u32 = 1842;
 pub const LAST_BIRTH_YEAR: u32 = 2110;
 pub const BIRTH_YEARS: usize = 269;
 
-pub const BLOCKS: usize = 9;
 pub const BLOCK_LENGTH: usize = 512;
 pub const BLOCK_DATA: usize = 506;
-pub const FILE_LENGTH: usize = BLOCKS * BLOCK_LENGTH;
-pub const RUN_LENGTH: usize = BLOCKS * BLOCK_DATA;
 
 /// A year of a history file is two blocks, and each has the improvements of so many ages, in their order.
 pub const HISTORY_PARTS: [usize; 2] = [66, 65];
 pub const HISTORY_YEAR: usize = HISTORY_PARTS.len() * BLOCK_LENGTH;
 
-pub const MARK: [u8; 4] = *b"MPB1";
+/// The fields before the tables, which stand alike in every data run.
 pub const FOUNDATION_YEAR: usize = 4;
 pub const BASE_YEAR: usize = 6;
 pub const CONSTANT_ADDITION: usize = 8;
 pub const DISCOUNT_RATE: usize = 12;
 pub const ZERO_BYTES: usize = 16;
-pub const BASE_RATES: usize = 30;
-pub const AGE_INITIAL: usize = 554;
-pub const AGE_LONG_TERM: usize = 1078;
-pub const AGE_PERIODS: usize = 1602;
-pub const AGE_PROPORTIONS: usize = 1733;
-pub const BIRTH_INITIAL: usize = 1864;
-pub const BIRTH_LONG_TERM: usize = 2940;
-pub const BIRTH_PERIODS: usize = 4016;
-pub const BIRTH_PROPORTIONS: usize = 4285;
+pub const FIRST_TABLE: usize = 30;
 
 pub const ADDITIONS: RangeInclusive<i32> = -100_000_000..=100_000_000;
 pub const DISCOUNT_RATES: RangeInclusive<i32> = -10_000_000..=200_000_000;
@@ -45,7 +35,9 @@ pub const MORTALITY_RATES: RangeInclusive<i32> = 0..=1_000_000_000;
 pub const IMPROVEMENT_RATES: RangeInclusive<i32> = -200_000_000..=200_000_000;
 pub const ACTUAL_IMPROVEMENTS: RangeInclusive<i32> = -500_000_000..=500_000_000;
 pub const PERIODS: RangeInclusive<u8> = 1..=50;
-pub const PROPORTIONS: RangeInclusive<u8> = 0..=150;
+/// In hundredths of a per cent, and how many of them a per cent has.
+pub const PROPORTIONS: RangeInclusive<u16> = 0..=15_000;
+pub const HUNDREDTHS: u16 = 100;
 
 /// Every improvement that an answer needs lies in this.
 pub const IMPROVEMENTS: RangeInclusive<i64> = -500_000_000..=500_000_000;
@@ -66,17 +58,7 @@ mod tests {
     use super::*;
 
     #[test]
-    fn the_tables_follow_each_other() {
-        assert_eq!((FILE_LENGTH, RUN_LENGTH), (4608, 4554));
-        assert_eq!(BASE_RATES + 4 * AGES, AGE_INITIAL);
-        assert_eq!(AGE_INITIAL + 4 * AGES, AGE_LONG_TERM);
-        assert_eq!(AGE_LONG_TERM + 4 * AGES, AGE_PERIODS);
-        assert_eq!(AGE_PERIODS + AGES, AGE_PROPORTIONS);
-        assert_eq!(AGE_PROPORTIONS + AGES, BIRTH_INITIAL);
-        assert_eq!(BIRTH_INITIAL + 4 * BIRTH_YEARS, BIRTH_LONG_TERM);
-        assert_eq!(BIRTH_LONG_TERM + 4 * BIRTH_YEARS, BIRTH_PERIODS);
-        assert_eq!(BIRTH_PERIODS + BIRTH_YEARS, BIRTH_PROPORTIONS);
-        assert_eq!(BIRTH_PROPORTIONS + BIRTH_YEARS, RUN_LENGTH);
+    fn every_age_and_birth_year_has_an_entry() {
         assert_eq!((LAST_AGE - FIRST_AGE + 1) as usize, AGES);
         assert_eq!((LAST_BIRTH_YEAR - FIRST_BIRTH_YEAR + 1) as usize, BIRTH_YEARS);
     }

@@ -2,7 +2,7 @@
 //! history each time.
 use super::basis::Basis;
 use super::enquiries::check_question;
-use super::layout::{FIRST_AGE, LAST_AGE, LAST_BIRTH_YEAR, RUN_LENGTH};
+use super::layout::{FIRST_AGE, LAST_AGE, LAST_BIRTH_YEAR};
 use super::refusal::Refusal;
 use super::units::UNIT;
 
@@ -37,7 +37,8 @@ pub fn step(run: &[u8], history: &[u8], position: Position) -> Result<Step, Refu
         return Err(Refusal::year(year));
     }
     if survivors > UNIT {
-        return Err(Refusal::field(RUN_LENGTH));
+        // the place behind the run's own fields
+        return Err(Refusal::field(run.len()));
     }
     if age == LAST_AGE {
         return Ok(Step::Ended);

@@ -4,21 +4,26 @@
 pub mod basis;
 pub mod enquiries;
 pub mod file;
+pub mod form;
 pub mod history;
 pub mod layout;
 pub mod lifeline;
 pub mod projection;
 pub mod refusal;
 pub mod roll;
+pub mod run;
 pub mod sets;
 pub mod short_form;
 pub mod sweep;
 pub mod table;
+pub mod terms;
 pub mod units;
 pub mod valuation;
 
 #[cfg(test)]
 mod figures;
+#[cfg(test)]
+mod forms;
 #[cfg(test)]
 mod histories;
 #[cfg(test)]
@@ -29,5 +34,7 @@ mod rolls;
 mod rounding;
 #[cfg(test)]
 mod sweeps;
+#[cfg(test)]
+mod two_forms;
 
 pub use refusal::Refusal;

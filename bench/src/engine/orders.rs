@@ -1,4 +1,4 @@
-//! The order of refusals, and that a refused call changes nothing.
+//! The order of refusals, and that a refused call changes nothing; the runs are of the old form.
 use super::enquiries::*;
 use super::file::{read_basis, write_basis};
 use super::layout::*;
@@ -19,7 +19,7 @@ fn checks_of_a_run() {
     assert_eq!(check_basis(&run), Ok(()));
     assert_eq!(check_basis(&run[..4553]), Err(Refusal::length()));
     run[4553] = 151;
-    run[BASE_RATES + 4..][..4].copy_from_slice(&(UNIT as i32 + 1).to_le_bytes());
+    run[FIRST_TABLE + 4..][..4].copy_from_slice(&(UNIT as i32 + 1).to_le_bytes());
     assert_eq!(check_basis(&run), Err(Refusal::field(34)));
     run[29] = 1;
     assert_eq!(check_basis(&run), Err(Refusal::mark(29)));
@@ -65,14 +65,14 @@ fn questions() {
 #[test]
 fn files_are_read_and_written() {
     let run = Draft::benchmark().run;
-    let mut file = [7; FILE_LENGTH + 1];
+    let mut file = [7; 4609];
     assert_eq!(write_basis(&run, &mut file), Ok(()));
-    assert_eq!(file[..FILE_LENGTH], files::file_of(&run));
-    assert_eq!(file[FILE_LENGTH], 7);
-    let mut back = [7; RUN_LENGTH + 1];
-    assert_eq!(read_basis(&file[..FILE_LENGTH], &mut back), Ok(()));
-    assert_eq!(back[..RUN_LENGTH], run);
-    assert_eq!(back[RUN_LENGTH], 7);
+    assert_eq!(file[..4608], files::file_of(&run));
+    assert_eq!(file[4608], 7);
+    let mut back = [7; 4555];
+    assert_eq!(read_basis(&file[..4608], &mut back), Ok(()));
+    assert_eq!(back[..4554], run);
+    assert_eq!(back[4554], 7);
     assert_eq!(read_basis(&file, &mut back[..4553]), Err(Refusal::output(4554)));
     assert_eq!(read_basis(&file, &mut back), Err(Refusal::length()));
     assert_eq!(write_basis(&run[1..], &mut file[..4607]), Err(Refusal::output(4608)));
@@ -82,29 +82,29 @@ fn files_are_read_and_written() {
 fn blocks_ascend() {
     let good = files::file_of(&Draft::benchmark().run);
     let mut file = good.clone();
-    let mut out = [9; RUN_LENGTH];
+    let mut out = [9; 4554];
     file[BLOCK_LENGTH + 100] ^= 1;
     file[..BLOCK_LENGTH].copy_from_slice(&good[BLOCK_LENGTH..2 * BLOCK_LENGTH]);
     assert_eq!(read_basis(&file, &mut out), Err(Refusal::block_number(0)));
     file[..BLOCK_LENGTH].copy_from_slice(&good[..BLOCK_LENGTH]);
     assert_eq!(read_basis(&file, &mut out), Err(Refusal::block_check(1)));
-    assert_eq!(out, [9; RUN_LENGTH]);
+    assert_eq!(out, [9; 4554]);
 }
 
 #[test]
 fn the_short_form_checks_its_rate_last() {
     let mut run = Draft::benchmark().run;
-    let mut out = [9; RUN_LENGTH];
+    let mut out = [9; 4554];
     assert_eq!(short_form(&run, 200_000_001, &mut out), Err(Refusal::field(1078)));
     assert_eq!(short_form(&run, 200_000_001, &mut out[1..]), Err(Refusal::output(4554)));
-    run[BIRTH_PERIODS] = 0;
+    run[4016] = 0;
     assert_eq!(short_form(&run, i32::MIN, &mut out), Err(Refusal::field(4016)));
-    assert_eq!(out, [9; RUN_LENGTH]);
-    run[BIRTH_PERIODS] = 1;
+    assert_eq!(out, [9; 4554]);
+    run[4016] = 1;
     assert_eq!(short_form(&run, -200_000_000, &mut out), Ok(()));
     assert_eq!(check_basis(&out), Ok(()));
-    assert_eq!(out[..AGE_LONG_TERM], run[..AGE_LONG_TERM]);
-    assert_eq!(out[BIRTH_INITIAL..BIRTH_LONG_TERM], run[BIRTH_INITIAL..BIRTH_LONG_TERM]);
+    assert_eq!(out[..1078], run[..1078]);
+    assert_eq!(out[1864..2940], run[1864..2940]);
 }
 
 #[test]

@@ -4,7 +4,7 @@ use super::layout::*;
 use super::refusal::Refusal;
 use super::units::{UNIT, product};
 
-/// One component's terms, as they stand in the tables.
+/// One component's terms: rates in units, T in years, P in hundredths of a per cent.
 #[derive(Clone, Copy, Debug)]
 pub struct Component {
     pub initial_rate: i64,
@@ -12,6 +12,9 @@ pub struct Component {
     pub convergence_period: i64,
     pub proportion_remaining: i64,
 }
+
+/// Hundredths of a per cent to one.
+const WHOLE: i64 = 10_000;
 
 /// An exact value: its whole part and, above it, `remainder / divisor` of a unit, which is not below 0 and below 1.
 struct Exact {
@@ -29,7 +32,7 @@ impl Component {
             return self.long_term_rate + other.long_term_rate;
         }
         let (first, second) = (self.after(years, 1), other.after(years, 0));
-        // whether the second fraction fills what the first leaves of a unit; either side stays below 1.6e14
+        // whether the second fraction fills what the first leaves of a unit; either side stays below 1.6e18
         let full = second.remainder * first.divisor >= (first.divisor - first.remainder) * second.divisor;
         first.whole + second.whole + i64::from(full)
     }
@@ -42,11 +45,11 @@ impl Component {
             return Exact { whole: self.long_term_rate, remainder: halves, divisor: 2 };
         }
         let left = period - years;
-        let weight = left * left * (100 * period + (8 * self.proportion_remaining - 200) * years);
-        let divisor = 100 * period * period * period;
+        let weight = left * left * (WHOLE * period + (8 * self.proportion_remaining - 2 * WHOLE) * years);
+        let divisor = WHOLE * period * period * period;
         let dividend = (self.initial_rate - self.long_term_rate) * weight + halves * (divisor / 2);
         // A weight is above -1 and below 2, and the rates differ by 0.4 U at most: raised by U the value is above zero,
-        // where a division takes the floor. The dividend stays below 2.3e16.
+        // where a division takes the floor. The dividend stays below 2.3e18.
         let raised = (dividend + UNIT as i64 * divisor) as u64;
         let (quotient, remainder) = (raised / divisor as u64, raised % divisor as u64);
         Exact { whole: self.long_term_rate + quotient as i64 - UNIT as i64, remainder: remainder as i64, divisor }
@@ -69,29 +72,17 @@ pub(super) fn reduced(base_rate: u64, factor: u64) -> u64 {
 impl Basis<'_> {
     #[inline]
     pub(super) fn base_rate(&self, age: u32) -> u64 {
-        signed(self.run, BASE_RATES + 4 * (age - FIRST_AGE) as usize) as u64
+        i32::from_le_bytes(self.base_rates[(age - FIRST_AGE) as usize]) as u64
     }
 
     #[inline]
     pub fn age_component(&self, age: u32) -> Component {
-        let index = (age - FIRST_AGE) as usize;
-        Component {
-            initial_rate: i64::from(signed(self.run, AGE_INITIAL + 4 * index)),
-            long_term_rate: i64::from(signed(self.run, AGE_LONG_TERM + 4 * index)),
-            convergence_period: i64::from(self.run[AGE_PERIODS + index]),
-            proportion_remaining: i64::from(self.run[AGE_PROPORTIONS + index]),
-        }
+        self.by_age.component((age - FIRST_AGE) as usize)
     }
 
     #[inline]
     pub fn birth_year_component(&self, birth_year: u32) -> Component {
-        let index = (birth_year - FIRST_BIRTH_YEAR) as usize;
-        Component {
-            initial_rate: i64::from(signed(self.run, BIRTH_INITIAL + 4 * index)),
-            long_term_rate: i64::from(signed(self.run, BIRTH_LONG_TERM + 4 * index)),
-            convergence_period: i64::from(self.run[BIRTH_PERIODS + index]),
-            proportion_remaining: i64::from(self.run[BIRTH_PROPORTIONS + index]),
-        }
+        self.by_birth_year.component((birth_year - FIRST_BIRTH_YEAR) as usize)
     }
 
     /// The first year that has an improvement: where there is a history, its first.

@@ -96,4 +96,9 @@ impl Refusal {
     pub const fn on_roll(member: u32) -> Self {
         Self::new(16, member as u64, 0)
     }
+
+    /// 17: a proportion that is no whole per cent, and so has no place in the old form.
+    pub const fn proportion(offset: usize) -> Self {
+        Self::new(17, offset as u64, 0)
+    }
 }

@@ -124,9 +124,12 @@ fn fraction(terms: &Component, years: i64) -> (i128, i128) {
     let [initial_rate, long_term_rate, period, proportion, years] =
         [terms.initial_rate, terms.long_term_rate, terms.convergence_period, terms.proportion_remaining, years]
             .map(i128::from);
-    let divisor = 100 * period.pow(3);
-    let weight =
-        if years < period { (period - years).pow(2) * (100 * period + (8 * proportion - 200) * years) } else { 0 };
+    let divisor = 10_000 * period.pow(3);
+    let weight = if years < period {
+        (period - years).pow(2) * (10_000 * period + (8 * proportion - 20_000) * years)
+    } else {
+        0
+    };
     (long_term_rate * divisor + (initial_rate - long_term_rate) * weight, divisor)
 }
 
@@ -139,7 +142,7 @@ fn any_terms(random: &mut Random) -> Component {
         initial_rate: of_any_size(random, 200_000_000).into(),
         long_term_rate: of_any_size(random, 200_000_000).into(),
         convergence_period: random.between(1, 50),
-        proportion_remaining: random.between(0, 150),
+        proportion_remaining: random.between(0, 15_000),
     }
 }
 
@@ -170,7 +173,7 @@ fn any_terms_are_rounded_as_their_exact_sum_is() {
 fn a_weight_is_above_minus_one_and_below_two() {
     for convergence_period in 1..=50 {
         for (proportion_remaining, years) in
-            (0..=150).flat_map(|proportion| (0..50).map(move |years| (proportion, years)))
+            (0..=15_000).step_by(100).flat_map(|proportion| (0..50).map(move |years| (proportion, years)))
         {
             let terms = Component { initial_rate: 1, long_term_rate: 0, convergence_period, proportion_remaining };
             let (dividend, divisor) = fraction(&terms, years);

@@ -1,11 +1,12 @@
 //! The short form: a run whose long-term rates, periods and proportions come from one long-term rate.
-use super::basis::accept_run;
+use super::file::lent_output;
+use super::form::{Form, Table::*};
 use super::layout::*;
 use super::refusal::Refusal;
+use super::run::Run;
 use super::units::rounded;
 
 const PERIOD: u8 = 20;
-const PROPORTION: u8 = 50;
 
 /// All of the long-term rate to age 90, a thirtieth of it less for each year after, nothing from 120.
 fn long_term_rate_at(age: u32, long_term_rate: i32) -> i32 {
@@ -14,24 +15,33 @@ fn long_term_rate_at(age: u32, long_term_rate: i32) -> i32 {
     rounded(i64::from(long_term_rate) * i64::from(share), 30) as i32
 }
 
+/// Writes the short form of an accepted run, in the run's own form.
 pub fn short_form(run: &[u8], long_term_rate: i32, out: &mut [u8]) -> Result<(), Refusal> {
-    let Some(out) = out.get_mut(..RUN_LENGTH) else {
-        return Err(Refusal::output(RUN_LENGTH));
-    };
-    let run = accept_run(run)?;
+    let out = lent_output(out, Form::of_run(run.len()).unwrap_or(Form::Mpb1).run_length())?;
+    let Run { form, bytes } = Run::accept(run)?;
     if !IMPROVEMENT_RATES.contains(&long_term_rate) {
-        return Err(Refusal::field(AGE_LONG_TERM));
+        return Err(Refusal::field(form.offset(AgeLongTerm)));
     }
-    out.copy_from_slice(run);
-    for (entry, age) in out[AGE_LONG_TERM..AGE_PERIODS].chunks_exact_mut(4).zip(FIRST_AGE..) {
+    out.copy_from_slice(bytes);
+    for (entry, age) in out[form.stretch(AgeLongTerm)].chunks_exact_mut(4).zip(FIRST_AGE..) {
         entry.copy_from_slice(&long_term_rate_at(age, long_term_rate).to_le_bytes());
     }
-    out[AGE_PERIODS..AGE_PROPORTIONS].fill(PERIOD);
-    out[AGE_PROPORTIONS..BIRTH_INITIAL].fill(PROPORTION);
-    out[BIRTH_LONG_TERM..BIRTH_PERIODS].fill(0);
-    out[BIRTH_PERIODS..BIRTH_PROPORTIONS].fill(PERIOD);
-    out[BIRTH_PROPORTIONS..].fill(PROPORTION);
+    out[form.stretch(BirthLongTerm)].fill(0);
+    for table in [AgePeriods, BirthPeriods] {
+        out[form.stretch(table)].fill(PERIOD);
+    }
+    for table in [AgeProportions, BirthProportions] {
+        fill_with_half(form, &mut out[form.stretch(table)]);
+    }
     Ok(())
+}
+
+/// Every P is 50 per cent.
+fn fill_with_half(form: Form, entries: &mut [u8]) {
+    match form {
+        Form::Mpb1 => entries.fill(50),
+        Form::Mpb2 => entries.as_chunks_mut().0.fill(5_000u16.to_le_bytes()),
+    }
 }
 
 #[cfg(test)]

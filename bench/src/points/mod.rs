@@ -84,6 +84,8 @@ impl<'lent> Answering<'lent> {
 mod tests {
     use super::*;
     use crate::bases::Draft;
+    use crate::bases::draft::Component;
+    use crate::engine::form::Form;
     use crate::engine::layout::AGES;
 
     /// F and B 2006, all base rates 100,000,000.
@@ -94,7 +96,10 @@ mod tests {
     }
 
     fn answered<'text>(parts: impl IntoIterator<Item = &'text [u8]>) -> String {
-        let draft = tenth();
+        answered_on(&tenth(), parts)
+    }
+
+    fn answered_on<'text>(draft: &Draft, parts: impl IntoIterator<Item = &'text [u8]>) -> String {
         let mut answering = Answering::new(Basis::accept(&draft.run, &[]).unwrap());
         let mut replies = Vec::new();
         parts.into_iter().for_each(|part| answering.feed(part, &mut replies));
@@ -113,6 +118,18 @@ mod tests {
         for size in 1..text.len() {
             assert_eq!(answered(text.chunks(size)), wanted);
         }
+    }
+
+    /// The replies to a line are those of either form, and a P that is no whole per cent shows in them.
+    #[test]
+    fn a_basis_of_either_form() {
+        let line = b"60 0 2010".as_slice();
+        let mut draft = Draft::benchmark();
+        let old = answered_on(&draft, [line]);
+        draft = draft.in_form(Form::Mpb2);
+        assert_eq!(answered_on(&draft, [line]), old);
+        draft.set_proportion(Component::Age, 40, 5_001);
+        assert_ne!(answered_on(&draft, [line]), old);
     }
 
     #[test]

@@ -13,14 +13,15 @@ pensions in payment (`Roll`), and makes a basis from CSV tables.
 
 from ._library import LibraryNotFound
 from ._version import __version__
-from .basis import (FILE_LENGTH, RUN_LENGTH, Answer, Basis, Kind, Lifeline, Question, Results,
-                    Standing)
+from .basis import (FILE_LENGTH, FILE_LENGTH_2, RUN_LENGTH, RUN_LENGTH_2, Answer, Basis, Kind, Lifeline, Question,
+                    Results, Standing)
 from .history import history_file, improvements_of
 from .refusals import Refusal
 from .roll import Member, Roll
 from .decimals import UNIT, decimal, units
 
 __all__ = [
-    "Answer", "Basis", "FILE_LENGTH", "Kind", "LibraryNotFound", "Lifeline", "Member", "Question", "RUN_LENGTH",
-    "Refusal", "Results", "Roll", "Standing", "UNIT", "decimal", "history_file", "improvements_of", "units",
+    "Answer", "Basis", "FILE_LENGTH", "FILE_LENGTH_2", "Kind", "LibraryNotFound", "Lifeline", "Member", "Question",
+    "RUN_LENGTH", "RUN_LENGTH_2", "Refusal", "Results", "Roll", "Standing", "UNIT", "decimal", "history_file",
+    "improvements_of", "units",
 ]

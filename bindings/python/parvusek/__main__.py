@@ -1,4 +1,4 @@
-"""The command line: parvusek value | roll | basis make | basis show | basis check, or python3 -m parvusek."""
+"""The command line: parvusek value | roll | basis make | show | check | convert, or python3 -m parvusek."""
 
 import io
 import os

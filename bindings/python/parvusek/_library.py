@@ -78,6 +78,7 @@ FUNCTIONS: dict[str, tuple[list[Any], Any]] = {
     "parvusek_check_basis": (_BYTES, CRefusal),
     "parvusek_read_basis": (_BYTES + _BYTES, CRefusal),
     "parvusek_write_basis": (_BYTES + _BYTES, CRefusal),
+    "parvusek_write_old_form": (_BYTES + _BYTES, CRefusal),
     "parvusek_short_form": (_BYTES + [ctypes.c_int32] + _BYTES, CRefusal),
     "parvusek_improvement": (_CELL, CSignedAnswer),
     "parvusek_factor": (_CELL, CAnswer),
@@ -146,8 +147,8 @@ def _opened() -> tuple[str, ctypes.CDLL]:
 def version_text(number: int) -> str:
     """The version that parvusek_version tells as one number.
 
-    >>> version_text(5_00), version_text(1_02_03)
-    ('0.5.0', '1.2.3')
+    >>> version_text(6_00), version_text(1_02_03)
+    ('0.6.0', '1.2.3')
     """
     return f"{number // 10_000}.{number // 100 % 100}.{number % 100}"
 

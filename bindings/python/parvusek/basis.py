@@ -10,13 +10,15 @@ from typing import TYPE_CHECKING, Any, Iterable, NamedTuple, Optional, Sequence,
 from ._library import (GRID_RECORDS, SMALL_SET_POINTS, CPoint, CQuestion, CQuestions, CRefusal,
                        library)
 from .history import YEAR_LENGTH
+from .layout import NEW_FORM, OLD_FORM, form_of_file, form_of_run
 from .refusals import Refusal
 
 if TYPE_CHECKING:
     from .arrays import Values
 
-RUN_LENGTH = 4_554
-FILE_LENGTH = 4_608
+# Bytes of a data run and of a basis file: in the old form, MPB1, and in the new one, MPB2.
+RUN_LENGTH, FILE_LENGTH = OLD_FORM.run_length, OLD_FORM.file_length
+RUN_LENGTH_2, FILE_LENGTH_2 = NEW_FORM.run_length, NEW_FORM.file_length
 
 
 class Kind(enum.Enum):
@@ -63,6 +65,9 @@ class Basis:
     of the years B + 1 to F (see `history_file`). Without it the basis can be read, written and brought
     to the short form, and every enquiry is refused by 13. Any other basis has none.
 
+    It has one of two forms, which its length tells: MPB1, with proportions remaining at mid-point of whole
+    per cents, and MPB2, with hundredths of a per cent. Everything but `to_old_form` is the same in both.
+
     Values are whole units, 1,000,000,000 to one (see `decimal`). An enquiry that is refused raises
     `Refusal`; a number that does not fit the engine's 32 bits raises ValueError.
     """
@@ -70,7 +75,7 @@ class Basis:
     __slots__ = ("_run", "_history")
 
     def __init__(self, run: bytes, history: Optional[bytes] = None) -> None:
-        """The basis of a data run of 4,554 bytes, refused by 1, 4 or 5.
+        """The basis of a data run of 4,554 or 5,060 bytes, refused by 1, 4 or 5.
 
         If a history file's bytes are given, they are checked as well: 13 for their length, then 2 to 5.
         """
@@ -83,9 +88,9 @@ class Basis:
 
     @classmethod
     def from_file(cls, file: bytes, history: Optional[bytes] = None) -> "Basis":
-        """The basis of the 4,608 bytes of a basis file, refused by 1 to 5, and of its history file."""
-        run = ctypes.create_string_buffer(RUN_LENGTH)
-        accepted(library().parvusek_read_basis(bytes(file), len(file), run, RUN_LENGTH))
+        """The basis of the 4,608 or 5,120 bytes of a basis file, refused by 1 to 5, and of its history file."""
+        run = ctypes.create_string_buffer(form_of_file(file).run_length)
+        accepted(library().parvusek_read_basis(bytes(file), len(file), run, len(run)))
         return cls(run.raw, history)
 
     @classmethod
@@ -94,7 +99,7 @@ class Basis:
 
         OSError where one of them cannot be read.
         """
-        basis = cls.from_file(_read(path, FILE_LENGTH))
+        basis = cls.from_file(_read(path, FILE_LENGTH_2))
         return basis if history is None else basis.with_history(_read(history, basis.history_needed))
 
     def with_history(self, history: bytes) -> "Basis":
@@ -102,8 +107,13 @@ class Basis:
         return Basis(self._run, history)
 
     @property
+    def form(self) -> str:
+        """The mark of its form: MPB1 or MPB2."""
+        return form_of_run(self._run).mark
+
+    @property
     def run(self) -> bytes:
-        """The data run of 4,554 bytes."""
+        """The data run of 4,554 or 5,060 bytes, in which a P of MPB1 is per cent, one of MPB2 hundredths of a per cent."""
         return self._run
 
     @property
@@ -117,23 +127,37 @@ class Basis:
         return YEAR_LENGTH * max(0, self.foundation_year - self.base_year)
 
     def to_file(self) -> bytes:
-        """The 4,608 bytes of the basis file; reading them gives this basis again."""
-        file = ctypes.create_string_buffer(FILE_LENGTH)
-        accepted(library().parvusek_write_basis(self._run, RUN_LENGTH, file, FILE_LENGTH))
+        """The 4,608 or 5,120 bytes of the basis file, in its own form; reading them gives this basis again."""
+        file = ctypes.create_string_buffer(form_of_run(self._run).file_length)
+        accepted(library().parvusek_write_basis(self._run, len(self._run), file, len(file)))
         return file.raw
 
     def write(self, path: _Path) -> None:
-        """Writes the basis file to a path; its history is a file of its own."""
+        """Writes the basis file to a path, in its own form; its history is a file of its own."""
         Path(path).write_bytes(self.to_file())
 
-    def short_form(self, long_term_rate: int) -> "Basis":
-        """The basis that has one long-term rate, running off from age 90 to 120, every T 20 and P 50.
+    def to_old_form(self) -> bytes:
+        """The 4,608 bytes of the basis file in the old form, MPB1, for programs that read no other.
 
-        Its history stays.
+        The basis that is read from them answers as this one does. Refused by 17 where a proportion is no
+        whole per cent, with its offset in `run`.
         """
-        run = ctypes.create_string_buffer(RUN_LENGTH)
+        file = ctypes.create_string_buffer(FILE_LENGTH)
+        accepted(library().parvusek_write_old_form(self._run, len(self._run), file, FILE_LENGTH))
+        return file.raw
+
+    def write_old_form(self, path: _Path) -> None:
+        """Writes the basis file to a path in the old form; nothing is written where it is refused."""
+        Path(path).write_bytes(self.to_old_form())
+
+    def short_form(self, long_term_rate: int) -> "Basis":
+        """The basis that has one long-term rate, running off from age 90 to 120, every T 20 and P 50 per cent.
+
+        Its form and its history stay.
+        """
+        run = ctypes.create_string_buffer(len(self._run))
         rate = fits("long_term_rate", long_term_rate, -2**31, 2**31 - 1)
-        accepted(library().parvusek_short_form(self._run, RUN_LENGTH, rate, run, RUN_LENGTH))
+        accepted(library().parvusek_short_form(self._run, len(self._run), rate, run, len(run)))
         return Basis(run.raw, self._history or None)
 
     def __eq__(self, other: object) -> bool:
@@ -143,7 +167,7 @@ class Basis:
         return hash((self._run, self._history))
 
     def __repr__(self) -> str:
-        return f"<Basis F {self.foundation_year}, B {self.base_year}>"
+        return f"<Basis {self.form}, F {self.foundation_year}, B {self.base_year}>"
 
     # ---- its settings
 
@@ -208,7 +232,7 @@ class Basis:
     def _ask(self, call: str, *arguments: Any) -> Any:
         """What a call answers that is lent the run and the history, each with its length."""
         function = getattr(library(), f"parvusek_{call}")
-        return function(self._run, RUN_LENGTH, self._history, len(self._history), *arguments)
+        return function(self._run, len(self._run), self._history, len(self._history), *arguments)
 
     # ---- model points
 

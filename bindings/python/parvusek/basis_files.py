@@ -4,12 +4,12 @@ import hashlib
 import os
 from typing import NamedTuple, Optional
 
-from .basis import FILE_LENGTH, Basis
+from .basis import FILE_LENGTH_2, Basis
 from .errors import CommandError, naming
-from .outputs import Place, drafted, held, on_disk, place_of
+from .explained import explained, explained_history
+from .outputs import Place, drafted, held, on_disk, place_of, put_all
 from .refusals import Refusal
 from .signals import leave_out, put_off
-from .tables import explained, explained_history
 
 # The one name that the points program reads, beside a basis of this name only.
 BASIS_FILE, HISTORY_FILE = "basis.bin", "history.bin"
@@ -81,8 +81,7 @@ def owner_of(history: str) -> Optional[str]:
 def read_basis(path: str, named: Optional[str] = None, without: bool = False) -> ReadBasis:
     """The basis, with the history that is named or that is beside it, or without one."""
     with held(_reading(path), shared=True):  # so that nobody makes both anew between the two readings
-        file = _bytes_of("basis file", path, FILE_LENGTH)
-        basis = _accepted(path, file)
+        file, basis = _read_alone(path)
         where = None if without else named if named is not None else history_beside(path)
         history = None if where is None else _bytes_of("history", where, basis.history_needed)
     try:
@@ -95,6 +94,17 @@ def read_basis(path: str, named: Optional[str] = None, without: bool = False) ->
         found = f"; it has {_length(where, history or b'')} bytes" if refusal.number == 13 else ""
         raise CommandError(f"{where} is refused as the history of {path}: {said}{found}{aside}") from refusal
     return ReadBasis(whole, path, sha256(file), where if history else None, sha256(history) if history else None)
+
+
+def read_alone(path: str) -> ReadBasis:
+    """The basis as it is in its file, without the history that it may need."""
+    file, basis = _read_alone(path)
+    return ReadBasis(basis, path, sha256(file), None, None)
+
+
+def _read_alone(path: str) -> tuple[bytes, Basis]:
+    file = _bytes_of("basis file", path, FILE_LENGTH_2)
+    return file, _accepted(path, file)
 
 
 def _reading(path: str) -> Place:
@@ -117,7 +127,7 @@ def _accepted(path: str, file: bytes) -> Basis:
         return Basis.from_file(file)
     except Refusal as refusal:
         # The data parts joined, as far as they are there: a refused field is looked up in them.
-        run = b"".join(file[block + 2:block + 508] for block in range(0, FILE_LENGTH, 512))
+        run = b"".join(file[block + 2:block + 508] for block in range(0, len(file), 512))
         found = f"; it has {_length(path, file)} bytes" if refusal.number == 1 else ""
         raise CommandError(f"{path} is refused: {explained(refusal, run)}{found}") from refusal
 
@@ -131,6 +141,14 @@ def _lacking(path: str, without: bool) -> str:
 
 
 # ---- writing
+
+def not_there(*places: Optional[Place]) -> None:
+    """Nothing that is there is written over."""
+    there = [place.name for place in places if place is not None and place.is_file and place.found is not None]
+    if there:
+        raise CommandError(f"{' and '.join(there)} {'is' if len(there) == 1 else 'are'} there already; name another, or "
+                           "write over with --force")
+
 
 def not_anothers(basis: Place, history: Optional[Place], told: bool) -> None:
     """Neither file may be the history of another basis; one that is there under another name is replaced if told."""
@@ -170,6 +188,16 @@ def write_basis(basis: Basis, place: Place, history: Optional[Place]) -> None:
             leave_out()
 
 
+def write_new_basis(basis: Basis, place: Place, history: Optional[Place]) -> None:
+    """The same where neither is there: the history first, so that no moment shows the basis without it. A file that has
+    come meanwhile is an error, and stays."""
+    with drafted(history, place) as drafts:
+        for draft, content in zip(drafts, [basis.history] * (history is not None) + [basis.to_file()]):
+            draft.must_be_new = draft.place.is_file
+            draft.write(content)
+        put_all(drafts)
+
+
 def _content(place: Place) -> Optional[bytes]:
     try:
         with open(place.path, "rb") as file:
@@ -185,13 +213,14 @@ def _remove(path: str) -> None:
         pass
 
 
-def places_to_make(out: str, named: Optional[str], basis: Basis) -> tuple[Place, Optional[Place]]:
+def places_to_make(out: str, named: Optional[str], basis: Basis,
+                   remedy: str = "--history names one") -> tuple[Place, Optional[Place]]:
     """Where a basis and its history go; the second is None where it has none."""
     place = place_of(out)
     if not basis.history:
         return place, None
     if named is None and not place.is_file:
-        raise CommandError(f"{out} is not a regular file, so its history has no name; --history names one")
+        raise CommandError(f"{out} is not a regular file, so its history has no name; {remedy}")
     if named is None and place.is_file:
         _unambiguous(out)
     return place, place_of(named if named is not None else history_to_make(out))

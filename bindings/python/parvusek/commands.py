@@ -1,29 +1,31 @@
-"""What each command does: value, and basis make, show and check; roll has a file of its own. Each gives the exit status."""
+"""What each command does, and its exit status: value, and basis make, show, check and convert; roll has a file of its own."""
 
 import argparse
 import contextlib
 import os
 from pathlib import Path
-from typing import NamedTuple, Optional
+from typing import NamedTuple, Optional, Sequence
 
 from . import provenance
 from .basis import Basis
-from .basis_files import (ReadBasis, history_beside, histories_of, not_anothers, places_to_make, read_basis, sha256,
-                          write_basis)
+from .basis_files import (ReadBasis, history_beside, histories_of, not_anothers, not_there, places_to_make, read_alone,
+                          read_basis, sha256, write_basis, write_new_basis)
 from .carried import Counts
 from .csv_source import Source
 from .decimals import decimal
 from .errors import Collected, CommandError
-from .layout import ACTUAL_FILE, FILES
+from .explained import actual_years, explained
+from .layout import ACTUAL_FILE, FILES, OLD_FORM, form_of_run
 from .members import value_members
 from .options import REFUSED_ROWS
 from .outputs import Place, apart, drafted, not_an_input, place_of, put_all
 from .progress import Progress
+from .refusals import Refusal
 from .roll_command import roll
 from .runs import (Hashed, expected, lines_said, number_of, opened, refusals_said, say, source_of, warn, warn_of_last_line,
                    warn_of_rows)
 from .shown_tables import show
-from .tables import Tables, actual_years
+from .tables import Tables
 
 
 # ---- value
@@ -97,32 +99,78 @@ def _tell(options: argparse.Namespace, values: Place, record: Optional[Place], c
     warn_of_rows(counts, options.members)
 
 
-# ---- basis make, show and check
+# ---- basis make, show, check and convert
 
 def make(options: argparse.Namespace) -> int:
-    tables = Tables(Path(options.folder), options.encoding, options.round)
+    tables = Tables(Path(options.folder), options.encoding, options.round, options.form)
     basis = tables.basis()
-    place, history = _places(options, basis)
+    place, history = places_to_make(options.out, options.history, basis)
+    _apart_from(place, history, [(f"table {file}", os.path.join(options.folder, file)) for file in FILES + (ACTUAL_FILE,)])
+    not_anothers(place, history, options.force)
     write_basis(basis, place, history)
     tell = say if place.is_file else warn
     tell(f"{place.spoken}: {_summary(basis)}")
     if history is not None:
         tell(f"{history.name}: {_years(basis)}")
-    if tables.rounded:
-        tell(f"{place.spoken}: rounded to nine decimals: {number_of(tables.rounded, 'rate')}")
-    tell(f"{place.spoken}: SHA-256 {sha256(basis.to_file())}")
-    if history is not None:
-        tell(f"{history.name}: SHA-256 {sha256(basis.history)}")
-    elif place.is_file:
-        _foreign_history(options.out)
+    if tables.rounded[9]:
+        tell(f"{place.spoken}: rounded to nine decimals: {number_of(tables.rounded[9], 'rate')}")
+    if tables.rounded[2]:
+        tell(f"{place.spoken}: rounded to two decimals: {number_of(tables.rounded[2], 'proportion')}")
+    _tell_sums(basis, place, history)
+    _warn_of_proportions(basis)
     for file in tables.without_line_end:
         warn_of_last_line(os.path.join(options.folder, file))
     return 0
 
 
-def _places(options: argparse.Namespace, basis: Basis) -> tuple[Place, Optional[Place]]:
-    place, history = places_to_make(options.out, options.history, basis)
-    inputs = [(f"table {file}", os.path.join(options.folder, file)) for file in FILES + (ACTUAL_FILE,)]
+def convert(options: argparse.Namespace) -> int:
+    read = read_alone(options.basis) if options.no_history else read_basis(options.basis, options.history)
+    basis = _in_old_form(read)
+    place, history = places_to_make(options.out, None, basis, "--no-history converts the basis file alone")
+    _apart_from(place, history, [("basis file", read.path), ("history", read.history_path)])
+    not_anothers(place, history, options.force)
+    if options.force:
+        write_basis(basis, place, history)
+    else:
+        not_there(place, history)
+        write_new_basis(basis, place, history)
+    tell = say if place.is_file else warn
+    tell(f"{place.spoken}: made from {read.path}, which is {read.basis.form}; {_summary(basis)}")
+    tell(f"{read.path}: SHA-256 {read.sha256}")
+    _tell_sums(basis, place, history)
+    return 0
+
+
+def _in_old_form(read: ReadBasis) -> Basis:
+    """The same basis as programs read it that know no other form."""
+    try:
+        return Basis.from_file(read.basis.to_old_form(), read.basis.history or None)
+    except Refusal as refusal:
+        why = explained(refusal, read.basis.run)
+        raise CommandError(f"{read.path} cannot be written as {OLD_FORM.mark}: {why}") from refusal
+
+
+def _tell_sums(basis: Basis, place: Place, history: Optional[Place]) -> None:
+    """Of what was written; and whether a history stands beside it that is another's."""
+    tell = say if place.is_file else warn
+    tell(f"{place.spoken}: SHA-256 {sha256(basis.to_file())}")
+    if history is not None:
+        tell(f"{history.name}: SHA-256 {sha256(basis.history)}")
+    elif place.is_file and not basis.history_needed:
+        _foreign_history(place.name)
+
+
+def _warn_of_proportions(basis: Basis) -> None:
+    """Proportions that were written as parts of one are within their limits, and a hundredth of what was meant."""
+    for column in form_of_run(basis.run).proportions:
+        greatest = max(column.numbers(basis.run))
+        if 0 < greatest <= column.high // 100:
+            warn(f"{column.file}: the greatest {column.name} is {column.text(greatest)} per cent; is it meant as a part of "
+                 "one?")
+
+
+def _apart_from(place: Place, history: Optional[Place], inputs: Sequence[tuple[str, Optional[str]]]) -> None:
+    """Neither output is an input, and they are two."""
     wrong = Collected()
     for each in (place, history):
         if each is not None:
@@ -132,8 +180,6 @@ def _places(options: argparse.Namespace, basis: Basis) -> tuple[Place, Optional[
         with wrong.check():
             apart(history, place)
     wrong.end()
-    not_anothers(place, history, options.force)
-    return place, history
 
 
 def _foreign_history(out: str) -> None:
@@ -170,7 +216,7 @@ def _say_sums(read: ReadBasis) -> None:
 
 def _summary(basis: Basis) -> str:
     history = f", {_years(basis)}" if basis.history else ""
-    return (f"accepted; F {basis.foundation_year}, B {basis.base_year}, "
+    return (f"accepted; {basis.form}, F {basis.foundation_year}, B {basis.base_year}, "
             f"addition {decimal(basis.constant_addition)}, discount {decimal(basis.discount_rate)}{history}")
 
 
@@ -179,4 +225,4 @@ def _years(basis: Basis) -> str:
     return f"history of {years[0]} to {years[-1]}"
 
 
-COMMANDS = {"value": value, "roll": roll, "make": make, "show": show_tables, "check": check}
+COMMANDS = {"value": value, "roll": roll, "make": make, "show": show_tables, "check": check, "convert": convert}

@@ -11,8 +11,11 @@ _DECIMAL = re.compile(r"[+-]?(?:[0-9]+\.?[0-9]*|\.[0-9]+)(?:[eE][+-]?[0-9]{1,3})
 _LONGEST = 400
 
 
+IN_WORDS = {2: "two", 9: "nine"}
+
+
 class TooManyDecimals(ValueError):
-    """A number that is not a whole number of units."""
+    """A number with more decimals than its place has."""
 
 
 def decimal(units: int) -> str:
@@ -21,35 +24,47 @@ def decimal(units: int) -> str:
     >>> decimal(2_210_000_000), decimal(-1)
     ('2.210000000', '-0.000000001')
     """
-    units = operator.index(units)
-    whole, part = divmod(abs(units), UNIT)
-    return f"{'-' if units < 0 else ''}{whole}.{part:09d}"
+    return fixed(units, 9)
 
 
-def units(text: str) -> int:
-    """The units that a decimal number with at most nine decimals stands for, exactly.
+def fixed(number: int, decimals: int) -> str:
+    """A whole number with the point put before its last digits, exactly.
 
-    >>> units("0.03"), units("-0.000000001"), units("3E-04"), units(".0003")
-    (30000000, -1, 300000, 300000)
+    >>> fixed(6_237, 2), fixed(-5, 2), fixed(50, 0)
+    ('62.37', '-0.05', '50')
     """
-    numerator, denominator = _ratio(text)
-    number, rest = divmod(numerator * UNIT, denominator)
+    number = operator.index(number)
+    whole, part = divmod(abs(number), 10**decimals)
+    return f"{'-' if number < 0 else ''}{whole}" + (f".{part:0{decimals}d}" if decimals else "")
+
+
+def units(text: str, decimals: int = 9) -> int:
+    """The units that a decimal number with at most nine decimals stands for, exactly; with fewer decimals, so many of their
+    last place.
+
+    >>> units("0.03"), units("-0.000000001"), units("3E-04"), units(".0003"), units("62.37", 2)
+    (30000000, -1, 300000, 300000, 6237)
+    """
+    numerator, denominator = _ratio(text, decimals)
+    number, rest = divmod(numerator * 10**decimals, denominator)
     if rest:
-        raise TooManyDecimals(f"{text!r} has more than nine decimals")
+        raise TooManyDecimals(f"{text!r} has more than {IN_WORDS[decimals]} decimals")
     return number
 
 
-def rounded_units(text: str) -> int:
+def rounded_units(text: str, decimals: int = 9) -> int:
     """The units nearest to a decimal number; of two that are as near the greater, as 01 rounds.
 
-    >>> rounded_units("0.0000000015"), rounded_units("-0.0000000015"), rounded_units("0.03")
-    (2, -1, 30000000)
+    >>> rounded_units("0.0000000015"), rounded_units("-0.0000000015"), rounded_units("0.03"), rounded_units("62.375", 2)
+    (2, -1, 30000000, 6238)
     """
-    numerator, denominator = _ratio(text)
-    return (2 * numerator * UNIT + denominator) // (2 * denominator)
+    numerator, denominator = _ratio(text, decimals)
+    return (2 * numerator * 10**decimals + denominator) // (2 * denominator)
 
 
-def _ratio(text: str) -> tuple[int, int]:
+def _ratio(text: str, decimals: int) -> tuple[int, int]:
     if len(text) > _LONGEST or not _DECIMAL.fullmatch(text):
-        raise ValueError(f"{text[:40]!r} is not a decimal number with at most nine decimals, such as 0.0125")
+        such_as = "0.0125" if decimals == 9 else "62.37"
+        raise ValueError(f"{text[:40]!r} is not a decimal number with at most {IN_WORDS[decimals]} decimals, such as "
+                         f"{such_as}")
     return Decimal(text).as_integer_ratio()

@@ -5,6 +5,7 @@ import re
 from typing import Any, Callable, Mapping
 
 from . import __version__
+from .layout import FORMS
 
 REFUSED_ROWS = 3
 
@@ -94,7 +95,7 @@ are as in 'parvusek value'.
 _MAKE = """Makes a basis file, and its history file, from a folder of CSV tables; the engine checks both.
 
   settings.csv           setting,value with the rows foundation_year, base_year, constant_addition,
-                         discount_rate
+                         discount_rate, and a row form, which may be left out: MPB1 or MPB2
   base_rates.csv         age,base_rate for the ages 20 to 150
   age_component.csv      age,initial_rate,long_term_rate,convergence_period,proportion_remaining
   cohort_component.csv   birth_year and the same columns, for the birth years 1842 to 2110
@@ -104,9 +105,13 @@ _MAKE = """Makes a basis file, and its history file, from a folder of CSV tables
                          foundation year, ages ascending within years ascending
 
 Rates are decimal numbers with at most nine decimals (0.0125 or 1.25E-2 is 1.25 per cent), convergence
-periods whole years of 1 to 50, proportions remaining at mid-point whole per cent of 0 to 150. The
-discount rate is -0.01 to 0.2, an actual improvement -0.5 to 0.5. All that is wrong is told in one go. A
-table whose last line has no line end may have been cut short, so a warning says so.
+periods whole years of 1 to 50, proportions remaining at mid-point per cent of 0 to 150 with at most two
+decimals (62.37). The discount rate is -0.01 to 0.2, an actual improvement -0.5 to 0.5. All that is wrong
+is told in one go. A table whose last line has no line end may have been cut short, so a warning says so.
+
+The basis has the form MPB1, which every version reads, if each proportion is a whole per cent, and MPB2
+otherwise; the summary says which. --form, or else the setting form, names one: with MPB1 a proportion
+that is no whole per cent is an error, with MPB2 whole ones stand in the new form, too.
 
 The actual improvements go into the history file: m.history.bin with m.bin, history.bin with basis.bin,
 or what --history names. A history that may be another basis's is not written over. A basis whose base
@@ -114,10 +119,23 @@ year is not before its foundation year has none, and no history file is written.
 
 _SHOW = f"""Writes the tables of a basis file and its history into a folder, in the form that 'basis make' reads.
 
-Making the basis again from the folder gives the same files, byte for byte.
+Making the basis again from the folder gives the same files, byte for byte. Proportions are in per cent: whole
+ones of an MPB1 basis, with two decimals those of an MPB2 basis, whose settings.csv names its form.
 {_HISTORY}"""
 
 _CHECK = f"""Says whether the engine accepts a basis file, with its history, and what their SHA-256 are.
+
+{_HISTORY}"""
+
+
+_CONVERT = f"""Writes a basis file in the old form, MPB1, for programs that read no other.
+
+OUT.bin answers as BASIS.bin does: it holds the same fields, each proportion in whole per cent. Nothing is
+rounded: if one is no whole per cent nothing is written, and the error names its age or birth year, its
+value and how many there are. A basis that is MPB1 already is written as it is.
+
+The history goes with the basis unchanged, under the name that belongs to OUT.bin; --no-history converts the
+basis file alone. Nothing that is there is written over without --force, and never BASIS.bin itself.
 
 {_HISTORY}"""
 
@@ -130,12 +148,13 @@ def parser(commands: Mapping[str, Callable[[argparse.Namespace], int]]) -> argpa
     choices = top.add_subparsers(required=True, metavar="COMMAND")
     _value(choices).set_defaults(command=commands["value"])
     _roll(choices).set_defaults(command=commands["roll"])
-    parts = _add(choices, "basis", "Makes, shows and checks basis files.").add_subparsers(required=True, metavar="COMMAND")
+    parts = _add(choices, "basis", "Makes, shows, checks and converts basis files.").add_subparsers(required=True, metavar="COMMAND")
     _make(parts).set_defaults(command=commands["make"])
     _show(parts).set_defaults(command=commands["show"])
     check = _add(parts, "check", _CHECK, ("BASIS.bin", "the basis file"))
     _add_history(check)
     check.set_defaults(command=commands["check"])
+    _convert(parts).set_defaults(command=commands["convert"])
     return top
 
 
@@ -202,7 +221,9 @@ def _make(commands: Any) -> argparse.ArgumentParser:
     added.add_argument("--force", action="store_true",
                        help="write over a file that --history names, unless it is named as another basis's history")
     added.add_argument("--round", action="store_true",
-                       help="round rates with more than nine decimals to the nearest unit, ties up, and say how many")
+                       help="round rates to nine decimals and proportions to two, ties up, and say how many")
+    added.add_argument("--form", type=str.upper, choices=[form.mark for form in FORMS],
+                       help="the form of the basis, instead of what the proportions need")
     _add_encoding(added, "the tables")
     return added
 
@@ -211,6 +232,13 @@ def _show(commands: Any) -> argparse.ArgumentParser:
     added = _add(commands, "show", _SHOW, ("BASIS.bin", "the basis file"), ("FOLDER", "the folder to write, made if need be"))
     _add_history(added)
     added.add_argument("--force", action="store_true", help="write over tables that are there")
+    return added
+
+
+def _convert(commands: Any) -> argparse.ArgumentParser:
+    added = _add(commands, "convert", _CONVERT, ("BASIS.bin", "the basis file"), ("OUT.bin", "the basis file to write"))
+    _add_history(added)
+    added.add_argument("--force", action="store_true", help="write over an OUT.bin, and its history, that is there")
     return added
 
 

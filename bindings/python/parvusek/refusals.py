@@ -2,7 +2,7 @@
 
 SENTENCES: dict[int, str] = {
     # made by tools/make_refusals: sentences
-    1: "file not 4,608 bytes, or data run not 4,554",
+    1: "file not 4,608 or 5,120 bytes, or data run not 4,554 or 5,060",
     2: "a block's check is wrong",
     3: "a block's number is not its place",
     4: "mark or zero bytes wrong",
@@ -18,6 +18,7 @@ SENTENCES: dict[int, str] = {
     14: "the roll is full",
     15: "the member number is not on the roll",
     16: "the member number is on the roll already",
+    17: "a proportion is no whole per cent",
     # end of what tools/make_refusals makes
 }
 
@@ -40,6 +41,7 @@ PLACES: dict[int, tuple[str, ...]] = {
     14: ("member",),
     15: ("member",),
     16: ("member",),
+    17: ("offset",),
     # end of what tools/make_refusals makes
 }
 

@@ -8,10 +8,12 @@ from typing import Iterable, Iterator, Optional, Sequence
 
 from .basis import Basis
 from .errors import Collected, naming
+from .explained import actual_years
 from .history import improvements_of
-from .layout import ACTUAL_FILE, FILES, FIRST_AGE, IMPROVEMENT, SETTINGS, SETTINGS_FILE, TABLE_FILES, columns_of
+from .layout import (ACTUAL_FILE, FILES, FIRST_AGE, IMPROVEMENT, NEW_FORM, SETTINGS, SETTINGS_FILE, TABLE_FILES,
+                     form_of_run)
 from .outputs import drafted, not_an_input, place_of, put_all
-from .tables import ACTUAL_HEADER, TableError, actual_years
+from .tables import ACTUAL_HEADER, FORM_SETTING, TableError
 
 
 def show(basis: Basis, folder: Path, overwrite: bool = False, inputs: Sequence[tuple[str, Optional[str]]] = ()) -> None:
@@ -43,10 +45,14 @@ def show(basis: Basis, folder: Path, overwrite: bool = False, inputs: Sequence[t
 
 def _tables(basis: Basis) -> Iterator[tuple[str, str]]:
     """Each table's file and its text."""
-    yield SETTINGS_FILE, _text(("setting", "value"),
-                               ((column.name, column.text(column.numbers(basis.run)[0])) for column in SETTINGS))
+    form = form_of_run(basis.run)
+    settings = [(column.name, column.text(column.numbers(basis.run)[0])) for column in SETTINGS]
+    if form is NEW_FORM:
+        # Its proportions may all be whole per cents, of which the old form would be made.
+        settings.append((FORM_SETTING, form.mark))
+    yield SETTINGS_FILE, _text(("setting", "value"), settings)
     for file in TABLE_FILES:
-        columns = columns_of(file)
+        columns = form.columns_of(file)
         texts = [[column.text(number) for number in column.numbers(basis.run)] for column in columns]
         keys = range(columns[0].first_key, columns[0].first_key + columns[0].entries)
         yield file, _text((columns[0].key,) + tuple(column.name for column in columns), zip(map(str, keys), *texts))

@@ -8,7 +8,8 @@ import unittest
 from typing import Any, Callable, Optional
 
 from reference_model import bases, engine, points
-from reference_model.basis import encode, short_form, write_file
+from reference_model.basis import encode, short_form, write_file, write_old_form
+from reference_model.finer_bases import finer_bases, fitted_table_of_2000
 from reference_model.older_bases import lent, older_bases
 from reference_model.refusals import Refusal as ReferenceRefusal
 from parvusek import Basis, Kind, Question, Refusal, Results, Standing, UNIT
@@ -42,10 +43,12 @@ def drawn_questions(draw: random.Random, count: int) -> list[Question]:
 class Enquiries(unittest.TestCase):
     named = {"sample": bases.sample(), "realistic": bases.realistic(), "exactly four": bases.exactly_four(),
              "limits": bases.limits_basis(1), "random": bases.random_basis(2, -200_000_000, 200_000_000),
-             "below zero": bases.named_bases()["lowest discount"]}
+             "below zero": bases.named_bases()["lowest discount"],
+             **{name: finer_bases()[name] for name in ("fitted", "widest", "finer 10 in mid-course", "finer random wide")}}
 
     # Bases with a history: a realistic one, one stopped in the years of the history, one after them.
-    older = {name: older_bases()[name] for name in ("2000 table", "10 in mid-history", "9 after the history")}
+    older = {**{name: older_bases()[name] for name in ("2000 table", "10 in mid-history", "9 after the history")},
+             "fitted 2000 table": fitted_table_of_2000()}
 
     def each_basis(self) -> Any:
         """The data run, the history and the basis of each."""
@@ -132,7 +135,7 @@ class Files(unittest.TestCase):
         basis = Basis.from_file(file)
         self.assertEqual(basis.to_file(), file)
         self.assertEqual(basis, Basis(basis.run))
-        self.assertEqual(repr(basis), "<Basis F 2006, B 2008>")
+        self.assertEqual(repr(basis), "<Basis MPB1, F 2006, B 2008>")
         self.assertEqual((basis.constant_addition, basis.discount_rate), (1_000_000, 30_000_000))
         below = Basis(bytes(encode(bases.named_bases()["lowest discount"])))
         self.assertEqual(below.discount_rate, -10_000_000)
@@ -148,10 +151,19 @@ class Files(unittest.TestCase):
         self.assertEqual(outcome(Basis, run[:1602] + b"\0" + run[1603:]), ("refused", 5, 1602, 0))
 
     def test_short_form(self) -> None:
-        basis = Basis.read(SAMPLE / "basis.bin")
-        for rate in (-200_000_000, -1, 0, 10_000_000, 200_000_000):
-            self.assertEqual(basis.short_form(rate).run, bytes(short_form(basis.run, rate)))
-        self.assertEqual(outcome(basis.short_form, 200_000_001), ("refused", 5, 1078, 0))
+        for path in ("basis.bin", "finer/basis.bin"):
+            basis = Basis.read(SAMPLE / path)
+            for rate in (-200_000_000, -1, 0, 10_000_000, 200_000_000):
+                self.assertEqual(basis.short_form(rate).run, bytes(short_form(basis.run, rate)))
+            self.assertEqual(outcome(basis.short_form, 200_000_001), ("refused", 5, 1078, 0))
+
+    def test_old_form(self) -> None:
+        runs = [bytes(encode(basis)) for basis in (bases.realistic(), *finer_bases().values())]
+        runs += [bytes(short_form(run, 10_000_000)) for run in runs]
+        found = [outcome(Basis(run).to_old_form) for run in runs]
+        self.assertEqual(found, [outcome(lambda: bytes(write_old_form(run))) for run in runs])
+        self.assertTrue(any(isinstance(file, bytes) and len(run) == 5_060 for file, run in zip(found, runs)))
+        self.assertTrue(any(isinstance(file, tuple) and file[1] == 17 for file in found))
 
 
 class Threads(unittest.TestCase):

@@ -100,10 +100,10 @@ class Value(Command):
         out = self.folder / "values.csv"
         status, _, wrong = self.run_command("value", members, members, out)
         self.assertEqual(status, 1)
-        self.assertIn("members.csv is refused: refused 1: file not 4,608 bytes, or data run not 4,554; it has 184 bytes\n", wrong)
+        self.assertIn("members.csv is refused: refused 1: file not 4,608 or 5,120 bytes, or data run not 4,554 or 5,060; it has 184 bytes\n", wrong)
         (self.folder / "long.bin").write_bytes(bytes(10_000))
         status, _, wrong = self.run_command("value", members, self.folder / "long.bin", out)
-        self.assertIn("refused 1: file not 4,608 bytes, or data run not 4,554; it has 10,000 bytes\n", wrong)
+        self.assertIn("refused 1: file not 4,608 or 5,120 bytes, or data run not 4,554 or 5,060; it has 10,000 bytes\n", wrong)
         (self.folder / "own.csv").write_bytes(members.read_bytes())
         status, _, wrong = self.run_command("value", self.folder / "own.csv", SAMPLE / "basis.bin",
                                             self.folder / "own.csv")
@@ -153,7 +153,7 @@ class Bases(Command):
     def test_make_and_show(self) -> None:
         status, said, _ = self.run_command("basis", "make", SAMPLE / "tables", self.folder / "basis.bin")
         self.assertEqual(status, 0)
-        self.assertIn("basis.bin: accepted; F 2006, B 2008, addition 0.001000000, discount 0.030000000\n", said)
+        self.assertIn("basis.bin: accepted; MPB1, F 2006, B 2008, addition 0.001000000, discount 0.030000000\n", said)
         self.assertEqual(self.run_command("basis", "check", self.folder / "basis.bin")[:2], (0, said))
         status, _, _ = self.run_command("basis", "show", self.folder / "basis.bin", self.folder / "tables")
         self.assertEqual(status, 0)
@@ -272,7 +272,7 @@ class Histories(Command):
 
     def test_shown_and_made_again(self) -> None:
         status, said, _ = self.run_command("basis", "show", self.basis, self.folder / "tables")
-        summary = ("accepted; F 2006, B 2000, addition 0.001000000, discount 0.030000000, history of 2001 to 2006\n")
+        summary = ("accepted; MPB1, F 2006, B 2000, addition 0.001000000, discount 0.030000000, history of 2001 to 2006\n")
         sums = summed(self.basis, self.basis.read_bytes()) + summed(self.beside, self.history)
         self.assertEqual((status, said), (0, f"{self.folder}/tables: the tables of {self.basis}, {summary}{sums}"))
         for options, written in (((), "b.history.bin"), (("--history", self.folder / "again" / "actual.bin"), "actual.bin")):
@@ -357,7 +357,7 @@ class Histories(Command):
     def test_a_basis_on_standard_output(self) -> None:
         status, said, wrong = self.run_process("basis", "make", SAMPLE / "tables", "-")
         self.assertEqual((status, said), (0, (SAMPLE / "basis.bin").read_bytes()))
-        self.assertIn(b"parvusek: standard output: accepted; F 2006, B 2008", wrong)
+        self.assertIn(b"parvusek: standard output: accepted; MPB1, F 2006, B 2008", wrong)
         status, said, wrong = self.run_process("basis", "make", SAMPLE / "older" / "tables", "-")
         self.assertEqual((status, said), (1, b""))
         self.assertIn(b"--history names one", wrong)

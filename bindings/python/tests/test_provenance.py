@@ -9,7 +9,7 @@ from datetime import datetime
 from typing import Iterator
 
 from parvusek import Basis, Refusal, __version__, decimal
-from parvusek.layout import BASE_FILE, columns_of
+from parvusek.layout import BASE_FILE, OLD_FORM
 
 from . import REPOSITORY, SAMPLE
 from .command import Command
@@ -48,7 +48,7 @@ class Check(Command):
         file = bytearray((SAMPLE / "basis.bin").read_bytes())
         self.assertEqual(file[255], 2)
         file[255] = 6
-        rates = [decimal(column.numbers(Basis.from_file(bytes(content)).run)[75 - 20]) for column in columns_of(BASE_FILE)
+        rates = [decimal(column.numbers(Basis.from_file(bytes(content)).run)[75 - 20]) for column in OLD_FORM.columns_of(BASE_FILE)
                  for content in ((SAMPLE / "basis.bin").read_bytes(), file)]
         self.assertEqual(rates, ["0.034322491", "0.101431355"])
 
@@ -133,7 +133,7 @@ class Record(Command):
             "record": "parvusek value",
             "version": __version__,
             "basis": {"file": str(OLDER / "basis.bin"), "sha256": digest((OLDER / "basis.bin").read_bytes()),
-                      "foundation_year": 2006, "base_year": 2000},
+                      "form": "MPB1", "foundation_year": 2006, "base_year": 2000},
             "history": {"file": str(OLDER / "history.bin"), "sha256": digest((OLDER / "history.bin").read_bytes())},
             "members": {"file": str(self.members), "sha256": digest(self.members.read_bytes())},
             "encoding": "utf-8",

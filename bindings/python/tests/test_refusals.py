@@ -21,13 +21,14 @@ class Refusals(unittest.TestCase):
             self.assertEqual(len(PLACES[int(number)]), len(named), f"the places of {number}")
 
     def test_message(self) -> None:
-        self.assertEqual(str(Refusal(1)), "refused 1: file not 4,608 bytes, or data run not 4,554")
+        self.assertEqual(str(Refusal(1)), "refused 1: file not 4,608 or 5,120 bytes, or data run not 4,554 or 5,060")
         self.assertEqual(str(Refusal(6, 19)), "refused 6: age outside 20 to 150 (age 19)")
         self.assertEqual(str(Refusal(13, 6_144)),
                          "refused 13: history not 1,024 bytes for each year from B + 1 to F (needed 6144)")
         self.assertEqual(str(Refusal(14, 1001)), "refused 14: the roll is full (member 1001)")
         self.assertEqual(str(Refusal(15, 1001)), "refused 15: the member number is not on the roll (member 1001)")
         self.assertEqual(str(Refusal(16, 0)), "refused 16: the member number is on the roll already (member 0)")
+        self.assertEqual(str(Refusal(17, 1823)), "refused 17: a proportion is no whole per cent (offset 1823)")
         self.assertEqual(Refusal(9, 70, 2031).message,
                          "an improvement needed is beyond ±500,000,000 (age 70, year 2031)")
 

@@ -42,7 +42,7 @@ class Summary(Command):
 
     def test_the_manual_page_has_every_command_and_option(self) -> None:
         page = (REPOSITORY / "docs" / "man" / "parvusek.1").read_text(encoding="utf-8").replace("\\-", "-")
-        for command in (("value",), ("roll",), ("basis", "make"), ("basis", "show"), ("basis", "check")):
+        for command in (("value",), ("roll",), ("basis", "make"), ("basis", "show"), ("basis", "check"), ("basis", "convert")):
             self.assertIn(" ".join(command), page)
             helped = self.run_process(*command, "--help")[1].decode()
             for word in helped.replace("[", " ").replace("]", " ").split():

@@ -7,18 +7,20 @@ from pathlib import Path
 
 from reference_model import bases
 from reference_model.basis import encode
+from reference_model.finer_bases import finer_bases, fitted
 from reference_model.layout import limits
 from parvusek import Basis, Refusal
-from parvusek.layout import ACTUAL_FILE, COLUMNS, FILES, SETTINGS, field_at
+from parvusek.explained import explained
+from parvusek.layout import ACTUAL_FILE, FILES, FORMS, NEW_FORM, OLD_FORM, SETTINGS
 from parvusek.shown_tables import show
-from parvusek.tables import TableError, Tables, basis_of, explained
+from parvusek.tables import TableError, Tables, basis_of
 
 from . import SAMPLE, refused_tables
 
 
 class RoundTrip(unittest.TestCase):
     def test_basis_to_tables_and_back(self) -> None:
-        drawn = [bases.random_basis(seed, -200_000_000, 200_000_000) for seed in range(5)]
+        drawn = [bases.random_basis(seed, -200_000_000, 200_000_000) for seed in range(5)] + list(finer_bases().values())
         for reference_basis in [bases.sample(), bases.realistic(), bases.limits_basis(1), *drawn]:
             basis = Basis(bytes(encode(reference_basis)))
             with tempfile.TemporaryDirectory() as folder:
@@ -42,6 +44,14 @@ class RoundTrip(unittest.TestCase):
             for file in FILES + (ACTUAL_FILE,):
                 self.assertEqual((Path(folder) / file).read_bytes(), (SAMPLE / "older" / "tables" / file).read_bytes())
 
+    def test_sample_in_the_new_form(self) -> None:
+        basis = basis_of(SAMPLE / "finer" / "tables")
+        self.assertEqual(basis.to_file(), (SAMPLE / "finer" / "basis.bin").read_bytes())
+        with tempfile.TemporaryDirectory() as folder:
+            show(basis, Path(folder))
+            for file in FILES:
+                self.assertEqual((Path(folder) / file).read_bytes(), (SAMPLE / "finer" / "tables" / file).read_bytes())
+
     def test_shown_over_other_tables_only_if_told(self) -> None:
         basis = basis_of(SAMPLE / "tables")
         with tempfile.TemporaryDirectory() as folder:
@@ -53,18 +63,31 @@ class RoundTrip(unittest.TestCase):
 
 class Layout(unittest.TestCase):
     def test_fields_are_those_of_the_reference_model(self) -> None:
-        run = bytes(encode(bases.realistic()))
-        found = [(column.offset + column.width * entry, number, column.low, column.high)
-                 for column in SETTINGS + COLUMNS for entry, number in enumerate(column.numbers(run))]
-        self.assertEqual(found, list(limits(run)))
+        for form, basis in ((OLD_FORM, bases.realistic()), (NEW_FORM, fitted())):
+            run = bytes(encode(basis))
+            found = [(column.offset + column.width * entry, number, column.low, column.high)
+                     for column in SETTINGS + form.columns for entry, number in enumerate(column.numbers(run))]
+            self.assertEqual(found, list(limits(run)))
 
     def test_field_at(self) -> None:
-        for column in SETTINGS + COLUMNS:
-            self.assertEqual(field_at(column.offset), (column, 0))
-            last = column.offset + column.width * (column.entries - 1)
-            self.assertEqual(field_at(last), (column, column.entries - 1))
-        for offset in (0, 5, 16, 29, 31, 4554):
-            self.assertIsNone(field_at(offset))
+        for form in FORMS:
+            for column in SETTINGS + form.columns:
+                self.assertEqual(form.field_at(column.offset), (column, 0))
+                last = column.offset + column.width * (column.entries - 1)
+                self.assertEqual(form.field_at(last), (column, column.entries - 1))
+            for offset in (0, 5, 16, 29, 31, form.run_length):
+                self.assertIsNone(form.field_at(offset))
+        self.assertIsNone(NEW_FORM.field_at(1734))
+        self.assertIsNone(NEW_FORM.field_at(4954))
+
+    def test_offsets_of_both_forms(self) -> None:
+        """As 01 and change 7 have them."""
+        self.assertEqual([column.offset for column in OLD_FORM.columns],
+                         [30, 554, 1078, 1602, 1733, 1864, 2940, 4016, 4285])
+        self.assertEqual([column.offset for column in NEW_FORM.columns],
+                         [30, 554, 1078, 1602, 1733, 1995, 3071, 4147, 4416])
+        self.assertEqual([(form.mark, form.run_length, form.file_length, form.columns[-1].end) for form in FORMS],
+                         [("MPB1", 4554, 4608, 4554), ("MPB2", 5060, 5120, 4954)])
 
 
 class Messages(unittest.TestCase):
@@ -132,7 +155,7 @@ class Messages(unittest.TestCase):
         tables = Tables(self.folder, is_rounded=True)
         self.assertEqual(tables.basis().run[30:38],
                          b"".join(number.to_bytes(4, "little") for number in (300_000, 326_999)))
-        self.assertEqual(tables.rounded, 2)
+        self.assertEqual(tables.rounded, {9: 2})
 
     def test_every_error_in_one_go(self) -> None:
         for file, old, new in (("base_rates.csv", "\n20,0.000300000", "\n20,x"), ("base_rates.csv", "\n21,", "\n21,7"),

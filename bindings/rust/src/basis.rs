@@ -8,13 +8,7 @@ use std::path::Path;
 
 use crate::ffi;
 use crate::version::check_linked_version;
-use crate::Refusal;
-
-/// Bytes of a data run.
-pub const RUN_LENGTH: usize = 4_554;
-
-/// Bytes of a basis file.
-pub const FILE_LENGTH: usize = 4_608;
+use crate::{Form, Refusal, FILE_LENGTH, FILE_LENGTH_2};
 
 /// Bytes of a history file for each year from B + 1 to F.
 pub const HISTORY_YEAR: usize = 1_024;
@@ -38,7 +32,7 @@ pub const HISTORY_YEAR: usize = 1_024;
 /// ```
 #[derive(Clone, PartialEq, Eq, Hash)]
 pub struct Basis {
-    run: Box<[u8; RUN_LENGTH]>,
+    run: Box<[u8]>,
     history: Box<[u8]>,
 }
 
@@ -56,8 +50,7 @@ impl Basis {
         check_linked_version();
         // SAFETY: the pointer and the length are those of a slice.
         unsafe { ffi::parvusek_check_basis(run.as_ptr(), run.len()) }.unless_none()?;
-        let run = Box::new(run.try_into().expect("an accepted data run has 4,554 bytes"));
-        Ok(Basis::without_history(run))
+        Ok(Basis::without_history(run.into()))
     }
 
     /// The basis of the bytes of a basis file, without a history, refused by 1 to 5.
@@ -71,7 +64,7 @@ impl Basis {
     /// ```
     pub fn from_file(file: &[u8]) -> Result<Basis, Refusal> {
         check_linked_version();
-        let mut run = Box::new([0; RUN_LENGTH]);
+        let mut run = vec![0; Form::of_file(file.len()).run_length()].into_boxed_slice();
         // SAFETY: the pointers and lengths are those of two slices, which do not overlap.
         unsafe { ffi::parvusek_read_basis(file.as_ptr(), file.len(), run.as_mut_ptr(), run.len()) }.unless_none()?;
         Ok(Basis::without_history(run))
@@ -88,7 +81,7 @@ impl Basis {
     /// # Ok::<(), OpenError>(())
     /// ```
     pub fn open(path: impl AsRef<Path>) -> Result<Basis, OpenError> {
-        Ok(Basis::from_file(&read(path, FILE_LENGTH)?)?)
+        Ok(Basis::from_file(&read(path, FILE_LENGTH_2)?)?)
     }
 
     /// The basis of the basis file at a path, with the history file at another.
@@ -111,7 +104,7 @@ impl Basis {
     /// ```
     /// # let basis = parvusek::Basis::open("../../samples/basis.bin")?;
     /// // Improvements are known from the year after the base year on.
-    /// let mut run = *basis.run();
+    /// let mut run = basis.run().to_vec();
     /// run[6..8].copy_from_slice(&2005_u16.to_le_bytes());
     /// let older = parvusek::Basis::from_run(&run)?;
     /// assert_eq!(older.history_needed(), 1_024);
@@ -129,12 +122,18 @@ impl Basis {
         Ok(self)
     }
 
-    fn without_history(run: Box<[u8; RUN_LENGTH]>) -> Basis {
+    fn without_history(run: Box<[u8]>) -> Basis {
         Basis { run, history: Box::default() }
     }
 
-    /// The data run.
-    pub fn run(&self) -> &[u8; RUN_LENGTH] {
+    /// The form, which stays the same in [`to_file`](Basis::to_file) and in the short form.
+    pub fn form(&self) -> Form {
+        Form::of_run(self.run.len())
+    }
+
+    /// The data run, of 4,554 or 5,060 bytes. A proportion of the old form is per cent in it, one of the new form
+    /// hundredths of a per cent.
+    pub fn run(&self) -> &[u8] {
         &self.run
     }
 
@@ -148,27 +147,45 @@ impl Basis {
         HISTORY_YEAR * self.foundation_year().saturating_sub(self.base_year()) as usize
     }
 
-    /// The bytes of the basis file; reading them gives this basis again.
+    /// The bytes of the basis file, in its own form; reading them gives this basis again.
     ///
     /// ```
     /// # use parvusek::Basis;
     /// let file = std::fs::read("../../samples/basis.bin")?;
     /// let basis = Basis::from_file(&file)?;
-    /// assert_eq!(basis.to_file()[..], file[..]);
+    /// assert_eq!(basis.to_file(), file);
     /// # Ok::<(), Box<dyn std::error::Error>>(())
     /// ```
-    pub fn to_file(&self) -> [u8; FILE_LENGTH] {
-        let mut file = [0; FILE_LENGTH];
-        // SAFETY: the pointers and lengths are those of two arrays, which do not overlap.
+    pub fn to_file(&self) -> Vec<u8> {
+        let mut file = vec![0; self.form().file_length()];
+        // SAFETY: the pointers and lengths are those of two slices, which do not overlap.
         let refusal =
             unsafe { ffi::parvusek_write_basis(self.run.as_ptr(), self.run.len(), file.as_mut_ptr(), file.len()) };
         refusal.unless_none().expect("an accepted data run is written");
         file
     }
 
+    /// The bytes of the basis file in the old form, for programs that read no other; a basis that is read from them
+    /// answers as this one does. Refused by 17 where a proportion is no whole per cent, with its offset in
+    /// [`run`](Basis::run).
+    ///
+    /// ```
+    /// # use parvusek::{Basis, Form};
+    /// let basis = Basis::open("../../samples/basis.bin")?;
+    /// assert_eq!(Basis::from_file(&basis.to_old_form()?)?.form(), Form::Mpb1);
+    /// # Ok::<(), Box<dyn std::error::Error>>(())
+    /// ```
+    pub fn to_old_form(&self) -> Result<[u8; FILE_LENGTH], Refusal> {
+        let mut file = [0; FILE_LENGTH];
+        let (run, len) = (self.run.as_ptr(), self.run.len());
+        // SAFETY: the pointers and lengths are those of a slice and an array, which do not overlap.
+        unsafe { ffi::parvusek_write_old_form(run, len, file.as_mut_ptr(), file.len()) }.unless_none()?;
+        Ok(file)
+    }
+
     /// The short form: the basis that differs only in its long-term rates (this one to age 90, running off to 0 at
-    /// 120; none by birth year), every T 20 and every P 50. Its history stays. A rate beyond ±200,000,000 units is
-    /// refused by 5.
+    /// 120; none by birth year), every T 20 and every P 50 per cent. Its form and its history stay. A rate beyond
+    /// ±200,000,000 units is refused by 5.
     ///
     /// ```
     /// # use parvusek::Basis;
@@ -180,9 +197,9 @@ impl Basis {
     /// # Ok::<(), Box<dyn std::error::Error>>(())
     /// ```
     pub fn short_form(&self, long_term_rate: i32) -> Result<Basis, Refusal> {
-        let mut out = Box::new([0; RUN_LENGTH]);
+        let mut out = vec![0; self.run.len()].into_boxed_slice();
         let (run, len) = (self.run.as_ptr(), self.run.len());
-        // SAFETY: the pointers and lengths are those of two arrays, which do not overlap.
+        // SAFETY: the pointers and lengths are those of two slices, which do not overlap.
         unsafe { ffi::parvusek_short_form(run, len, long_term_rate, out.as_mut_ptr(), out.len()) }.unless_none()?;
         Ok(Basis { run: out, history: self.history.clone() })
     }
@@ -224,6 +241,7 @@ impl Basis {
 impl fmt::Debug for Basis {
     fn fmt(&self, f: &mut fmt::Formatter<'_>) -> fmt::Result {
         f.debug_struct("Basis")
+            .field("form", &self.form())
             .field("foundation_year", &self.foundation_year())
             .field("base_year", &self.base_year())
             .finish_non_exhaustive()

@@ -52,6 +52,7 @@ extern "C" {
     pub fn parvusek_check_basis(run: *const u8, run_len: usize) -> Refusal;
     pub fn parvusek_read_basis(file: *const u8, file_len: usize, run: *mut u8, run_len: usize) -> Refusal;
     pub fn parvusek_write_basis(run: *const u8, run_len: usize, file: *mut u8, file_len: usize) -> Refusal;
+    pub fn parvusek_write_old_form(run: *const u8, run_len: usize, file: *mut u8, file_len: usize) -> Refusal;
     pub fn parvusek_short_form(run: *const u8, run_len: usize, rate: i32, out: *mut u8, out_len: usize) -> Refusal;
     pub fn parvusek_roll_open(year: u32, roll: *mut u64, roll_len: usize) -> Refusal;
     pub fn parvusek_roll_leave(roll: *mut u64, roll_len: usize, number: u32) -> Answer;

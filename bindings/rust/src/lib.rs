@@ -14,8 +14,8 @@
 //!
 //! Values are whole units, [`UNIT`] of them to one. What is refused is a [`Refusal`]: a number and two places. The
 //! engine has no state and allocates nothing: a [`Basis`] may be shared by any number of threads. A basis whose base
-//! year is before its foundation year is opened with its history, [`Basis::open_with_history`]. A [`Roll`] holds pensions
-//! in payment and their total.
+//! year is before its foundation year is opened with its history, [`Basis::open_with_history`]. It has one of two forms,
+//! told by its length, and is used alike in both, [`Form`]. A [`Roll`] holds pensions in payment and their total.
 //!
 //! The archive is linked from the folder that `PARVUSEK_LIB_DIR` names when this crate is built, or else from the
 //! repository's `target/staticlib`. An archive of another minor version may answer otherwise: where [`linked_version`]
@@ -24,6 +24,7 @@
 mod basis;
 mod enquiries;
 mod ffi;
+mod form;
 mod lifeline;
 mod points;
 mod refusal;
@@ -31,7 +32,8 @@ mod roll;
 mod units;
 mod version;
 
-pub use basis::{Basis, OpenError, FILE_LENGTH, HISTORY_YEAR, RUN_LENGTH};
+pub use basis::{Basis, OpenError, HISTORY_YEAR};
+pub use form::{Form, FILE_LENGTH, FILE_LENGTH_2, RUN_LENGTH, RUN_LENGTH_2};
 pub use lifeline::{Lifeline, Standing};
 pub use points::{Question, Record, Results, GRID, SMALL_SET};
 pub use refusal::{JoinRefusal, Refusal};

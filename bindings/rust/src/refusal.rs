@@ -28,7 +28,7 @@ impl Refusal {
     pub fn sentence(&self) -> &'static str {
         match self.number {
             // made by tools/make_refusals: sentences
-            1 => "file not 4,608 bytes, or data run not 4,554",
+            1 => "file not 4,608 or 5,120 bytes, or data run not 4,554 or 5,060",
             2 => "a block's check is wrong",
             3 => "a block's number is not its place",
             4 => "mark or zero bytes wrong",
@@ -44,6 +44,7 @@ impl Refusal {
             14 => "the roll is full",
             15 => "the member number is not on the roll",
             16 => "the member number is on the roll already",
+            17 => "a proportion is no whole per cent",
             // end of what tools/make_refusals makes
             _ => "no such refusal",
         }
@@ -68,6 +69,7 @@ impl Refusal {
             14 => (Some("member"), None),
             15 => (Some("member"), None),
             16 => (Some("member"), None),
+            17 => (Some("offset"), None),
             // end of what tools/make_refusals makes
             _ => (None, None),
         }

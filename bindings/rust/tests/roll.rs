@@ -61,7 +61,7 @@ fn members_are_listed_in_the_order_in_which_they_joined() {
 
 #[test]
 fn a_liability_is_rounded_to_whole_pence_with_ties_up() {
-    let mut run = *sample().run();
+    let mut run = sample().run().to_vec();
     // No discount, and a base rate of one tenth at 149: the annuity is 1.9 to one at that age, so that 5 pence give 9.5.
     run[12..16].copy_from_slice(&0_i32.to_le_bytes());
     run[30 + 4 * 129..][..4].copy_from_slice(&100_000_000_i32.to_le_bytes());
@@ -170,7 +170,7 @@ fn joins_are_refused_in_their_order() {
 #[test]
 fn what_the_work_refuses_is_the_joins_refusal() {
     // Improvements of -50 per cent at every age: the factor passes 4 to one in the fourth year.
-    let mut run = *sample().run();
+    let mut run = sample().run().to_vec();
     let mut put = |offset: usize| run[offset..offset + 4].copy_from_slice(&(-200_000_000_i32).to_le_bytes());
     (0..262).for_each(|entry| put(554 + 4 * entry));
     (0..538).for_each(|entry| put(1864 + 4 * entry));

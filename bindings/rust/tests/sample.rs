@@ -92,7 +92,7 @@ fn a_lifeline_stops_at_its_end_and_after_a_refusal() {
     assert_eq!(basis.lifeline(20, 2131).map(|_| ()).unwrap_err(), Refusal { number: 7, first: 2131, second: 0 });
 
     // Improvements of -50 per cent at every age: the factor passes 4 to one in the fourth year.
-    let mut run = *basis.run();
+    let mut run = basis.run().to_vec();
     let mut put = |offset: usize, number: i32| run[offset..offset + 4].copy_from_slice(&number.to_le_bytes());
     put(8, -100_000_000);
     for age in 0..131 {
@@ -114,7 +114,7 @@ fn a_lifeline_stops_at_its_end_and_after_a_refusal() {
 
 /// The sample with this rate of discount, and with a rate of mortality of one tenth at 149 in the base year.
 fn discounted(rate: i32) -> Result<Basis, Refusal> {
-    let mut run = *sample().run();
+    let mut run = sample().run().to_vec();
     run[12..16].copy_from_slice(&rate.to_le_bytes());
     run[30 + 4 * 129..][..4].copy_from_slice(&100_000_000_i32.to_le_bytes());
     Basis::from_run(&run)
@@ -133,7 +133,7 @@ fn the_rate_of_discount_may_be_below_zero() {
 fn sentences_are_those_of_the_document() {
     let document = fs::read_to_string(concat!(env!("CARGO_MANIFEST_DIR"), "/../../docs/REFUSALS.md"))
         .expect("the document is there");
-    for number in 1..=16 {
+    for number in 1..=17 {
         let refusal = Refusal { number, first: 0, second: 0 };
         let row = format!("\n| {number} | {} |", refusal.sentence());
         assert!(document.contains(&row), "docs/REFUSALS.md has no row {row:?}");

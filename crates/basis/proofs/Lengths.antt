@@ -5,8 +5,8 @@ use Prim.Native.Nat.{ℕ, suc, _+_, _*_, _≤_, _<_}
 use native.Mathlib.Nat.{mul-suc, mul-le-mul-left}
 use native.Mathlib.Omega.{arith}
 use lib.ListN.{length}
-use Rattle.layout.specs.declared.Form.{Form}
-use Rattle.layout.specs.declared.Form.the-variants.{Mpb1, Mpb2}
+use Rattle.layout.specs.Layout.{Form}
+use Rattle.layout.specs.Layout.{mpb1, mpb2}
 use Rattle.layout.specs.Layout.{widthOf, proportionOf, runLength, fieldsEnd, formOfRun, ages, birthYears}
 use Rattle.layout.specs.Layout.{ageProportionsAt, birthYearProportionsAt}
 use Rattle.layout.proofs.EachForm.{run-low, run-high, fields-inside}
@@ -17,10 +17,10 @@ pub entry-inside : (width place n : ℕ) → place < n → width * place + width
 entry-inside width place n h = rw (mul-suc width place) at (mul-le-mul-left width h)
 
 module _ (run : List ℕ) (a : Accepted run) where
-  pub long-enough : runLength Mpb1 ≤ length run
+  pub long-enough : runLength mpb1 ≤ length run
   long-enough = omega (arith, a .size, run-low (formOfRun (length run)))
 
-  pub short-enough : length run ≤ runLength Mpb2
+  pub short-enough : length run ≤ runLength mpb2
   short-enough = omega (arith, a .size, run-high (formOfRun (length run)))
 
   pub fields-within : fieldsEnd (formOfRun (length run)) ≤ length run

@@ -2,8 +2,9 @@
 ghost use mathlib.Core.Path.{_≡_};
 ghost use Prim.Native.Nat.{_+_, _*_, _≤_, _<_};
 ghost use lib.ListN.{length};
-ghost use Rattle.layout.specs.declared.Form.the-variants.{Mpb2};
+ghost use Rattle.layout.specs.Layout.{mpb2};
 ghost use Rattle.layout.specs.Layout.{widthOf, proportionOf, runLength};
+ghost use Rattle.layout.specs.Meaning.{meant};
 ghost use Rattle.basis.specs.Basis.{basisOf, accumulationOf, termsAt, Accepted, ratedFrom};
 use crate::Convergence;
 use layout::Form;
@@ -70,9 +71,9 @@ fn terms_at(
     requires { ⌜ initial + 4 * place + 4 ≤ length (now run) ⌝ }
     requires { ⌜ long + 4 * place + 4 ≤ length (now run) ⌝ }
     requires { ⌜ period + place < length (now run) ⌝ }
-    requires { ⌜ remaining + widthOf (proportionOf form) * place + widthOf (proportionOf form) ≤ length (now run) ⌝ }
-    requires { ⌜ length (now run) ≤ runLength Mpb2 ⌝ }
-    ensures { λ r. ⌜ r ≡ termsAt form (now (run .entry)) initial long period remaining place ⌝ }
+    requires { ⌜ remaining + widthOf (proportionOf (meant form)) * place + widthOf (proportionOf (meant form)) ≤ length (now run) ⌝ }
+    requires { ⌜ length (now run) ≤ runLength mpb2 ⌝ }
+    ensures { λ r. ⌜ r ≡ termsAt (meant form) (now (run .entry)) initial long period remaining place ⌝ }
 {
     Convergence {
         initial: little_endian::read_i32(run, initial + 4 * place),

@@ -6,14 +6,14 @@ use lib.Dec.{eqb}
 use lib.ListN.{length}
 use Rattle.outcome.specs.Refusals.{numbers, isListed, RefusesBy}
 use Rattle.outcome.proofs.Refusals.{unless-by, first-by}
-use Rattle.layout.specs.Layout.{formOf, fileLength}
+use Rattle.layout.specs.Layout.{blocksIn, formOfFile, fileLength}
 use Rattle.run_check.proofs.Numbered.{run-numbered}
 use Rattle.block.proofs.Numbered.{blocks-numbered}
 use Rattle.basis_file.specs.File.{runIn, outerCheck, fileCheck}
 
 outer-numbered : (file : List ℕ) → RefusesBy numbers (outerCheck file)
 unfolding outerCheck numbers isListed
-outer-numbered file = first-by (unless-by (eqb (length file) (fileLength (formOf (length file)))) _ refl) (blocks-numbered 0 (formOf (length file) .blocks) file)
+outer-numbered file = first-by (unless-by (eqb (length file) (fileLength (formOfFile (length file)))) _ refl) (blocks-numbered 0 (blocksIn (formOfFile (length file))) file)
 
 pub file-numbered : (file : List ℕ) → RefusesBy numbers (fileCheck file)
 unfolding fileCheck

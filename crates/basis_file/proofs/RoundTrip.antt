@@ -6,15 +6,16 @@ use Prim.Native.Nat.{ℕ, zero, suc, _+_, _*_, _<_, _≤_}
 use native.Mathlib.Omega.{arith}
 use lib.ListN.{length, take, drop, getD, length-take, length-drop, take-append-drop}
 use lib.Seq.{take-at, drop-at, take-take, getD-take, getD-drop}
-use Rattle.layout.specs.Layout.{mpb1, runLength}
+use Rattle.layout.specs.Layout.{blocksIn, runLength, formOfRun, formOfFile}
+use Rattle.layout.proofs.EachForm.{run-high}
 use Rattle.run_check.specs.Run.{runCheck}
 use Rattle.outcome.proofs.Outcome.{both-passed}
 use Rattle.block.specs.Block.{blockCheck, blockOf}
 use Rattle.block.proofs.Blocks.{block-length, data-stand, block-accepted, block-back}
 use Rattle.block.specs.Blocks.{partsOf, blocksOf, blocksCheck}
-use Rattle.basis_file.specs.File.{runIn, fileOf, fileCheck}
+use Rattle.basis_file.specs.File.{runIn, fileOf, fileBlocksCheck, fileCheck}
 use Rattle.basis_file.specs.RoundTrips.{RoundTrips}
-use Rattle.basis_file.proofs.Files.{file-length, right-size, outer-passed, file-passed, accepted-run}
+use Rattle.basis_file.proofs.Files.{file-form, file-size, run-length, run-form, right-size, outer-passed, file-passed, accepted-run}
 use Rattle.outcome.specs.Outcome.{passed}
 
 -- ---- from a run to its file and back
@@ -30,9 +31,9 @@ parts-back (suc n) place run h =
     simp (data-stand place part p rest, drop-at (blockOf place part) rest 512 (block-length place part p), r) (take-append-drop 506 run)
 
 -- written and read back, the same basis
-pub run-back : (run : List ℕ) → length run ≡ runLength mpb1 → runIn (fileOf run) ≡ run
+pub run-back : (run : List ℕ) → length run ≡ runLength (formOfRun (length run)) → runIn (fileOf run) ≡ run
 unfolding runIn fileOf
-run-back run h = parts-back (mpb1 .blocks) 0 run h
+run-back run h = ap (λ form. partsOf (blocksIn form) (fileOf run)) (file-form run h) ∙ parts-back (blocksIn (formOfRun (length run))) 0 run h
 
 blocks-accepted : (n place : ℕ) (run : List ℕ) → place + n ≤ 65536 → length run ≡ 506 * n → blocksCheck place n (blocksOf place n run) ≡ passed
 unfolding blocksCheck blocksOf
@@ -49,9 +50,11 @@ blocks-accepted (suc n) place run h l =
       blocks-accepted n (place + 1) (drop 506 run) (omega arith) (simp length-drop (omega arith)),
     )
 
-file-accepted : (run : List ℕ) → length run ≡ runLength mpb1 → blocksCheck 0 (mpb1 .blocks) (fileOf run) ≡ passed
+file-accepted : (run : List ℕ) → length run ≡ runLength (formOfRun (length run)) → fileBlocksCheck (fileOf run) ≡ passed
 unfolding fileOf
-file-accepted run l = blocks-accepted (mpb1 .blocks) 0 run (omega arith) l
+file-accepted run l =
+    let form = formOfRun (length run) in
+    ap (λ other. blocksCheck 0 (blocksIn other) (fileOf run)) (file-form run l) ∙ blocks-accepted (blocksIn form) 0 run (omega (arith, run-high form)) l
 
 -- ---- from a file to its run and back
 part-of : (file : List ℕ) → take 506 (drop 2 (take 512 file)) ≡ take 506 (drop 2 file)
@@ -80,6 +83,10 @@ blocks-back (suc n) place file l b h =
 pub run-accepted : (file : List ℕ) → fileCheck file ≡ passed → runCheck (runIn file) ≡ passed
 run-accepted file h = file-passed file h .1
 
+-- and has the length of the file's form
+pub run-size : (file : List ℕ) → fileCheck file ≡ passed → length (runIn file) ≡ runLength (formOfFile (length file))
+run-size file h = run-length file (outer-passed file (file-passed file h .0) .0)
+
 -- ---- both ways round
 pub round-trips : RoundTrips
 unfolding runIn fileOf fileCheck
@@ -87,9 +94,8 @@ round-trips =
     record {
       sameFile = λ file b h.
           let o = outer-passed file (file-passed file h .0) in
-          let blocks : blocksCheck 0 (mpb1 .blocks) file ≡ passed = cc (o .1) in
-          blocks-back (mpb1 .blocks) 0 file (o .0) b blocks;
+          ap (λ form. blocksOf 0 (blocksIn form) (runIn file)) (run-form file (o .0)) ∙ blocks-back (blocksIn (formOfFile (length file))) 0 file (o .0) b (o .1);
       sameBasis = λ run h.
           let l = accepted-run run h in
-          (simp (right-size (fileOf run) (file-length run l), file-accepted run l, run-back run l) h, run-back run l);
+          (simp (right-size (fileOf run) (file-size run l), file-accepted run l, run-back run l) h, run-back run l);
     }

@@ -4,6 +4,7 @@ ghost use Prim.Native.Nat.{_*_, _≤_};
 ghost use lib.ListN.{length};
 ghost use Rattle.outcome.specs.Outcome.{finding};
 ghost use Rattle.layout.specs.Layout.{blocksIn, runLength, fileLength, formOfFile};
+ghost use Rattle.layout.specs.Meaning.{meant};
 ghost use Rattle.run_check.specs.Run.{runCheck};
 ghost use Rattle.lent.specs.Lent.{written};
 ghost use Rattle.block.specs.Blocks.{partsOf};
@@ -54,9 +55,9 @@ fn join_parts(file: &[u8], n: usize, run: &mut [u8])
 // The data run of a file whose blocks are right, into the front of `run`. It is joined in `joined` first, since the check goes
 // over one stretch, and a refused file leaves the output alone.
 fn read_blocks(file: &[u8], form: Form, joined: &mut [u8], run: &mut [u8]) -> Check
-    requires { ⌜ (length (now file) ≡ fileLength form) × (length (now joined) ≡ runLength form) × (runLength form ≤ length (now run)) ⌝ }
-    ensures { λ r. ⌜ finding r ≡ runCheck (partsOf (blocksIn form) (now (file .entry))) ⌝ }
-    ensures { λ r. ⌜ now (run .exit) ≡ written (finding r) (partsOf (blocksIn form) (now (file .entry))) (now (run .entry)) ⌝ }
+    requires { ⌜ (length (now file) ≡ fileLength (meant form)) × (length (now joined) ≡ runLength (meant form)) × (runLength (meant form) ≤ length (now run)) ⌝ }
+    ensures { λ r. ⌜ finding r ≡ runCheck (partsOf (blocksIn (meant form)) (now (file .entry))) ⌝ }
+    ensures { λ r. ⌜ now (run .exit) ≡ written (finding r) (partsOf (blocksIn (meant form)) (now (file .entry))) (now (run .entry)) ⌝ }
 {
     join_parts(file, blocks_in(form), joined);
     let c = run_check::check_run(joined);

@@ -30,8 +30,9 @@ pub fn write_file(run: &[u8], file: &mut [u8]) -> Check
     ensures { λ r. ⌜ now (file .exit) ≡ written (finding r) (fileOf (now (run .entry))) (now (file .entry)) ⌝ }
 {
     let form = form_of_run(run.len());
+    let needed = file_length(form);
     let c = outcome::first_of(
-        lent::check_room(file_length(form), file.len()),
+        lent::check_room(needed, file.len()),
         run_check::check_run(run),
     );
     if let Check::Passed = c {

@@ -1,4 +1,4 @@
-// What the programs that run the cases of the reference model share: room for a history, and the lines they print.
+// What the programs that run the cases of the reference model share: room for a basis and a history, and the lines they print.
 ghost use mathlib.Core.Path.{_≡_};
 ghost use Prim.Native.Nat.{_≤_};
 ghost use lib.ListN.{length};
@@ -13,6 +13,13 @@ use reply_text::reply;
 
 // Nothing says that the input ends, so the cases are counted up to this number, which no run reaches.
 pub const MOST_CASES: u64 = 1_000_000_000_000_000;
+
+// Room for a file or a data run of either form, and for one that is too long.
+pub fn basis_room() -> [u8; 5200]
+    ensures { λ r. ⌜ 5200 ≡ length r ⌝ }
+{
+    [0; 5200]
+}
 
 // Room for the longest history, of 88 years.
 pub fn history_room() -> [u8; 90112]

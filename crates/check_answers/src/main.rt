@@ -1,15 +1,14 @@
 // Runs the cases of the reference model on the enquiries: all nine kinds, with every refusal.
 //
-// Standard input, all numbers little-endian: the number of bases (2 bytes), as many data runs; the bytes of
-// all histories together (4 bytes), and as many bytes, the history files one after the other; then cases to the end. A case
-// is its kind (1 byte: 0 improvement, 1 factor, 2 rate, then period and cohort: 3 and 4 survivorship, 5 and 6 expectation,
-// 7 and 8 annuity), the place of its basis (1), age, deferment and year (4 each), and where its history starts in those
-// bytes (4) and its length (4). A line a case: `value` and the number, or `refused` and the refusal's number and places.
+// Standard input, all numbers little-endian: the number of bytes that are lent (4 bytes), and as many bytes, data runs of either
+// form and history files one after the other; then cases to the end. A case is its kind (1 byte: 0 improvement, 1 factor, 2 rate,
+// then period and cohort: 3 and 4 survivorship, 5 and 6 expectation, 7 and 8 annuity), age, deferment and year (4 each), where its
+// data run starts in those bytes (4) and its length (4), and the same of its history. A line a case: `value` and the number, or
+// `refused` and the refusal's number and places.
 ghost use mathlib.Core.Path.{_≡_};
-ghost use Prim.Native.Nat.{_*_, _≤_};
+ghost use Prim.Native.Nat.{_≤_};
 ghost use lib.ListN.{length};
 ghost use lib.IntN.{natAbs};
-ghost use Rattle.layout.specs.Layout.{mpb1, runLength};
 use case_io::MOST_CASES;
 use libc::STDIN_FILENO;
 use outcome::Answer;
@@ -17,41 +16,26 @@ use outcome::Refusal;
 use outcome::SignedAnswer;
 use survivorship::Kind;
 
-// ---- the bases and the histories
-// Room for 64 data runs.
-const ROOM: usize = 64 * layout::RUN_LENGTH;
+// ---- what is lent
+// Room for the data runs and the histories.
+const ROOM: usize = 1_048_576;
 
 fn room() -> [u8; ROOM]
-    ensures { λ r. ⌜ 64 * runLength mpb1 ≡ length r ⌝ }
+    ensures { λ r. ⌜ 1048576 ≡ length r ⌝ }
 {
     [0; ROOM]
 }
 
-// Room for the histories.
-fn history_room() -> [u8; 262144]
-    ensures { λ r. ⌜ 262144 ≡ length r ⌝ }
-{
-    [0; 262144]
-}
-
-// Reads the number of bases and gives the bytes of as many, at most those there is room for.
+// Reads the number of bytes that are lent, at most those there is room for.
 fn read_length() -> u32 {
-    let mut bytes = [0u8; 2];
-    io::read_full(STDIN_FILENO, &mut bytes);
-    let bases = little_endian::read_u16(&bytes, 0);
-    if bases < 64 {
-        layout::RUN_LENGTH as u32 * bases
-    } else {
-        ROOM as u32
-    }
-}
-
-// Reads the number of bytes of the histories, at most those there is room for.
-fn read_history_length() -> u32 {
     let mut bytes = [0u8; 4];
     io::read_full(STDIN_FILENO, &mut bytes);
     let length = little_endian::read_u32(&bytes, 0);
-    if length < 262144 { length } else { 262144 }
+    if length < ROOM as u32 {
+        length
+    } else {
+        ROOM as u32
+    }
 }
 
 // A stretch of the bytes; where they have no such stretch, no bytes.
@@ -64,15 +48,6 @@ fn stretch(bytes: &[u8], start: usize, length: usize) -> &[u8]
     } else {
         &bytes[..0]
     }
-}
-
-// The data run at a place.
-fn run_at(runs: &[u8], place: u8) -> &[u8] {
-    stretch(
-        runs,
-        layout::RUN_LENGTH * (place as usize),
-        layout::RUN_LENGTH,
-    )
 }
 
 // ---- a case
@@ -145,40 +120,35 @@ fn run_case(run: &[u8], history: &[u8], kind: u8, age: u32, deferment: u32, year
 }
 
 // Reads a case and works it; false at the end of the input.
-fn next_case(runs: &[u8], histories: &[u8]) -> bool {
-    let mut asked = [0u8; 22];
-    if io::read_full(STDIN_FILENO, &mut asked) < 22 {
+fn next_case(lent: &[u8]) -> bool {
+    let mut asked = [0u8; 29];
+    if io::read_full(STDIN_FILENO, &mut asked) < 29 {
         return false;
     }
-    let age = little_endian::read_u32(&asked, 2);
-    let deferment = little_endian::read_u32(&asked, 6);
-    let year = little_endian::read_u32(&asked, 10);
-    let start = little_endian::read_u32(&asked, 14);
-    let length = little_endian::read_u32(&asked, 18);
-    let run = run_at(runs, asked[1]);
-    let history = stretch(histories, start as usize, length as usize);
+    let age = little_endian::read_u32(&asked, 1);
+    let deferment = little_endian::read_u32(&asked, 5);
+    let year = little_endian::read_u32(&asked, 9);
+    let start = little_endian::read_u32(&asked, 13);
+    let length = little_endian::read_u32(&asked, 17);
+    let history_start = little_endian::read_u32(&asked, 21);
+    let history_length = little_endian::read_u32(&asked, 25);
+    let run = stretch(lent, start as usize, length as usize);
+    let history = stretch(lent, history_start as usize, history_length as usize);
     run_case(run, history, asked[0], age, deferment, year);
     true
 }
 
-fn run_cases(runs: &[u8], histories: &[u8]) -> u64 {
+fn run_cases(lent: &[u8]) -> u64 {
     let mut cases: u64 = 0;
-    while cases < MOST_CASES && next_case(runs, histories) {
+    while cases < MOST_CASES && next_case(lent) {
         cases += 1;
     }
     cases
 }
 
-fn answer_cases(runs: &[u8], histories: &mut [u8]) {
-    io::read_full(STDIN_FILENO, histories);
-    case_io::print_named(b"cases ", run_cases(runs, histories));
-}
-
-fn work(runs: &mut [u8]) {
-    io::read_full(STDIN_FILENO, runs);
-    let mut space = history_room();
-    let length = io::count(read_history_length() as isize, &space);
-    answer_cases(runs, &mut space[..length]);
+fn work(lent: &mut [u8]) {
+    io::read_full(STDIN_FILENO, lent);
+    case_io::print_named(b"cases ", run_cases(lent));
 }
 
 fn main() {

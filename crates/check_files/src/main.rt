@@ -1,15 +1,17 @@
-// Runs the cases of the reference model on the basis: files read, data runs written and short forms made, with every
-// refusal.
+// Runs the cases of the reference model on the basis: files read, data runs written, in the old form too, and short forms made,
+// with every refusal.
 //
-// Standard input, all numbers little-endian: a file of 4,608 bytes, then cases to the end. A case is its kind (1 byte:
-// 0 read, 1 write, 2 short form), input length (2), output length (2), S (4), number of patches (2), and for each patch an offset (2)
-// and a byte (1). The input is the file for kind 0, else its data run, cut or extended with zero bytes to the input
-// length and then patched; the output is filled with place % 251. A line a case: the refusal's number and places, zeros
-// where there is none, and the sum of (place + 1) * byte over the output after the call.
+// Standard input, all numbers little-endian: a file of each form, of 4,608 and of 5,120 bytes, then cases to the end. A case is
+// its kind (1 byte: 0 read, 1 write, 2 short form, 3 write in the old form), its base (1: 0 for the first file), input length (2),
+// output length (2), S (4), number of patches (2), and for each patch an offset (2) and a byte (1). The input is the base's file
+// for kind 0, else its data run, cut or extended with zero bytes to the input length and then patched; the output is filled with
+// place % 251. A line a case: the refusal's number and places, zeros where there is none, and the sum of (place + 1) * byte over
+// the output after the call.
 ghost use mathlib.Core.Path.{_≡_};
 ghost use Prim.Native.Nat.{_≤_, _<_};
 ghost use lib.ListN.{length};
-ghost use Rattle.layout.specs.Layout.{mpb1, fileLength};
+ghost use Rattle.layout.specs.Layout.{mpb1, mpb2};
+ghost use Rattle.layout.specs.Layout.{fileLength};
 use basis_file::read;
 use basis_file::write;
 use case_io::MOST_CASES;
@@ -17,16 +19,16 @@ use libc::STDIN_FILENO;
 use outcome::Check;
 
 // ---- the input and the output of a case
-fn room() -> [u8; 5000]
-    ensures { λ r. ⌜ 5000 ≡ length r ⌝ }
-{
-    [0; 5000]
-}
-
-fn file_room() -> [u8; layout::FILE_LENGTH]
+fn old_file_room() -> [u8; layout::MPB1_FILE_LENGTH]
     ensures { λ r. ⌜ fileLength mpb1 ≡ length r ⌝ }
 {
-    [0; layout::FILE_LENGTH]
+    [0; layout::MPB1_FILE_LENGTH]
+}
+
+fn new_file_room() -> [u8; layout::MPB2_FILE_LENGTH]
+    ensures { λ r. ⌜ fileLength mpb2 ≡ length r ⌝ }
+{
+    [0; layout::MPB2_FILE_LENGTH]
 }
 
 fn byte_or_none(s: &[u8], i: usize) -> u8 {
@@ -35,7 +37,7 @@ fn byte_or_none(s: &[u8], i: usize) -> u8 {
 
 // A byte of the file, or of its data run, and 0 beyond the end.
 fn base_byte(file: &[u8], kind: u8, i: usize) -> u8
-    requires { ⌜ i < 5000 ⌝ }
+    requires { ⌜ i < 5200 ⌝ }
 {
     if kind == 0 {
         byte_or_none(file, i)
@@ -45,7 +47,7 @@ fn base_byte(file: &[u8], kind: u8, i: usize) -> u8
 }
 
 fn lay_base(file: &[u8], kind: u8, input: &mut [u8])
-    requires { ⌜ length (now input) ≤ 5000 ⌝ }
+    requires { ⌜ length (now input) ≤ 5200 ⌝ }
 {
     for i in 0..input.len() {
         input[i] = base_byte(file, kind, i);
@@ -76,13 +78,13 @@ fn fill(output: &mut [u8]) {
 
 // ---- a case
 fn weighed(place: usize, byte: u8) -> u32
-    requires { ⌜ place < 5000 ⌝ }
+    requires { ⌜ place < 5200 ⌝ }
 {
     (place as u32 + 1) * (byte as u32)
 }
 
 fn sum_of(output: &[u8]) -> u32
-    requires { ⌜ length (now output) ≤ 5000 ⌝ }
+    requires { ⌜ length (now output) ≤ 5200 ⌝ }
 {
     let mut sum: u32 = 0;
     for i in 0..output.len() {
@@ -110,50 +112,59 @@ fn answer(kind: u8, rate: i32, input: &[u8], output: &mut [u8]) -> Check {
     if kind == 1 {
         return write::write_file(input, output);
     }
+    if kind == 3 {
+        return old_form::write_old_form(input, output);
+    }
     short_form::short_form(input, rate, output)
 }
 
 fn work(file: &[u8], header: &[u8], input: &mut [u8], output: &mut [u8])
-    requires { ⌜ (length (now header) ≡ 11) × (length (now input) ≤ 5000) × (length (now output) ≤ 5000) ⌝ }
+    requires { ⌜ (length (now header) ≡ 12) × (length (now input) ≤ 5200) × (length (now output) ≤ 5200) ⌝ }
 {
     let kind = header[0];
     lay_base(file, kind, input);
-    patch_all(input, little_endian::read_u16(header, 9));
+    patch_all(input, little_endian::read_u16(header, 10));
     fill(output);
-    let c = answer(kind, little_endian::read_i32(header, 5), input, output);
+    let c = answer(kind, little_endian::read_i32(header, 6), input, output);
     print_answer(c, sum_of(output));
 }
 
 fn run_case(file: &[u8], header: &[u8])
-    requires { ⌜ length (now header) ≡ 11 ⌝ }
+    requires { ⌜ length (now header) ≡ 12 ⌝ }
 {
-    let mut input = room();
-    let mut output = room();
-    let given = io::count(little_endian::read_u16(header, 1) as isize, &input);
-    let lent = io::count(little_endian::read_u16(header, 3) as isize, &output);
+    let mut input = case_io::basis_room();
+    let mut output = case_io::basis_room();
+    let given = io::count(little_endian::read_u16(header, 2) as isize, &input);
+    let lent = io::count(little_endian::read_u16(header, 4) as isize, &output);
     work(file, header, &mut input[..given], &mut output[..lent]);
 }
 
-// Reads a case and works it; false at the end of the input.
-fn next_case(file: &[u8]) -> bool {
-    let mut header = [0u8; 11];
-    if io::read_full(STDIN_FILENO, &mut header) < 11 {
+// Reads a case and works it on its base; false at the end of the input.
+fn next_case(old: &[u8], new: &[u8]) -> bool {
+    let mut header = [0u8; 12];
+    if io::read_full(STDIN_FILENO, &mut header) < 12 {
         return false;
     }
-    run_case(file, &header);
+    if header[1] == 0 {
+        run_case(old, &header);
+    } else {
+        run_case(new, &header);
+    }
     true
 }
 
-fn run_cases(file: &[u8]) -> u64 {
+fn run_cases(old: &[u8], new: &[u8]) -> u64 {
     let mut cases: u64 = 0;
-    while cases < MOST_CASES && next_case(file) {
+    while cases < MOST_CASES && next_case(old, new) {
         cases += 1;
     }
     cases
 }
 
 fn main() {
-    let mut file = file_room();
-    io::read_full(STDIN_FILENO, &mut file);
-    case_io::print_named(b"cases ", run_cases(&file));
+    let mut old = old_file_room();
+    let mut new = new_file_room();
+    io::read_full(STDIN_FILENO, &mut old);
+    io::read_full(STDIN_FILENO, &mut new);
+    case_io::print_named(b"cases ", run_cases(&old, &new));
 }

@@ -5,18 +5,9 @@
 // and a number of steps (4 each). Nine lines for the tables of a case, in the order in which they stand: the number of bytes handed
 // back, the sum of these bytes, and the sum of those sums, byte by byte. Then a line for each lifeline, n steps from its start: age, year and
 // survivors.
-ghost use mathlib.Core.Path.{_≡_};
-ghost use lib.ListN.{length};
 use case_io::MOST_CASES;
 use libc::STDIN_FILENO;
 use tables::Table;
-
-// Room for a data run that is too long.
-fn run_room() -> [u8; 5000]
-    ensures { λ r. ⌜ 5000 ≡ length r ⌝ }
-{
-    [0; 5000]
-}
 
 // ---- the tables
 fn wide(b: u8) -> u32 {
@@ -88,7 +79,7 @@ fn next_case() -> bool {
     if io::read_full(STDIN_FILENO, &mut head) < 8 {
         return false;
     }
-    let mut run = run_room();
+    let mut run = case_io::basis_room();
     let mut history = case_io::history_room();
     let given = io::count(little_endian::read_u32(&head, 0) as isize, &run);
     let lent = io::count(little_endian::read_u32(&head, 4) as isize, &history);

@@ -1,7 +1,7 @@
 // Runs the year sweep on the bases of the reference model, from B through 2260 and a step beyond.
 //
-// Standard input, all numbers little-endian: cases to the end. A case is the number of bytes of its history (4 bytes), its
-// data run and its history file. A line a state: the year, and the sum of age × number over the ages from 20
+// Standard input, all numbers little-endian: cases to the end. A case is the number of bytes of its data run (4 bytes) and of its
+// history (4), the data run and the history file. A line a state: the year, and the sum of age × number over the ages from 20
 // to 150, the number being the factor, or for a refusal 4 × U + 10,000 × its number + its year. A refused basis has the
 // line of its refusal alone.
 ghost use mathlib.Core.Path.{_≡_};
@@ -69,19 +69,20 @@ fn sweep_case(run: &[u8], history: &[u8]) {
 
 // Reads a case and works it; false at the end of the input.
 fn next_case() -> bool {
-    let mut head = [0u8; 4];
-    if io::read_full(STDIN_FILENO, &mut head) < 4 {
+    let mut head = [0u8; 8];
+    if io::read_full(STDIN_FILENO, &mut head) < 8 {
         return false;
     }
-    let mut run = [0u8; layout::RUN_LENGTH];
-    io::read_full(STDIN_FILENO, &mut run);
-    let mut space = case_io::history_room();
-    let length = io::count(little_endian::read_u32(&head, 0) as isize, &space);
-    read_history(&run, &mut space[..length]);
+    let mut run = case_io::basis_room();
+    let mut history = case_io::history_room();
+    let given = io::count(little_endian::read_u32(&head, 0) as isize, &run);
+    let lent = io::count(little_endian::read_u32(&head, 4) as isize, &history);
+    read_case(&mut run[..given], &mut history[..lent]);
     true
 }
 
-fn read_history(run: &[u8], history: &mut [u8]) {
+fn read_case(run: &mut [u8], history: &mut [u8]) {
+    io::read_full(STDIN_FILENO, run);
     io::read_full(STDIN_FILENO, history);
     sweep_case(run, history);
 }

@@ -27,6 +27,9 @@ use Rattle.lifeline.proofs.Survivorship.{is-cohort-survivorship}
 use Rattle.enquiry_text.proofs.Says.{line-says}
 use Rattle.figures.proofs.Computed.{figures-hold}
 use Rattle.history.specs.History.{basisWith, runAndHistoryCheck}
+use Rattle.old_form.specs.OldForm.{writeOldCheck, oldFileOf}
+use Rattle.old_form.proofs.Forms.{forms}
+use Rattle.both_forms.proofs.Forms.{both-forms}
 use Rattle.short_form.specs.ShortForm.{shortFormOf, shortCheck}
 use Rattle.sweep.proofs.Steps.{each-step}
 use Rattle.sweep.proofs.Fixed.{encoding-is-fixed}
@@ -119,6 +122,7 @@ module _ (run history : List ℕ) where
         readUnchanged = λ file out r h. unchanged (readCheck file out) (runIn file) out r h;
         writeUnchanged = λ out r h. unchanged (writeCheck run out) (fileOf run) out r h;
         shortFormUnchanged = λ rate out r h. unchanged (shortCheck run rate out) (shortFormOf run rate) out r h;
+        oldFormUnchanged = λ out r h. unchanged (writeOldCheck run out) (oldFileOf run) out r h;
         gridUnchanged = grid-unchanged;
         lifelineUnchanged = line-unchanged;
         openUnchanged = λ year roll r h. left-alone roll (openedRoll year roll) r h;
@@ -150,6 +154,8 @@ module _ (run history : List ℕ) where
         encodingIsFixed = encoding-is-fixed;
         factorTableIsFixed = factor-table-is-fixed;
         roundTrips = round-trips;
+        forms = forms;
+        bothForms = both-forms;
         historyAccepted = history-acceptance;
         actualAnswered = actual-answered run history;
         edges = edges;

@@ -17,6 +17,7 @@ use Rattle.basis_file.specs.File.{runIn, fileOf, readCheck, writeCheck}
 use Rattle.basis_file.specs.RoundTrips.{RoundTrips}
 use Rattle.history.specs.History.{basisWith, runAndHistoryCheck}
 use Rattle.history.specs.Accepted.{HistoryAcceptance}
+use Rattle.old_form.specs.OldForm.{writeOldCheck, oldFileOf, Forms}
 use Rattle.short_form.specs.ShortForm.{shortFormOf, shortCheck, ShortFormStands}
 use Rattle.component.specs.PerCent.{WeightInPerCent}
 use Rattle.improvement.specs.Improvement.{firstYear, improvementOf, improvementNeeded}
@@ -47,6 +48,7 @@ use Rattle.roll.specs.Roll.{joinCheck, liabilityOf, liabilityOn, liabilityJoini
 use Rattle.roll.specs.Kept.{rollCheck, numbersIn, openedRoll, joinedRoll, leftRoll, totalSaid, rollBy, rollAfter}
 use Rattle.roll.specs.Totals.{RunningTotal, FurtherKept}
 use Rattle.enquiry_text.specs.Said.{LineSays}
+use Rattle.both_forms.specs.SameAnswers.{BothForms}
 use Rattle.figures.specs.Figures.{FiguresHold}
 use Rattle.engine.specs.Enquiry.{answerOf}
 use Rattle.refusals.specs.Numbered.{workOn, NumberedRefusals, ZeroIsNone}
@@ -77,11 +79,12 @@ pub record Demand1 (run history : List ℕ) : Type 0 where
   pub zeroIsNone : ZeroIsNone
   -- "checks all it is given"
   pub checked : (r : Refusal) → runAndHistoryCheck run history ≡ refusedBy r → RefusedThroughout run history r
-  -- "and on a refusal writes no byte of lent output": reading, writing, the short form, the grid; and a lifeline is left unchanged
+  -- "and on a refusal writes no byte of lent output": reading, writing in its own form and in the old one, the short form, the grid; and a lifeline is left unchanged
   pub readUnchanged : (file out : List ℕ) (r : Refusal) → readCheck file out ≡ refusedBy r → written (readCheck file out) (runIn file) out ≡ out
   pub writeUnchanged : (out : List ℕ) (r : Refusal) → writeCheck run out ≡ refusedBy r → written (writeCheck run out) (fileOf run) out ≡ out
   pub shortFormUnchanged : (rate : ℤ) (out : List ℕ) (r : Refusal) → shortCheck run rate out ≡ refusedBy r
       → written (shortCheck run rate out) (shortFormOf run rate) out ≡ out
+  pub oldFormUnchanged : (out : List ℕ) (r : Refusal) → writeOldCheck run out ≡ refusedBy r → written (writeOldCheck run out) (oldFileOf run) out ≡ out
   pub gridUnchanged : (points : List Point) (r : Refusal) → gridCheck run history (length points) ≡ refusedBy r → gridOf run history points ≡ points
   pub lifelineUnchanged : (p : Position) (r : Refusal) → stepAt run history p .says ≡ refused r → stepAt run history p .position ≡ p
   -- "A refused call leaves the roll unchanged" (02, change 6), whatever stands in the list
@@ -95,7 +98,7 @@ pub record Demand1 (run history : List ℕ) : Type 0 where
 
 -- ---- Demand 2
 pub record Demand2 (run history : List ℕ) : Type 0 where
-  -- the offsets and lengths of a data run and a file are those of 01's table
+  -- the offsets and lengths of a data run and a file are those of 01's table, and of 02, change 7
   pub offsets : Printed
   -- "Outside the refusal conditions every enquiry is answered": 1, 4 and 5 refuse every run that is not accepted, and no other
   pub runAccepted : runCheck run ≡ passed → Accepted run
@@ -155,6 +158,10 @@ pub record Demand2 (run history : List ℕ) : Type 0 where
   pub factorTableIsFixed : FactorTableIsFixed
   -- "A basis read and written back is the same file; written and read back, the same basis"
   pub roundTrips : RoundTrips
+  -- what is written in the old form reads back as a run that stands for the same basis (02, change 7)
+  pub forms : Forms
+  -- and a basis of either form answers as that of the other form with the same fields does, whatever is asked
+  pub bothForms : BothForms
 
 -- ---- Demand 3, "Where no exact improvement taken into the answer is below zero, the answer lies within the paper's distances of the exact,
 -- unrounded model", is `Demand3` in crates/exact/specs/Distance.antt; `HandedOut` carries it to what a host is handed

@@ -9,7 +9,7 @@ use Rattle.outcome.specs.declared.Refusal.{Refusal}
 use Rattle.basis.specs.Basis.{Basis}
 use Rattle.basis_file.specs.File.{runIn}
 use Rattle.outcome.specs.Outcome.{passed, refusedBy, finding}
-use Rattle.layout.specs.Layout.{mpb1, runLength}
+use Rattle.layout.specs.Layout.{runLength, formOfFile}
 use Rattle.history.specs.History.{basisWith}
 use Rattle.reply_text.specs.Reply.{headerLine}
 use Rattle.enquiry_lines.specs.Lines.{ended, unfinished, lastLine, linesOf, replies}
@@ -33,11 +33,11 @@ last-reply {basis} {text} {r = r} a =
     ap (λ l. replies basis 1 (ended [] text) ++ l) last ∙ sym (replies-parts basis 1 (ended [] text) (lastLine u))
 
 module _ {file history room out run after : List ℕ} {r : Opening} (o : Opened file history room out run after r) (text : List ℕ) where
-  pub accepted-output : length room ≡ runLength mpb1 → finding (r .check) ≡ passed →
-      printed (filesCheck file history) [] ++ replies (basisWith run history) 1 (linesOf text) ≡ outputOf file history text
+  pub accepted-output : finding (r .check) ≡ passed → (n : ℕ) → n ≡ runLength (formOfFile (length file)) →
+      printed (filesCheck file history) [] ++ replies (basisWith (take n run) history) 1 (linesOf text) ≡ outputOf file history text
   unfolding outputOf
-  accepted-output l h =
-      rw (opened-run o l h, files-passed o l h) (ap (λ line. line ++ replies (basisWith (runIn file) history) 1 (linesOf text)) (append-nil headerLine))
+  accepted-output h n k =
+      rw (opened-run o h n k, files-passed o h) (ap (λ line. line ++ replies (basisWith (runIn file) history) 1 (linesOf text)) (append-nil headerLine))
 
   pub refused-output : (x : Refusal) → finding (r .check) ≡ refusedBy x → printed (filesCheck file history) [] ≡ outputOf file history text
   unfolding outputOf

@@ -8,6 +8,7 @@ ghost use Rattle.enquiry_lines.specs.State.{emptyAfter, replyRoom, Ready
 use crate::Fed;
 use crate::lines;
 use crate::open_basis;
+use basis_file::read;
 use factor_table::TABLE_LENGTH;
 use outcome::Check;
 
@@ -53,15 +54,16 @@ pub fn output(file: &[u8], history: &[u8], text: &[u8], lengths: &[usize], out: 
     requires { ⌜ replyRoom * (length (now text) + 2) ≤ length (now out) ⌝ }
     ensures { λ r. ⌜ Put (now (out .entry)) 0 (outputOf (now (file .entry)) (now (history .entry)) (now (text .entry))) (now (out .exit)) r ⌝ }
 {
-    let mut run = [0u8; layout::RUN_LENGTH];
+    let mut room = [0u8; layout::MPB2_RUN_LENGTH];
     let mut table = [0u32; TABLE_LENGTH];
-    let o = open_basis::open_files(file, history, &mut run, out);
+    let o = open_basis::open_files(file, history, &mut room, out);
     let at = o.at;
     let check = o.check;
     let Check::Passed = check else {
         return at;
     };
-    factor_table::fill_table(&run, history, &mut table);
-    let f = feed_parts(&run, history, &table, text, lengths, out, at);
-    lines::finish(&run, history, &table, f.pending, out, f.at)
+    let run = &room[..read::length_needed(file)];
+    factor_table::fill_table(run, history, &mut table);
+    let f = feed_parts(run, history, &table, text, lengths, out, at);
+    lines::finish(run, history, &table, f.pending, out, f.at)
 }

@@ -7,12 +7,15 @@ use native.Mathlib.Omega.{arith}
 use lib.IntN.{ℤ, pos, negsuc, natAbs}
 use lib.ListN.{length, drop, getD, replicate, length-replicate, length-append, getD-replicate, List·getD-append}
 use lib.Seq.{drop-drop, drop-at, getD-drop}
-use Rattle.layout.specs.Layout.{mpb1, runLength, rateLimit, additionAt, discountAt, baseRatesAt}
+use Rattle.layout.specs.Layout.{mpb1}
+use Rattle.layout.specs.Layout.{hundredthsOf, formOfRun, runLength, fieldsEnd, rateLimit, additionAt, discountAt, baseRatesAt}
 use Rattle.layout.specs.Layout.{ageInitialRatesAt, ageLongTermRatesAt, agePeriodsAt, ageProportionsAt}
 use Rattle.layout.specs.Layout.{birthYearInitialRatesAt, birthYearLongTermRatesAt, birthYearPeriodsAt, birthYearProportionsAt}
 use Rattle.little_endian.specs.Bytes.{i32At, signed32}
 use Rattle.basis.specs.declared.Convergence.{Convergence}
 use Rattle.basis.specs.Basis.{Basis, basisOf, ConvergenceLimits, Accepted}
+use Rattle.layout.proofs.EachForm.{of-run}
+use Rattle.basis.proofs.Places.{age-place, birth-year-place}
 use Rattle.component.specs.Component.{componentOf, terms}
 use Rattle.history.specs.History.{basisWith}
 use Rattle.improvement.specs.Improvement.{additionOf, componentsOf}
@@ -86,6 +89,14 @@ from-birth-year-periods = next from-birth-year-long-term-rates
 from-birth-year-proportions : Stretch worseRun (birthYearProportionsAt mpb1) 269 100 []
 from-birth-year-proportions = next from-birth-year-periods
 
+-- ---- its form
+size : length worseRun ≡ runLength mpb1
+unfolding worseRun worseFields worseTables
+size = simp length-times refl
+
+its-form : formOfRun (length worseRun) ≡ mpb1
+its-form = of-run mpb1 (length worseRun) size
+
 -- ---- its fields
 -- a word within a stretch
 word : {run s : List ℕ} {at n x : ℕ} → Stretch run at n x s → (i : ℕ) → at ≤ i → i + 4 ≤ at + n
@@ -120,6 +131,7 @@ unfolding basisOf
 base-rate-is age low high =
     let i = baseRatesAt + 4 * (age - 20) in
     rw (
+      age-place age high,
       within from-base-rates i (omega arith) (omega arith),
       within from-base-rates (i + 1) (omega arith) (omega arith),
       within from-base-rates (i + 2) (omega arith) (omega arith),
@@ -130,26 +142,28 @@ base-rate-is age low high =
 terms-are : {i l : ℤ} {t p : ℕ} (i′ l′ : ℤ) (t′ p′ : ℕ) → i ≡ i′ → l ≡ l′ → t ≡ t′ → p ≡ p′ → terms i l t p ≡ terms i′ l′ t′ p′
 terms-are i l t p e f g h = rw (e, f, g, h) refl
 
-in-hundredths : {byte p : ℕ} → byte ≡ p → mpb1 .hundredths * byte ≡ mpb1 .hundredths * p
-in-hundredths e = ap (λ k. mpb1 .hundredths * k) e
+in-hundredths : {byte p : ℕ} → byte ≡ p → hundredthsOf mpb1 * byte ≡ hundredthsOf mpb1 * p
+in-hundredths e = ap (λ k. hundredthsOf mpb1 * k) e
 
 by-age-is : (age : ℕ) → 20 ≤ age → age ≤ 150 → basisOf worseRun .byAge age ≡ terms (pos 0) (pos 0) 50 10_000
 unfolding basisOf signed32
 by-age-is age low high =
     let place = age - 20 in
-    terms-are _ _ _ _ (word from-age-rates (ageInitialRatesAt + 4 * place) (omega arith) (omega arith))
+    rw (its-form, age-place age high)
+    (terms-are _ _ _ _ (word from-age-rates (ageInitialRatesAt + 4 * place) (omega arith) (omega arith))
     (word from-age-rates (ageLongTermRatesAt + 4 * place) (omega arith) (omega arith))
     (within from-age-periods (agePeriodsAt + 1 * place) (omega arith) (omega arith))
-    (in-hundredths (within from-age-proportions (ageProportionsAt + 1 * place) (omega arith) (omega arith)))
+    (in-hundredths (within from-age-proportions (ageProportionsAt + 1 * place) (omega arith) (omega arith))))
 
 -- a birth year's terms from its initial rate
 by-birth-year-is : (year : ℕ) → 1842 ≤ year → year ≤ 2110 → (z : ℤ) → i32At worseRun (birthYearInitialRatesAt mpb1 + 4 * (year - 1842)) ≡ z
     → basisOf worseRun .byBirthYear year ≡ terms z (pos 0) 50 10_000
 unfolding basisOf signed32
 by-birth-year-is year low high z e =
-    terms-are _ _ _ _ e (word from-birth-year-long-term-rates (birthYearLongTermRatesAt mpb1 + 4 * (year - 1842)) (omega arith) (omega arith))
+    rw (its-form, birth-year-place year high)
+    (terms-are _ _ _ _ e (word from-birth-year-long-term-rates (birthYearLongTermRatesAt mpb1 + 4 * (year - 1842)) (omega arith) (omega arith))
     (within from-birth-year-periods (birthYearPeriodsAt mpb1 + 1 * (year - 1842)) (omega arith) (omega arith))
-    (in-hundredths (within from-birth-year-proportions (birthYearProportionsAt mpb1 + 1 * (year - 1842)) (omega arith) (omega arith)))
+    (in-hundredths (within from-birth-year-proportions (birthYearProportionsAt mpb1 + 1 * (year - 1842)) (omega arith) (omega arith))))
 
 earlier : (year : ℕ) → 1842 ≤ year → year < 1949 → i32At worseRun (birthYearInitialRatesAt mpb1 + 4 * (year - 1842)) ≡ negsuc 0
 unfolding signed32
@@ -178,10 +192,6 @@ born-1950 : basisOf worseRun .byBirthYear 1950 ≡ terms (pos 1) (pos 0) 50 10_0
 born-1950 = by-birth-year-is 1950 (omega arith) (omega arith) (pos 1) (one from-1950 (next from-1950))
 
 -- ---- it is accepted
-size : length worseRun ≡ runLength mpb1
-unfolding worseRun worseFields worseTables
-size = simp length-times refl
-
 small : (z : ℤ) → natAbs z ≤ rateLimit → ConvergenceLimits (terms z (pos 0) 50 10_000)
 small z h = record { initial = h; long = omega arith; period-low = omega arith; period-high = omega arith; remaining = omega arith }
 
@@ -201,9 +211,10 @@ worse-accepted : Accepted worseRun
 unfolding worseRun
 worse-accepted =
     record {
-      size = size;
-      mark = refl;
+      size = rw its-form size;
+      mark = rw its-form refl;
       zeros = λ at low high. within from-addition at (omega arith) (omega arith);
+      lastZeros = λ at low high. let l : fieldsEnd mpb1 ≤ at = rw its-form at low in absurd (omega (arith, size, l));
       limits =
           record {
             foundation-low = omega (arith, foundation-is);

@@ -2,41 +2,41 @@
 use mathlib.Core.Path.{_≡_, refl, ap, _∙_}
 use Prim.Native.Nat.{ℕ, _≤_}
 use native.Mathlib.Omega.{arith}
-use Rattle.layout.specs.declared.Form.{Form}
-use Rattle.layout.specs.declared.Form.the-variants.{Mpb1, Mpb2}
+use Rattle.layout.specs.Layout.{Form}
+use Rattle.layout.specs.Layout.{mpb1, mpb2}
 use Rattle.layout.specs.Layout.{widthOf, proportionOf, runLength, fileLength, fieldsEnd, formOfRun, formOfFile}
 
 pub width-low : (form : Form) → 1 ≤ widthOf (proportionOf form)
-width-low Mpb1 = omega arith
-width-low Mpb2 = omega arith
+width-low mpb1 = omega arith
+width-low mpb2 = omega arith
 
 pub width-high : (form : Form) → widthOf (proportionOf form) ≤ 2
-width-high Mpb1 = omega arith
-width-high Mpb2 = omega arith
+width-high mpb1 = omega arith
+width-high mpb2 = omega arith
 
 pub fields-inside : (form : Form) → fieldsEnd form ≤ runLength form
-fields-inside Mpb1 = omega arith
-fields-inside Mpb2 = omega arith
+fields-inside mpb1 = omega arith
+fields-inside mpb2 = omega arith
 
 -- no run is longer than one of MPB2, and no accepted one shorter than one of MPB1
 pub run-low : (form : Form) → 4554 ≤ runLength form
-run-low Mpb1 = omega arith
-run-low Mpb2 = omega arith
+run-low mpb1 = omega arith
+run-low mpb2 = omega arith
 
 pub run-high : (form : Form) → runLength form ≤ 5060
-run-high Mpb1 = omega arith
-run-high Mpb2 = omega arith
+run-high mpb1 = omega arith
+run-high mpb2 = omega arith
 
 -- ---- the form that a length tells
 pub own-run : (form : Form) → formOfRun (runLength form) ≡ form
 unfolding formOfRun
-own-run Mpb1 = refl
-own-run Mpb2 = refl
+own-run mpb1 = refl
+own-run mpb2 = refl
 
 pub own-file : (form : Form) → formOfFile (fileLength form) ≡ form
 unfolding formOfFile
-own-file Mpb1 = refl
-own-file Mpb2 = refl
+own-file mpb1 = refl
+own-file mpb2 = refl
 
 pub of-run : (form : Form) (n : ℕ) → n ≡ runLength form → formOfRun n ≡ form
 of-run form n h = ap formOfRun h ∙ own-run form

@@ -7,8 +7,6 @@ use lib.IntN.{ℤ, pos, negℤ, natAbs}
 use Rattle.little_endian.specs.Bytes.{byteAt, u16At, u32At, i32At, u16Bytes, u32Bytes, i32Bytes}
 use Rattle.layout.specs.declared.Number.{Number}
 use Rattle.layout.specs.declared.Number.the-variants.{Byte, Half, Word, SignedWord}
-use Rattle.layout.specs.declared.Form.{Form}
-use Rattle.layout.specs.declared.Form.the-variants.{Mpb1, Mpb2}
 
 -- ---- the kinds of number
 abbrev pub widthOf : Number → ℕ
@@ -36,30 +34,34 @@ bytesOf Word n = u32Bytes (natAbs n)
 bytesOf SignedWord n = i32Bytes n
 
 -- ---- the form of a data run and of its file, MPB1 or MPB2 (02, change 7)
+pub data Form : Type 0 where
+  mpb1 : Form
+  mpb2 : Form
+
 -- the last letter of its mark, 1 or 2
 abbrev pub letterOf : Form → ℕ
-letterOf Mpb1 = 49
-letterOf Mpb2 = 50
+letterOf mpb1 = 49
+letterOf mpb2 = 50
 
 -- the kind of number of P
 abbrev pub proportionOf : Form → Number
-proportionOf Mpb1 = Byte
-proportionOf Mpb2 = Half
+proportionOf mpb1 = Byte
+proportionOf mpb2 = Half
 
 -- how many hundredths of a per cent one of its P counts
 abbrev pub hundredthsOf : Form → ℕ
-hundredthsOf Mpb1 = 100
-hundredthsOf Mpb2 = 1
+hundredthsOf mpb1 = 100
+hundredthsOf mpb2 = 1
 
 -- its greatest P, in that counting
 abbrev pub greatestOf : Form → ℕ
-greatestOf Mpb1 = 150
-greatestOf Mpb2 = 15_000
+greatestOf mpb1 = 150
+greatestOf mpb2 = 15_000
 
 -- the blocks of its file
 abbrev pub blocksIn : Form → ℕ
-blocksIn Mpb1 = 9
-blocksIn Mpb2 = 10
+blocksIn mpb1 = 9
+blocksIn mpb2 = 10
 
 -- 506 of the 512 bytes of a block are data
 abbrev pub runLength : Form → ℕ
@@ -70,10 +72,10 @@ fileLength form = 512 * blocksIn form
 
 -- the form that the length of a data run tells, and the form that the length of a file tells; any other length counts as MPB1's
 unfoldable pub formOfRun : ℕ → Form
-formOfRun length = cond (eqb length (runLength Mpb2)) Mpb2 Mpb1
+formOfRun length = cond (eqb length (runLength mpb2)) mpb2 mpb1
 
 unfoldable pub formOfFile : ℕ → Form
-formOfFile length = cond (eqb length (fileLength Mpb2)) Mpb2 Mpb1
+formOfFile length = cond (eqb length (fileLength mpb2)) mpb2 mpb1
 
 -- the letters MPB, and the form's own
 abbrev pub markOf : Form → List ℕ

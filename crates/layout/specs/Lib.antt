@@ -1,2 +1,3 @@
 pub mod Layout
+pub mod Meaning
 pub mod Printed

@@ -2,8 +2,8 @@
 -- of a basis.
 use Prim.Native.Nat.{_*_, _-_}
 use mathlib.Core.Path.{_≡_}
-use Rattle.layout.specs.declared.Form.{Form}
-use Rattle.layout.specs.declared.Form.the-variants.{Mpb1, Mpb2}
+use Rattle.layout.specs.Layout.{Form}
+use Rattle.layout.specs.Layout.{mpb1, mpb2}
 use Rattle.layout.specs.Layout.{hundredthsOf, greatestOf, runLength, fileLength, fieldsEnd, greatestProportion}
 use Rattle.layout.specs.Layout.{ageInitialRatesAt, ageLongTermRatesAt, agePeriodsAt, ageProportionsAt}
 use Rattle.layout.specs.Layout.{birthYearInitialRatesAt, birthYearLongTermRatesAt, birthYearPeriodsAt, birthYearProportionsAt}
@@ -15,20 +15,20 @@ pub record Printed : Type 0 where
   pub agePeriods : agePeriodsAt ≡ 1602
   pub ageProportions : ageProportionsAt ≡ 1733
   -- of MPB1, whose fields fill the run
-  pub birthYearInitialRates : birthYearInitialRatesAt Mpb1 ≡ 1864
-  pub birthYearLongTermRates : birthYearLongTermRatesAt Mpb1 ≡ 2940
-  pub birthYearPeriods : birthYearPeriodsAt Mpb1 ≡ 4016
-  pub birthYearProportions : birthYearProportionsAt Mpb1 ≡ 4285
-  pub fieldsFill : fieldsEnd Mpb1 ≡ runLength Mpb1
-  pub dataRun : runLength Mpb1 ≡ 4554
-  pub file : fileLength Mpb1 ≡ 4608
+  pub birthYearInitialRates : birthYearInitialRatesAt mpb1 ≡ 1864
+  pub birthYearLongTermRates : birthYearLongTermRatesAt mpb1 ≡ 2940
+  pub birthYearPeriods : birthYearPeriodsAt mpb1 ≡ 4016
+  pub birthYearProportions : birthYearProportionsAt mpb1 ≡ 4285
+  pub fieldsFill : fieldsEnd mpb1 ≡ runLength mpb1
+  pub dataRun : runLength mpb1 ≡ 4554
+  pub file : fileLength mpb1 ≡ 4608
   -- of MPB2, each P byte replaced by two
-  pub finerBirthYearInitialRates : birthYearInitialRatesAt Mpb2 ≡ 1995
-  pub finerBirthYearLongTermRates : birthYearLongTermRatesAt Mpb2 ≡ 3071
-  pub finerBirthYearPeriods : birthYearPeriodsAt Mpb2 ≡ 4147
-  pub finerBirthYearProportions : birthYearProportionsAt Mpb2 ≡ 4416
-  pub finerFieldsEnd : fieldsEnd Mpb2 ≡ 4954
-  pub finerDataRun : runLength Mpb2 ≡ 5060
-  pub finerFile : fileLength Mpb2 ≡ 5120
+  pub finerBirthYearInitialRates : birthYearInitialRatesAt mpb2 ≡ 1995
+  pub finerBirthYearLongTermRates : birthYearLongTermRatesAt mpb2 ≡ 3071
+  pub finerBirthYearPeriods : birthYearPeriodsAt mpb2 ≡ 4147
+  pub finerBirthYearProportions : birthYearProportionsAt mpb2 ≡ 4416
+  pub finerFieldsEnd : fieldsEnd mpb2 ≡ 4954
+  pub finerDataRun : runLength mpb2 ≡ 5060
+  pub finerFile : fileLength mpb2 ≡ 5120
   -- 150 per cent
   pub proportionLimit : (form : Form) → hundredthsOf form * greatestOf form ≡ greatestProportion

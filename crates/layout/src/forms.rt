@@ -1,13 +1,13 @@
 // What each form has of its own, and the form that a length tells.
 ghost use mathlib.Core.Path.{_≡_};
 ghost use lib.IntN.{pos};
-ghost use Rattle.layout.specs.Layout.{letterOf, proportionOf, blocksIn, runLength, fileLength, formOfRun, formOfFile};
+ghost use Rattle.layout.specs.Layout.{letterOf, blocksIn, runLength, fileLength, formOfRun, formOfFile};
+ghost use Rattle.layout.specs.Meaning.{meant};
 use crate::Form;
-use crate::Number;
 
 // The last letter of its mark.
 pub fn letter_of(form: Form) -> i64
-    ensures { λ r. ⌜ r ≡ pos (letterOf form) ⌝ }
+    ensures { λ r. ⌜ r ≡ pos (letterOf (meant form)) ⌝ }
 {
     match form {
         Form::Mpb1 => 49,
@@ -15,19 +15,9 @@ pub fn letter_of(form: Form) -> i64
     }
 }
 
-// The kind of number of P.
-pub fn proportion_of(form: Form) -> Number
-    ensures { λ r. ⌜ r ≡ proportionOf form ⌝ }
-{
-    match form {
-        Form::Mpb1 => Number::Byte,
-        Form::Mpb2 => Number::Half,
-    }
-}
-
 // The blocks of its file.
 pub fn blocks_in(form: Form) -> usize
-    ensures { λ r. ⌜ r ≡ blocksIn form ⌝ }
+    ensures { λ r. ⌜ r ≡ blocksIn (meant form) ⌝ }
 {
     match form {
         Form::Mpb1 => crate::MPB1_BLOCKS,
@@ -36,7 +26,7 @@ pub fn blocks_in(form: Form) -> usize
 }
 
 pub fn run_length(form: Form) -> usize
-    ensures { λ r. ⌜ r ≡ runLength form ⌝ }
+    ensures { λ r. ⌜ r ≡ runLength (meant form) ⌝ }
 {
     match form {
         Form::Mpb1 => crate::MPB1_RUN_LENGTH,
@@ -45,7 +35,7 @@ pub fn run_length(form: Form) -> usize
 }
 
 pub fn file_length(form: Form) -> usize
-    ensures { λ r. ⌜ r ≡ fileLength form ⌝ }
+    ensures { λ r. ⌜ r ≡ fileLength (meant form) ⌝ }
 {
     match form {
         Form::Mpb1 => crate::MPB1_FILE_LENGTH,
@@ -55,7 +45,7 @@ pub fn file_length(form: Form) -> usize
 
 // The form that the length of a data run tells; any other length counts as the old form's.
 pub fn form_of_run(length: usize) -> Form
-    ensures { λ r. ⌜ r ≡ formOfRun length ⌝ }
+    ensures { λ r. ⌜ meant r ≡ formOfRun length ⌝ }
 {
     if length == crate::MPB2_RUN_LENGTH {
         Form::Mpb2
@@ -66,7 +56,7 @@ pub fn form_of_run(length: usize) -> Form
 
 // The same of a file.
 pub fn form_of_file(length: usize) -> Form
-    ensures { λ r. ⌜ r ≡ formOfFile length ⌝ }
+    ensures { λ r. ⌜ meant r ≡ formOfFile length ⌝ }
 {
     if length == crate::MPB2_FILE_LENGTH {
         Form::Mpb2

@@ -1,0 +1,12 @@
+mod Parts
+mod Numbers
+mod Proportions
+mod Laying
+pub mod SameBasis
+mod Own
+mod Turns
+mod Placing
+mod Checking
+mod Writing
+pub mod Forms
+pub mod Numbered

@@ -1,15 +1,17 @@
 -- A basis in another form (02, change 7): the same fields, with each P as that form counts it. Writing in the old form refuses a P that is
 -- no whole per cent (17).
-use Prim.Native.Nat.{ℕ, zero, suc, _+_, _*_, _-_, _%_}
+use Prim.Native.Nat.{ℕ, zero, suc, _+_, _*_, _-_, _%_, _<_, _≤_}
 use mathlib.Core.Path.{_≡_}
+use mathlib.Core.Bool.{Bool}
 use mathlib.Core.List.{List, [], _++_}
 use lib.Dec.{eqb}
 use lib.ListN.{length, take, drop, replicate}
+use Rattle.little_endian.specs.Bytes.{byteAt}
 use Rattle.outcome.specs.Outcome.{Finding, passed, refusal, unless, firstOf}
-use Rattle.layout.specs.declared.Form.{Form}
-use Rattle.layout.specs.declared.Form.the-variants.{Mpb1, Mpb2}
+use Rattle.layout.specs.Layout.{Form}
+use Rattle.layout.specs.Layout.{mpb1, mpb2}
 use Rattle.layout.specs.Layout.{widthOf, proportionOf, proportionAt, proportionBytes, formOfRun, runLength, fileLength, markOf, fieldsEnd}
-use Rattle.layout.specs.Layout.{ages, birthYears, foundationAt, ageProportionsAt, birthYearInitialRatesAt, birthYearProportionsAt}
+use Rattle.layout.specs.Layout.{ages, birthYears, foundationAt, ageProportionsAt, birthYearInitialRatesAt, birthYearProportionsAt, greatestProportion}
 use Rattle.lent.specs.Lent.{roomCheck}
 use Rattle.basis.specs.Basis.{basisOf}
 use Rattle.run_check.specs.Run.{runCheck}
@@ -22,26 +24,41 @@ proportionsIn form run offset place zero = []
 proportionsIn form run offset place (suc n) =
     proportionBytes form (proportionAt (formOfRun (length run)) run offset place) ++ proportionsIn form run offset (place + 1) n
 
+-- n P of a table within their limit
+abbrev pub ProportionsWithin : List ℕ → ℕ → ℕ → Type 0
+ProportionsWithin run offset n = (place : ℕ) → place < n → proportionAt (formOfRun (length run)) run offset place ≤ greatestProportion
+
 -- the bytes of a run from one offset to another
 abbrev pub between : List ℕ → ℕ → ℕ → List ℕ
 between run from to = take (to - from) (drop from run)
 
--- the mark, then the fields before the age P as they stand, the age P, the fields by birth year before P, P, and the last zero bytes
-unfoldable pub inForm : Form → List ℕ → List ℕ
-inForm form run =
+-- the mark, then the fields before the age P as they stand, and the age P
+unfoldable pub agesIn : Form → List ℕ → List ℕ
+agesIn form run = markOf form ++ between run foundationAt ageProportionsAt ++ proportionsIn form run ageProportionsAt 0 ages
+
+-- the fields by birth year before P as they stand, P, and the form's last zero bytes
+unfoldable pub birthYearsIn : Form → List ℕ → List ℕ
+birthYearsIn form run =
     let own = formOfRun (length run) in
-    markOf form ++ between run foundationAt ageProportionsAt ++ proportionsIn form run ageProportionsAt 0 ages
-    ++ between run (birthYearInitialRatesAt own) (birthYearProportionsAt own)
-    ++ proportionsIn form run (birthYearProportionsAt own) 0 birthYears ++ replicate (runLength form - fieldsEnd form) 0
+    between run (birthYearInitialRatesAt own) (birthYearProportionsAt own)
+    ++ proportionsIn form run (birthYearProportionsAt own) 0 birthYears
+    ++ replicate (runLength form - fieldsEnd form) 0
+
+unfoldable pub inForm : Form → List ℕ → List ℕ
+inForm form run = agesIn form run ++ birthYearsIn form run
 
 -- ---- the check
+-- a P in whole per cents
+abbrev pub isWhole : ℕ → Bool
+isWhole hundredths = eqb (hundredths % 100) 0
+
 -- the first of n P of a table, from a place on, that is no whole per cent
 unfoldable pub wholeFrom : List ℕ → ℕ → ℕ → ℕ → Finding
 wholeFrom run offset place zero = passed
 wholeFrom run offset place (suc n) =
     let form = formOfRun (length run) in
     firstOf
-    (unless (eqb (proportionAt form run offset place % 100) 0) (refusal 17 (offset + widthOf (proportionOf form) * place) 0))
+    (unless (isWhole (proportionAt form run offset place)) (refusal 17 (offset + widthOf (proportionOf form) * place) 0))
     (wholeFrom run offset (place + 1) n)
 
 abbrev pub wholeCheck : List ℕ → Finding
@@ -53,20 +70,21 @@ oldFormCheck run = firstOf (runCheck run) (wholeCheck run)
 
 -- before these the room of a file of MPB1 (11)
 abbrev pub writeOldCheck : List ℕ → List ℕ → Finding
-writeOldCheck run file = firstOf (roomCheck (fileLength Mpb1) file) (oldFormCheck run)
+writeOldCheck run file = firstOf (roomCheck (fileLength mpb1) file) (oldFormCheck run)
 
 -- the file
 abbrev pub oldFileOf : List ℕ → List ℕ
-oldFileOf run = fileOf (inForm Mpb1 run)
+oldFileOf run = fileOf (inForm mpb1 run)
 
 -- ---- the theorems
 pub record Forms : Type 0 where
   -- an accepted run of MPB1 and the run of MPB2 with the same fields and each P times 100 stand for the same basis
-  pub finer : (run : List ℕ) → runCheck run ≡ passed → (runCheck (inForm Mpb2 run) ≡ passed) × (basisOf (inForm Mpb2 run) ≡ basisOf run)
+  pub finer : (run : List ℕ) → runCheck run ≡ passed → (runCheck (inForm mpb2 run) ≡ passed) × (basisOf (inForm mpb2 run) ≡ basisOf run)
   -- what is written in the old form reads back as a run that stands for the same basis
   pub older : (run : List ℕ) → oldFormCheck run ≡ passed
-      → (fileCheck (oldFileOf run) ≡ passed) × (runIn (oldFileOf run) ≡ inForm Mpb1 run)
-      × (runCheck (inForm Mpb1 run) ≡ passed) × (basisOf (inForm Mpb1 run) ≡ basisOf run)
-  -- a run in its own form is itself, so that one of MPB1 is written as ever, and is refused by nothing more than its own check
-  pub own : (run : List ℕ) → runCheck run ≡ passed → inForm (formOfRun (length run)) run ≡ run
-  pub asEver : (run : List ℕ) → formOfRun (length run) ≡ Mpb1 → oldFormCheck run ≡ runCheck run
+      → (fileCheck (oldFileOf run) ≡ passed) × (runIn (oldFileOf run) ≡ inForm mpb1 run)
+      × (runCheck (inForm mpb1 run) ≡ passed) × (basisOf (inForm mpb1 run) ≡ basisOf run)
+  -- a run in its own form is itself (its elements are bytes, as those of every lent run are), so that one of MPB1 is written as ever,
+  -- and is refused by nothing more than its own check
+  pub own : (run : List ℕ) → ((i : ℕ) → byteAt run i < 256) → runCheck run ≡ passed → inForm (formOfRun (length run)) run ≡ run
+  pub asEver : (run : List ℕ) → formOfRun (length run) ≡ mpb1 → oldFormCheck run ≡ runCheck run

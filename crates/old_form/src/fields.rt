@@ -2,11 +2,11 @@
 ghost use mathlib.Core.Path.{_≡_};
 ghost use Prim.Native.Nat.{_+_, _*_, _≤_};
 ghost use lib.ListN.{length};
-ghost use Rattle.layout.specs.declared.Form.the-variants.{Mpb1};
-ghost use Rattle.layout.specs.Layout.{widthOf, proportionOf, formOfRun, runLength, birthYears};
+ghost use Rattle.layout.specs.Layout.{mpb1};
+ghost use Rattle.layout.specs.Layout.{widthOf, proportionOf, formOfRun, runLength, birthYearInitialRatesAt};
 ghost use Rattle.lent.specs.Lent.{placed};
 ghost use Rattle.basis.specs.Basis.{Accepted};
-ghost use Rattle.old_form.specs.OldForm.{proportionsIn, inForm};
+ghost use Rattle.old_form.specs.OldForm.{proportionsIn, ProportionsWithin, agesIn, birthYearsIn, inForm};
 use layout::Form;
 use layout::forms::form_of_run;
 use layout::offsets::birth_year_initial_rates_at;
@@ -14,9 +14,9 @@ use layout::offsets::birth_year_proportions_at;
 
 // n P of a table, each over 100.
 fn put_per_cents(run: &[u8], offset: usize, n: usize, out: &mut [u8], at: usize)
-    requires { ⌜ Accepted (now run) × (n ≤ birthYears) × (at + n ≤ length (now out)) ⌝ }
+    requires { ⌜ Accepted (now run) × ProportionsWithin (now run) offset n × (at + n ≤ length (now out)) ⌝ }
     requires { ⌜ offset + widthOf (proportionOf (formOfRun (length (now run)))) * n ≤ length (now run) ⌝ }
-    ensures { λ _. ⌜ now (out .exit) ≡ placed (now (out .entry)) at (proportionsIn Mpb1 (now (run .entry)) offset 0 n) ⌝ }
+    ensures { λ _. ⌜ now (out .exit) ≡ placed (now (out .entry)) at (proportionsIn mpb1 (now (run .entry)) offset 0 n) ⌝ }
 {
     let form = form_of_run(run.len());
     let mut place: usize = 0;
@@ -27,14 +27,11 @@ fn put_per_cents(run: &[u8], offset: usize, n: usize, out: &mut [u8], at: usize)
     }
 }
 
-// The mark, the fields before the age P, the age P, the fields by birth year before P, and P.
-pub(crate) fn lay_old_form(run: &[u8], out: &mut [u8])
-    requires { ⌜ Accepted (now run) × (length (now out) ≡ runLength Mpb1) ⌝ }
-    ensures { λ _. ⌜ now (out .exit) ≡ inForm Mpb1 (now (run .entry)) ⌝ }
+// The mark, the fields before the age P as they stand, and the age P.
+fn put_ages(run: &[u8], out: &mut [u8])
+    requires { ⌜ Accepted (now run) × (runLength mpb1 ≤ length (now out)) ⌝ }
+    ensures { λ _. ⌜ now (out .exit) ≡ placed (now (out .entry)) 0 (agesIn mpb1 (now (run .entry))) ⌝ }
 {
-    let form = form_of_run(run.len());
-    let from = birth_year_initial_rates_at(form);
-    let proportions = birth_year_proportions_at(form);
     lent::put(b"MPB1", out, 0);
     lent::put(
         &run[layout::FOUNDATION_AT..layout::AGE_PROPORTIONS_AT],
@@ -48,6 +45,16 @@ pub(crate) fn lay_old_form(run: &[u8], out: &mut [u8])
         out,
         layout::AGE_PROPORTIONS_AT,
     );
+}
+
+// The fields by birth year before P as they stand, and P, with which a run of MPB1 ends.
+fn put_birth_years(run: &[u8], out: &mut [u8])
+    requires { ⌜ Accepted (now run) × (runLength mpb1 ≤ length (now out)) ⌝ }
+    ensures { λ _. ⌜ now (out .exit) ≡ placed (now (out .entry)) (birthYearInitialRatesAt mpb1) (birthYearsIn mpb1 (now (run .entry))) ⌝ }
+{
+    let form = form_of_run(run.len());
+    let from = birth_year_initial_rates_at(form);
+    let proportions = birth_year_proportions_at(form);
     lent::put(
         &run[from..proportions],
         out,
@@ -60,4 +67,13 @@ pub(crate) fn lay_old_form(run: &[u8], out: &mut [u8])
         out,
         birth_year_proportions_at(Form::Mpb1),
     );
+}
+
+// The whole run.
+pub(crate) fn lay_old_form(run: &[u8], out: &mut [u8])
+    requires { ⌜ Accepted (now run) × (length (now out) ≡ runLength mpb1) ⌝ }
+    ensures { λ _. ⌜ now (out .exit) ≡ inForm mpb1 (now (run .entry)) ⌝ }
+{
+    put_ages(run, out);
+    put_birth_years(run, out);
 }

@@ -3,7 +3,7 @@ ghost use mathlib.Core.Path.{_≡_};
 ghost use Prim.Native.Nat.{_+_, _*_, _≤_};
 ghost use lib.ListN.{length};
 ghost use Rattle.outcome.specs.Outcome.{finding};
-ghost use Rattle.layout.specs.Layout.{widthOf, proportionOf, formOfRun, birthYears};
+ghost use Rattle.layout.specs.Layout.{widthOf, proportionOf, formOfRun};
 ghost use Rattle.basis.specs.Basis.{Accepted};
 ghost use Rattle.old_form.specs.OldForm.{wholeFrom, wholeCheck};
 use layout::forms::form_of_run;
@@ -14,7 +14,7 @@ use outcome::Refusal;
 
 // The first of n P of a table that is none (17).
 fn check_table(run: &[u8], offset: usize, n: usize) -> Check
-    requires { ⌜ Accepted (now run) × (n ≤ birthYears) ⌝ }
+    requires { ⌜ Accepted (now run) ⌝ }
     requires { ⌜ offset + widthOf (proportionOf (formOfRun (length (now run)))) * n ≤ length (now run) ⌝ }
     ensures { λ r. ⌜ finding r ≡ wholeFrom (now (run .entry)) offset 0 n ⌝ }
 {

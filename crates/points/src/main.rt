@@ -3,12 +3,14 @@
 ghost use mathlib.Core.Path.{_≡_};
 ghost use Prim.Native.Nat.{_+_, _*_, _≤_};
 ghost use lib.ListN.{length};
-ghost use Rattle.layout.specs.Layout.{mpb1, runLength, fileLength};
+ghost use Rattle.layout.specs.Layout.{mpb2};
+ghost use Rattle.layout.specs.Layout.{runLength, fileLength};
 ghost use Rattle.history.specs.History.{Workable};
 ghost use Rattle.factor_table.specs.FactorTable.{tableLength};
 ghost use Rattle.io.specs.Counts.{Counts};
 ghost use Rattle.enquiry_lines.specs.State.{emptyAfter, replyRoom, Ready};
 ghost use Rattle.points.specs.Blocks.{ReadyForBlocks};
+use basis_file::read::length_needed;
 use enquiry_lines::Pending;
 use enquiry_lines::lines;
 use enquiry_lines::open_basis;
@@ -26,11 +28,11 @@ struct Turn {
     is_whole: bool,
 }
 
-// One byte longer than a basis file: of a longer file so much is read that its length is refused.
-const FILE_ROOM: usize = layout::FILE_LENGTH + 1;
+// One byte longer than the longest basis file: of a longer file so much is read that its length is refused.
+const FILE_ROOM: usize = layout::MPB2_FILE_LENGTH + 1;
 
 fn file_room() -> [u8; FILE_ROOM]
-    ensures { λ r. ⌜ fileLength mpb1 + 1 ≡ length r ⌝ }
+    ensures { λ r. ⌜ fileLength mpb2 + 1 ≡ length r ⌝ }
 {
     [0; FILE_ROOM]
 }
@@ -42,10 +44,11 @@ fn history_room() -> [u8; 90113]
     [0; 90113]
 }
 
-fn run_room() -> [u8; layout::RUN_LENGTH]
-    ensures { λ r. ⌜ runLength mpb1 ≡ length r ⌝ }
+// Room for the run of either form, which stands in front of it.
+fn run_room() -> [u8; layout::MPB2_RUN_LENGTH]
+    ensures { λ r. ⌜ runLength mpb2 ≡ length r ⌝ }
 {
-    [0; layout::RUN_LENGTH]
+    [0; layout::MPB2_RUN_LENGTH]
 }
 
 // A block of the input. It is small, since the room for its replies is made ready before the first one.
@@ -202,6 +205,13 @@ fn main() {
     if is_written {
         let mut part = block_room();
         let mut table = table_room();
-        answer_input(&run, &history[..m], &mut table, &mut part, &mut out);
+        let length = length_needed(&file[..n]);
+        answer_input(
+            &run[..length],
+            &history[..m],
+            &mut table,
+            &mut part,
+            &mut out,
+        );
     }
 }

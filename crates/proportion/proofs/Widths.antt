@@ -5,20 +5,20 @@ use Prim.Native.Nat.{ℕ, _+_, _*_, _<_, _≤_}
 use native.Mathlib.Nat.{one-mul}
 use native.Mathlib.Omega.{arith}
 use Rattle.little_endian.specs.Bytes.{byteAt, u16At}
-use Rattle.layout.specs.declared.Form.{Form}
-use Rattle.layout.specs.declared.Form.the-variants.{Mpb1, Mpb2}
+use Rattle.layout.specs.Layout.{Form}
+use Rattle.layout.specs.Layout.{mpb1, mpb2}
 use Rattle.layout.specs.Layout.{widthOf, proportionOf, proportionAt}
 
 module _ (form : Form) (offset place n : ℕ) (h : offset + widthOf (proportionOf form) * place + widthOf (proportionOf form) ≤ n) where
-  pub one-byte : form ≡ Mpb1 → offset + place < n
+  pub one-byte : form ≡ mpb1 → offset + place < n
   one-byte e = let k = rw e at h in omega (arith, k)
 
-  pub two-bytes : form ≡ Mpb2 → offset + 2 * place + 2 ≤ n
+  pub two-bytes : form ≡ mpb2 → offset + 2 * place + 2 ≤ n
   two-bytes e = rw e at h
 
 module _ (form : Form) (run : List ℕ) (offset place : ℕ) where
-  pub per-cents-are : form ≡ Mpb1 → 100 * byteAt run (offset + place) ≡ proportionAt form run offset place
+  pub per-cents-are : form ≡ mpb1 → 100 * byteAt run (offset + place) ≡ proportionAt form run offset place
   per-cents-are e = rw (e, one-mul) refl
 
-  pub hundredths-are : form ≡ Mpb2 → u16At run (offset + 2 * place) ≡ proportionAt form run offset place
+  pub hundredths-are : form ≡ mpb2 → u16At run (offset + 2 * place) ≡ proportionAt form run offset place
   hundredths-are e = rw (e, one-mul) refl

@@ -8,7 +8,8 @@ use lib.Dec.{eqb}
 use lib.IntN.{ℤ, pos, natAbs}
 use borrow.Author.Tests.{ne-eqb}
 use lib.ListN.{length}
-use Rattle.layout.specs.Layout.{formOf, runLength, fileLength}
+use Rattle.layout.specs.Layout.{mpb1}
+use Rattle.layout.specs.Layout.{formOfRun, formOfFile, runLength, fileLength}
 use Rattle.basis.specs.Basis.{basisOf, ratedFrom}
 use Rattle.outcome.specs.Outcome.{Finding, passed, refusedBy, Outcome, value, refused, firstOf}
 use Rattle.outcome.specs.Refusals.{numbers, recordNumbers, isListed, Listed, RefusesBy, RefusedBy}
@@ -19,6 +20,7 @@ use Rattle.basis_file.specs.File.{runIn}
 use Rattle.basis_file.proofs.Numbered.{file-numbered}
 use Rattle.history.specs.History.{basisWith, runAndHistoryCheck}
 use Rattle.history.proofs.Numbered.{history-numbered, basis-numbered}
+use Rattle.old_form.proofs.Numbered.{old-numbered}
 use Rattle.short_form.proofs.Numbered.{short-form-numbered}
 use Rattle.improvement.specs.Improvement.{firstYear, improvementOf}
 use Rattle.improvement.proofs.Numbered.{needed-numbered}
@@ -109,9 +111,10 @@ numbered-refusals run history =
     let b = basisWith run history in
     record {
       checkBasis = run-numbered run;
-      readBasis = λ file out. first-by (count-numbered (runLength (formOf (length file))) _) (file-numbered file);
-      writeBasis = λ out. first-by (count-numbered (fileLength (formOf (length run))) _) (run-numbered run);
-      shortForm = λ rate out. first-by (count-numbered (runLength (formOf (length run))) _) (short-form-numbered run rate);
+      readBasis = λ file out. first-by (count-numbered (runLength (formOfFile (length file))) _) (file-numbered file);
+      writeBasis = λ out. first-by (count-numbered (fileLength (formOfRun (length run))) _) (run-numbered run);
+      writeOldForm = λ out. first-by (count-numbered (fileLength mpb1) _) (old-numbered run);
+      shortForm = λ rate out. first-by (count-numbered (runLength (formOfRun (length run))) _) (short-form-numbered run rate);
       withHistory = basis-numbered run history;
       factorWork = factor-numbered b;
       rateWork = rate-numbered b;

@@ -29,6 +29,7 @@ use Rattle.lifeline.specs.Lifeline.{startAt, stepAt}
 use Rattle.roll.specs.Kept.{rollCheck, joinedRoll, leftRoll, totalSaid, totalAnswer}
 use Rattle.engine.specs.Enquiry.{refusalOf, answerOf, signedAnswerOf}
 use Rattle.basis_file.specs.File.{readCheck, writeCheck}
+use Rattle.old_form.specs.OldForm.{writeOldCheck}
 use Rattle.short_form.specs.ShortForm.{shortCheck}
 use Rattle.engine.specs.Lifelines.{stepRefusal}
 use Rattle.reply_text.specs.Ascii.{ascii}
@@ -42,10 +43,11 @@ workOn b q = checked (questionCheck (ratedFrom b) (q .age) (q .deferment) (q .ye
 
 -- ---- every call, by the definition that its contract cites
 pub record NumberedRefusals (run history : List ℕ) : Type 0 where
-  -- the basis: a data run checked, a file read and written, a short form made; a data run with its history
+  -- the basis: a data run checked, a file read and written, in its own form and in the old one, a short form made; a data run with its history
   pub checkBasis : RefusesBy numbers (runCheck run)
   pub readBasis : (file out : List ℕ) → RefusesBy numbers (readCheck file out)
   pub writeBasis : (out : List ℕ) → RefusesBy numbers (writeCheck run out)
+  pub writeOldForm : (out : List ℕ) → RefusesBy numbers (writeOldCheck run out)
   pub shortForm : (rate : ℤ) (out : List ℕ) → RefusesBy numbers (shortCheck run rate out)
   pub withHistory : RefusesBy numbers (runAndHistoryCheck run history)
   -- the work: 9 and 10 are among 6 to 10

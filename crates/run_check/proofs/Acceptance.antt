@@ -10,8 +10,8 @@ use lib.Dec.{eqb, eqb→eq}
 use lib.IntN.{pos, natAbs}
 use Rattle.little_endian.specs.Bytes.{byteAt, i32At}
 use Rattle.layout.specs.declared.Number.the-variants.{SignedWord}
-use Rattle.layout.specs.declared.Form.{Form}
-use Rattle.layout.specs.declared.Form.the-variants.{Mpb1, Mpb2}
+use Rattle.layout.specs.Layout.{Form}
+use Rattle.layout.specs.Layout.{mpb1, mpb2}
 use Rattle.layout.specs.Layout.{entryAt, proportionOf, hundredthsOf, greatestOf, letterOf, greatestProportion, runLength, fieldsEnd, formOfRun, markOf}
 use Rattle.layout.specs.Layout.{ages, birthYears}
 use Rattle.layout.specs.Layout.{additionAt, zerosAt, baseRatesAt, additionLimit, rateLimit}
@@ -31,17 +31,17 @@ use Rattle.run_check.proofs.Turns.{whole}
 
 -- ---- a limit of P in hundredths of a per cent is one in the form's own counting
 in-hundredths : (form : Form) (p : ℕ) → p ≤ greatestOf form → hundredthsOf form * p ≤ greatestProportion
-in-hundredths Mpb1 p h = omega arith
-in-hundredths Mpb2 p h = omega arith
+in-hundredths mpb1 p h = omega arith
+in-hundredths mpb2 p h = omega arith
 
 as-counted : (form : Form) (p : ℕ) → hundredthsOf form * p ≤ greatestProportion → p ≤ greatestOf form
-as-counted Mpb1 p h = omega arith
-as-counted Mpb2 p h = omega arith
+as-counted mpb1 p h = omega arith
+as-counted mpb2 p h = omega arith
 
 -- the kinds of number of P have nothing below zero
 positive : (form : Form) (run : List ℕ) (offset i : ℕ) → entryAt (proportionOf form) run offset i ≡ pos (natAbs (entryAt (proportionOf form) run offset i))
-positive Mpb1 run offset i = refl
-positive Mpb2 run offset i = refl
+positive mpb1 run offset i = refl
+positive mpb2 run offset i = refl
 
 -- ---- the terms of improvement, by age and by birth year: four rows of n numbers each
 module _ (form : Form) (run : List ℕ) (initial long period remaining n : ℕ) where

@@ -5,8 +5,9 @@ ghost use mathlib.Core.Path.{_≡_};
 ghost use Prim.Native.Nat.{_≤_};
 ghost use lib.ListN.{length};
 ghost use Rattle.outcome.specs.Outcome.{finding};
-ghost use Rattle.layout.specs.declared.Form.the-variants.{Mpb1};
+ghost use Rattle.layout.specs.Layout.{mpb1};
 ghost use Rattle.layout.specs.Layout.{runLength, fieldsEnd};
+ghost use Rattle.layout.specs.Meaning.{meant};
 ghost use Rattle.field_check.specs.Field.{fieldsCheck};
 ghost use Rattle.run_check.specs.Run.{fieldsOf, runCheck};
 use layout::Form;
@@ -18,8 +19,8 @@ use outcome::first_of;
 
 // The fields of a run of its form's length, those that have one value only before those with limits.
 fn check_fields(run: &[u8], form: Form) -> Check
-    requires { ⌜ (length (now run) ≡ runLength form) × (fieldsEnd form ≤ length (now run)) × (runLength Mpb1 ≤ length (now run)) ⌝ }
-    ensures { λ r. ⌜ finding r ≡ fieldsCheck (now (run .entry)) (fieldsOf form) ⌝ }
+    requires { ⌜ (length (now run) ≡ runLength (meant form)) × (fieldsEnd (meant form) ≤ length (now run)) × (runLength mpb1 ≤ length (now run)) ⌝ }
+    ensures { λ r. ⌜ finding r ≡ fieldsCheck (now (run .entry)) (fieldsOf (meant form)) ⌝ }
 {
     let mark = rows::check_mark(run, form);
     let zeros = rows::check_zeros(run, form);

@@ -5,8 +5,9 @@
 ghost use mathlib.Core.Path.{_≡_};
 ghost use Prim.Native.Nat.{_+_, _*_, _≤_};
 ghost use lib.ListN.{length};
-ghost use Rattle.layout.specs.declared.Form.the-variants.{Mpb1, Mpb2};
+ghost use Rattle.layout.specs.Layout.{mpb1, mpb2};
 ghost use Rattle.layout.specs.Layout.{runLength, fieldsEnd, widthOf, proportionOf};
+ghost use Rattle.layout.specs.Meaning.{meant};
 ghost use Rattle.outcome.specs.Outcome.{finding};
 ghost use Rattle.field_check.specs.Field.{field, fieldCheck, fieldsCheck};
 ghost use Rattle.run_check.specs.Run.{exactly, markFields, zeroFields, singleFields, baseRates, rates, periods, proportions, ageFields, birthYearFields};
@@ -44,8 +45,8 @@ fn check_exactly(run: &[u8], byte: i64, offset: usize, count: usize) -> Check
 
 // The letters of the mark (4).
 pub(crate) fn check_mark(run: &[u8], form: Form) -> Check
-    requires { ⌜ fieldsEnd form ≤ length (now run) ⌝ }
-    ensures { λ r. ⌜ finding r ≡ fieldsCheck (now (run .entry)) (markFields form) ⌝ }
+    requires { ⌜ fieldsEnd (meant form) ≤ length (now run) ⌝ }
+    ensures { λ r. ⌜ finding r ≡ fieldsCheck (now (run .entry)) (markFields (meant form)) ⌝ }
 {
     let m = check_exactly(run, 77, 0, 1);
     let p = check_exactly(run, 80, 1, 1);
@@ -56,8 +57,8 @@ pub(crate) fn check_mark(run: &[u8], form: Form) -> Check
 
 // The zero bytes before the base rates and behind the fields (4).
 pub(crate) fn check_zeros(run: &[u8], form: Form) -> Check
-    requires { ⌜ (length (now run) ≡ runLength form) × (fieldsEnd form ≤ length (now run)) ⌝ }
-    ensures { λ r. ⌜ finding r ≡ fieldsCheck (now (run .entry)) (zeroFields form) ⌝ }
+    requires { ⌜ (length (now run) ≡ runLength (meant form)) × (fieldsEnd (meant form) ≤ length (now run)) ⌝ }
+    ensures { λ r. ⌜ finding r ≡ fieldsCheck (now (run .entry)) (zeroFields (meant form)) ⌝ }
 {
     let zeros = check_exactly(run, 0, layout::ZEROS_AT, layout::ZEROS);
     let end = fields_end(form);
@@ -85,7 +86,7 @@ fn check_number(run: &[u8], kind: Number, low: i64, high: i64, offset: usize) ->
 
 // F, B, the constant addition and the rate of discount (5).
 pub(crate) fn check_single_fields(run: &[u8]) -> Check
-    requires { ⌜ runLength Mpb1 ≤ length (now run) ⌝ }
+    requires { ⌜ runLength mpb1 ≤ length (now run) ⌝ }
     ensures { λ r. ⌜ finding r ≡ fieldsCheck (now (run .entry)) singleFields ⌝ }
 {
     let foundation = check_number(
@@ -124,7 +125,7 @@ pub(crate) fn check_single_fields(run: &[u8]) -> Check
 
 // The base rates (5).
 pub(crate) fn check_base_rates(run: &[u8]) -> Check
-    requires { ⌜ runLength Mpb1 ≤ length (now run) ⌝ }
+    requires { ⌜ runLength mpb1 ≤ length (now run) ⌝ }
     ensures { λ r. ⌜ finding r ≡ fieldCheck (now (run .entry)) baseRates ⌝ }
 {
     let f = Field {
@@ -182,7 +183,7 @@ fn check_periods(run: &[u8], offset: usize, count: usize) -> Check
 // P of MPB1 (5).
 fn check_per_cents(run: &[u8], offset: usize, count: usize) -> Check
     requires { ⌜ offset + count ≤ length (now run) ⌝ }
-    ensures { λ r. ⌜ finding r ≡ fieldCheck (now (run .entry)) (proportions Mpb1 offset count) ⌝ }
+    ensures { λ r. ⌜ finding r ≡ fieldCheck (now (run .entry)) (proportions mpb1 offset count) ⌝ }
 {
     let f = Field {
         number: 5,
@@ -201,7 +202,7 @@ fn check_per_cents(run: &[u8], offset: usize, count: usize) -> Check
 // P of MPB2 (5).
 fn check_hundredths(run: &[u8], offset: usize, count: usize) -> Check
     requires { ⌜ offset + count * 2 ≤ length (now run) ⌝ }
-    ensures { λ r. ⌜ finding r ≡ fieldCheck (now (run .entry)) (proportions Mpb2 offset count) ⌝ }
+    ensures { λ r. ⌜ finding r ≡ fieldCheck (now (run .entry)) (proportions mpb2 offset count) ⌝ }
 {
     let f = Field {
         number: 5,
@@ -219,8 +220,8 @@ fn check_hundredths(run: &[u8], offset: usize, count: usize) -> Check
 
 // P (5).
 fn check_proportions(run: &[u8], form: Form, offset: usize, count: usize) -> Check
-    requires { ⌜ offset + count * widthOf (proportionOf form) ≤ length (now run) ⌝ }
-    ensures { λ r. ⌜ finding r ≡ fieldCheck (now (run .entry)) (proportions form offset count) ⌝ }
+    requires { ⌜ offset + count * widthOf (proportionOf (meant form)) ≤ length (now run) ⌝ }
+    ensures { λ r. ⌜ finding r ≡ fieldCheck (now (run .entry)) (proportions (meant form) offset count) ⌝ }
 {
     match form {
         Form::Mpb1 => check_per_cents(run, offset, count),
@@ -230,8 +231,8 @@ fn check_proportions(run: &[u8], form: Form, offset: usize, count: usize) -> Che
 
 // The terms of improvement by age (5). Every count is known here too, which the loops are faster by.
 pub(crate) fn check_age_terms(run: &[u8], form: Form) -> Check
-    requires { ⌜ fieldsEnd form ≤ length (now run) ⌝ }
-    ensures { λ r. ⌜ finding r ≡ fieldsCheck (now (run .entry)) (ageFields form) ⌝ }
+    requires { ⌜ fieldsEnd (meant form) ≤ length (now run) ⌝ }
+    ensures { λ r. ⌜ finding r ≡ fieldsCheck (now (run .entry)) (ageFields (meant form)) ⌝ }
 {
     let initials = check_rates(run, layout::AGE_INITIAL_RATES_AT, layout::AGES);
     let longs = check_rates(run, layout::AGE_LONG_TERM_RATES_AT, layout::AGES);
@@ -248,8 +249,8 @@ pub(crate) fn check_age_terms(run: &[u8], form: Form) -> Check
 
 // The same by birth year (5).
 pub(crate) fn check_birth_year_terms(run: &[u8], form: Form) -> Check
-    requires { ⌜ fieldsEnd form ≤ length (now run) ⌝ }
-    ensures { λ r. ⌜ finding r ≡ fieldsCheck (now (run .entry)) (birthYearFields form) ⌝ }
+    requires { ⌜ fieldsEnd (meant form) ≤ length (now run) ⌝ }
+    ensures { λ r. ⌜ finding r ≡ fieldsCheck (now (run .entry)) (birthYearFields (meant form)) ⌝ }
 {
     let initials = check_rates(run, birth_year_initial_rates_at(form), layout::BIRTH_YEARS);
     let longs = check_rates(

@@ -7,8 +7,8 @@ use native.Mathlib.Omega.{arith}
 use lib.ListN.{length, length-append}
 use lib.IntN.{natAbs}
 use Rattle.little_endian.specs.Bytes.{byteAt}
-use Rattle.layout.specs.declared.Form.{Form}
-use Rattle.layout.specs.declared.Form.the-variants.{Mpb1, Mpb2}
+use Rattle.layout.specs.Layout.{Form}
+use Rattle.layout.specs.Layout.{mpb1, mpb2}
 use Rattle.layout.specs.Layout.{widthOf, valueAt, proportionOf, hundredthsOf, proportionBytes}
 use Rattle.basis.proofs.Lengths.{entry-inside}
 use Rattle.lent.specs.Lent.{placed}
@@ -18,8 +18,8 @@ use Rattle.short_form.proofs.Lists.{ahead, behind}
 
 -- ---- their lengths
 pub length-one : (form : Form) → length (proportionBytes form everyProportion) ≡ widthOf (proportionOf form)
-length-one Mpb1 = refl
-length-one Mpb2 = refl
+length-one mpb1 = refl
+length-one mpb2 = refl
 
 pub length-proportions : (form : Form) (n : ℕ) → length (proportions form n) ≡ widthOf (proportionOf form) * n
 unfolding proportions
@@ -66,7 +66,7 @@ proportion-bytes form (suc n) (suc i) j at e l m =
 pub proportion-is : (form : Form) (s : List ℕ) (at : ℕ)
     → ((j : ℕ) → j < widthOf (proportionOf form) → byteAt s (at + j) ≡ byteAt (proportionBytes form everyProportion) j)
     → hundredthsOf form * natAbs (valueAt (proportionOf form) s at) ≡ everyProportion
-proportion-is Mpb1 s at h = let e : byteAt s at ≡ byteAt (proportionBytes Mpb1 everyProportion) 0 = simp add-zero at (h 0 (omega arith)) in rw e refl
-proportion-is Mpb2 s at h =
-    let e : byteAt s at ≡ byteAt (proportionBytes Mpb2 everyProportion) 0 = simp add-zero at (h 0 (omega arith)) in
+proportion-is mpb1 s at h = let e : byteAt s at ≡ byteAt (proportionBytes mpb1 everyProportion) 0 = simp add-zero at (h 0 (omega arith)) in rw e refl
+proportion-is mpb2 s at h =
+    let e : byteAt s at ≡ byteAt (proportionBytes mpb2 everyProportion) 0 = simp add-zero at (h 0 (omega arith)) in
     rw (e, h 1 (omega arith)) refl

@@ -10,7 +10,7 @@ use Rattle.basis.specs.declared.Convergence.{Convergence}
 use Rattle.little_endian.specs.Bytes.{i32Bytes}
 use Rattle.outcome.specs.Outcome.{Finding, passed, refusal, unless, firstOf}
 use Rattle.field_check.specs.Field.{between}
-use Rattle.layout.specs.declared.Form.{Form}
+use Rattle.layout.specs.Layout.{Form}
 use Rattle.layout.specs.Layout.{proportionBytes, formOfRun, runLength, fieldsEnd, ages, birthYears, rateLimit, ageLongTermRatesAt, birthYearInitialRatesAt}
 use Rattle.run_check.specs.Run.{runCheck}
 use Rattle.lent.specs.Lent.{roomCheck}

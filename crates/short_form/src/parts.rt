@@ -4,6 +4,7 @@ ghost use Prim.Native.Nat.{_+_, _*_, _≤_};
 ghost use lib.ListN.{length};
 ghost use lib.IntN.{natAbs};
 ghost use Rattle.layout.specs.Layout.{widthOf, proportionOf, runLength, ages, ageLongTermRatesAt, agePeriodsAt, birthYearInitialRatesAt};
+ghost use Rattle.layout.specs.Meaning.{meant};
 ghost use Rattle.lent.specs.Lent.{placed};
 ghost use Rattle.short_form.specs.ShortForm.{longTermLimit, longTermRates, proportions, agesOf, birthYearsOf};
 use crate::rates;
@@ -29,8 +30,8 @@ fn put_rates(rate: i32, out: &mut [u8])
 
 // P of 50 per cent, n times.
 fn put_proportions(form: Form, n: usize, out: &mut [u8], at: usize)
-    requires { ⌜ at + widthOf (proportionOf form) * n ≤ length (now out) ⌝ }
-    ensures { λ _. ⌜ now (out .exit) ≡ placed (now (out .entry)) at (proportions form n) ⌝ }
+    requires { ⌜ at + widthOf (proportionOf (meant form)) * n ≤ length (now out) ⌝ }
+    ensures { λ _. ⌜ now (out .exit) ≡ placed (now (out .entry)) at (proportions (meant form) n) ⌝ }
 {
     let width = layout::offsets::proportion_width(form);
     let mut i: usize = 0;
@@ -42,8 +43,8 @@ fn put_proportions(form: Form, n: usize, out: &mut [u8], at: usize)
 
 // What stands before the age L, kept, then the age L, T and P.
 pub(crate) fn put_ages(run: &[u8], form: Form, rate: i32, out: &mut [u8])
-    requires { ⌜ (length (now run) ≡ runLength form) × (natAbs rate ≤ longTermLimit) × (runLength form ≤ length (now out)) ⌝ }
-    ensures { λ _. ⌜ now (out .exit) ≡ placed (now (out .entry)) 0 (agesOf form (now (run .entry)) rate) ⌝ }
+    requires { ⌜ (length (now run) ≡ runLength (meant form)) × (natAbs rate ≤ longTermLimit) × (runLength (meant form) ≤ length (now out)) ⌝ }
+    ensures { λ _. ⌜ now (out .exit) ≡ placed (now (out .entry)) 0 (agesOf (meant form) (now (run .entry)) rate) ⌝ }
 {
     lent::put(&run[0..layout::AGE_LONG_TERM_RATES_AT], out, 0);
     put_rates(rate, out);
@@ -53,8 +54,8 @@ pub(crate) fn put_ages(run: &[u8], form: Form, rate: i32, out: &mut [u8])
 
 // The birth-year I, kept, then the birth-year L, T and P, and the form's last zero bytes.
 pub(crate) fn put_birth_years(run: &[u8], form: Form, out: &mut [u8])
-    requires { ⌜ (length (now run) ≡ runLength form) × (runLength form ≤ length (now out)) ⌝ }
-    ensures { λ _. ⌜ now (out .exit) ≡ placed (now (out .entry)) (birthYearInitialRatesAt form) (birthYearsOf form (now (run .entry))) ⌝ }
+    requires { ⌜ (length (now run) ≡ runLength (meant form)) × (runLength (meant form) ≤ length (now out)) ⌝ }
+    ensures { λ _. ⌜ now (out .exit) ≡ placed (now (out .entry)) (birthYearInitialRatesAt (meant form)) (birthYearsOf (meant form) (now (run .entry))) ⌝ }
 {
     let from = birth_year_initial_rates_at(form);
     let long = birth_year_long_term_rates_at(form);

@@ -28,7 +28,7 @@ pub enum Table {
 struct Stretch(usize, usize);
 
 fn stretch_of(form: Form, table: Table) -> Stretch
-    ensures { λ r. ⌜ r ≡ stretchOf form table ⌝ }
+    ensures { λ r. ⌜ r ≡ stretchOf (meant form) table ⌝ }
 {
     match table {
         Table::BaseRates => Stretch(layout::BASE_RATES_AT, layout::AGE_RATES_LENGTH),
@@ -73,3 +73,5 @@ pub fn table_of(run: &[u8], table: Table) -> &[u8]
     let end = start + s.1;
     &run[start..end]
 }
+
+ghost use Rattle.layout.specs.Meaning.{meant};

@@ -5,10 +5,10 @@ use Rattle.check_files.proofs.run_cases.Statement.{statement}
 use Rattle.check_files.proofs.run_cases.Tie as tie
 
 abbrev Inv-loop : tie.InvT-loop
-Inv-loop file cases₀ cases = cases ≤ 1000000000000000
+Inv-loop old new cases₀ cases = cases ≤ 1000000000000000
 
 abbrev μ-loop : tie.MeasureT-loop
-μ-loop file cases₀ cases = 1000000000000000 - cases
+μ-loop old new cases₀ cases = 1000000000000000 - cases
 
 pub run-cases-spec : {M : Type 1} → statement M
 run-cases-spec =

@@ -4,6 +4,7 @@ use native.Mathlib.Omega.{arith}
 use Rattle.layout.specs.Layout.{runLength}
 use Rattle.layout.proofs.EachForm.{run-low, fields-inside}
 use Rattle.run_check.proofs.Turns.{whole, wrong-length}
+use Rattle.layout.specs.Meaning.{meant}
 use borrow.Author.Needs.{needs}
 use Rattle.run_check.proofs.check_run.Statement.{statement}
 use Rattle.run_check.proofs.check_run.Tie as tie
@@ -16,7 +17,7 @@ returns c =
 check-fields-requires : tie.Need-check-fields-requires
 check-fields-requires c κs =
     let l = c .before in
-    let form = l .before .form-of-run .result in
+    let form = meant (l .before .form-of-run .result) in
     let e = c .if1 .left ∙ l .run-length .ensures in
     (e, omega (arith, e, fields-inside form), omega (arith, e, run-low form))
 

@@ -4,11 +4,13 @@ use mathlib.Core.List.{List, []}
 use Prim.Native.Nat.{ℕ, _+_, _-_, _≤_}
 use native.Mathlib.Nat.{zero-add}
 use native.Mathlib.Omega.{arith}
-use lib.ListN.{take, drop}
+use lib.ListN.{length, take, drop}
 use Rattle.outcome.specs.declared.Refusal.{Refusal}
 use Rattle.outcome.specs.Outcome.{Finding, passed, refusedBy}
 use Rattle.outcome.proofs.Outcome.{found}
-use Rattle.layout.specs.Layout.{mpb1, runLength}
+use Rattle.layout.specs.Layout.{mpb2}
+use Rattle.layout.specs.Layout.{formOfRun, runLength}
+use Rattle.basis.proofs.Lengths.{short-enough}
 use Rattle.run_check.specs.Run.{runCheck}
 use Rattle.run_check.proofs.Acceptance.{accepted}
 use Rattle.tables.specs.declared.Table.{Table}
@@ -21,17 +23,18 @@ use Rattle.tables.proofs.table_of.Tie as tie
 
 -- ---- what is handed back, by what the check says
 module _ (run : List ℕ) (table : Table) where
+  abbrev own : Stretch
+  own = stretchOf (formOfRun (length run)) table
+
   handed : {c : Finding} → runCheck run ≡ c
-      → (tableOf run table ≡ bytesOf run (handedBack c (stretchOf mpb1 table))) × (tableStart run table ≡ handedBack c (stretchOf mpb1 table) .0)
+      → (tableOf run table ≡ bytesOf run (handedBack c own)) × (tableStart run table ≡ handedBack c own .0)
   unfolding tableOf tableStart
-  handed h =
-      let s = stretchOf mpb1 table in
-      (ap (λ (c : Finding). bytesOf run (handedBack c s)) h, ap (λ (c : Finding). handedBack c s .0) h)
+  handed h = (ap (λ (c : Finding). bytesOf run (handedBack c own)) h, ap (λ (c : Finding). handedBack c own .0) h)
 
   refused-table : {r : Refusal} → runCheck run ≡ refusedBy r → (tableOf run table ≡ []) × (tableStart run table ≡ 0)
   refused-table h = handed h
 
-  passed-table : {s : Stretch} → runCheck run ≡ passed → s ≡ stretchOf mpb1 table
+  passed-table : {s : Stretch} → runCheck run ≡ passed → s ≡ own
       → (take (s .0 + s .1 - s .0) (drop (s .0) run) ≡ tableOf run table) × (s .0 ≡ tableStart run table)
   passed-table {s} h e =
       let cut : s .0 + s .1 - s .0 ≡ s .1 = omega arith in
@@ -39,9 +42,6 @@ module _ (run : List ℕ) (table : Table) where
       (rw cut (ap (bytesOf run) e ∙ sym (k .0)), ap (λ (x : Stretch). x .0) e ∙ sym (k .1))
 
 -- ---- a refused run
-check-run-requires : tie.Need-check-run-requires
-check-run-requires c κs = search needs
-
 returns : tie.Need-returns
 returns c =
     let k = c .before .before .before in
@@ -50,36 +50,44 @@ returns c =
     (sym (t .0), rw (t .1, zero-add) refl)
 
 -- ---- a run that passed, and the table's stretch in it
-enum-told-2 : tie.Need-enum-told-2
-enum-told-2 c = search needs
-
 record Passing (c : tie.After-struct-known) : Type 0 where
-  passed : runCheck (c .before .before .before .before .before .before .args .run .now) ≡ passed
-  in-run : c .before .stretch-of .result .0 + c .before .stretch-of .result .1 ≤ runLength mpb1
+  passed : runCheck (c .before .before .before .before .before .before .before .args .run .now) ≡ passed
+  stretch : c .before .stretch-of .result
+      ≡ own (c .before .before .before .before .before .before .before .args .run .now) (c .before .before .before .before .before .before .before .args .table)
+  short : length (c .before .before .before .before .before .before .before .args .run .now) ≤ runLength mpb2
+  in-run : c .before .stretch-of .result .0 + c .before .stretch-of .result .1 ≤ length (c .before .before .before .before .before .before .before .args .run .now)
 
 passing : (c : tie.After-struct-known) → Passing c
 passing c =
-    let t = c .before .before in
+    let form = c .before .before in
+    let t = form .before in
+    let s = t .before .before .before .before .args in
+    let run = s .run .now in
+    let p = found (t .before .before .check-run .ensures) (t .enum-told2 .given .1) in
+    let e = rw (form .form-of-run .ensures) at (c .before .stretch-of .ensures) in
+    let a = accepted run p in
     record {
-      passed = found (t .before .before .check-run .ensures) (t .enum-told2 .given .1);
-      in-run = rw (c .before .stretch-of .ensures) (inside (t .before .before .before .before .args .table));
+      passed = p;
+      stretch = e;
+      short = short-enough run a;
+      in-run = rw e (omega (arith, inside (formOfRun (length run)) (s .table), a .size));
     }
 
 add-end : tie.Need-add-end
-add-end c = omega (arith, passing c .in-run)
+add-end c = let p = passing c in omega (arith, p .in-run, p .short)
 
 part-result-end-2 : tie.Need-part-result-end-2
-part-result-end-2 c = let p = passing c in omega (arith, accepted _ (p .passed) .size, p .in-run)
+part-result-end-2 c = omega (arith, passing c .in-run)
 
 returns-2 : tie.Need-returns-2
 returns-2 c =
-    let t = c .before .before in
-    let s = t .before .before .before .before .before .args in
-    let p = passed-table (s .run .now) (s .table) (passing (c .before) .passed) (t .stretch-of .ensures) in
+    let s = c .before .before .before .before .before .before .before .before .args in
+    let k = passing (c .before) in
+    let p = passed-table (s .run .now) (s .table) (k .passed) (k .stretch) in
     (p .0, rw (← p .1) refl)
 
 pub table-of-spec : {M : Type 1} → statement M
 table-of-spec =
     tie.close
-    (tie.spec check-run-requires (search needs) (search needs) (search needs) (search needs) returns enum-told-2
-    (search needs) add-end (search needs) (search needs) part-result-end-2 returns-2)
+    (tie.spec (search needs) (search needs) (search needs) (search needs) (search needs) returns (search needs)
+    (search needs) (search needs) add-end (search needs) (search needs) part-result-end-2 returns-2)

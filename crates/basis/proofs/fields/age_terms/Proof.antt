@@ -4,6 +4,7 @@ use Prim.Native.Nat.{_-_}
 use Rattle.basis.specs.Basis.{basisOf, Accepted}
 use Rattle.basis.proofs.Lengths.{long-enough, short-enough, age-proportion-inside}
 use Rattle.basis.proofs.Places.{age-place}
+use Rattle.layout.specs.Meaning.{meant}
 use borrow.Author.Needs.{needs}
 use Rattle.basis.proofs.fields.age_terms.Statement.{statement}
 use Rattle.basis.proofs.fields.age_terms.Tie as tie
@@ -14,7 +15,7 @@ terms-at-requires c κs =
     let run = s .args .run .now in
     let a : Accepted run = search needs in
     let l = long-enough run a in
-    let p = age-proportion-inside run a (c .form-of-run .result) (c .form-of-run .ensures) (s .args .age - 20) (omega arith) in
+    let p = age-proportion-inside run a (meant (c .form-of-run .result)) (c .form-of-run .ensures) (s .args .age - 20) (omega arith) in
     (omega (arith, l), (omega (arith, l), (omega (arith, l), (p, short-enough run a))))
 
 returns : tie.Need-returns

@@ -6,6 +6,7 @@ use Rattle.layout.specs.Layout.{fieldsEnd}
 use Rattle.basis.specs.Basis.{basisOf, Accepted}
 use Rattle.basis.proofs.Lengths.{short-enough, fields-within, birth-year-proportion-inside}
 use Rattle.basis.proofs.Places.{birth-year-place}
+use Rattle.layout.specs.Meaning.{meant}
 use borrow.Author.Needs.{needs}
 use Rattle.basis.proofs.fields.birth_year_terms.Statement.{statement}
 use Rattle.basis.proofs.fields.birth_year_terms.Tie as tie
@@ -18,8 +19,8 @@ terms-at-requires c κs =
     let run = s .args .run .now in
     let a : Accepted run = search needs in
     let e = f .form-of-run .ensures in
-    let w : fieldsEnd (f .form-of-run .result) ≤ length run = rw e (fields-within run a) in
-    let p = birth-year-proportion-inside run a (f .form-of-run .result) e (s .args .year - 1842) (omega arith) in (
+    let w : fieldsEnd (meant (f .form-of-run .result)) ≤ length run = rw e (fields-within run a) in
+    let p = birth-year-proportion-inside run a (meant (f .form-of-run .result)) e (s .args .year - 1842) (omega arith) in (
       omega (arith, i .birth-year-initial-rates-at .ensures, w),
       (
         omega (arith, c .before .before .birth-year-long-term-rates-at .ensures, w),

@@ -1,101 +1,54 @@
 -- The parts that are left give the same run as all of them.
 use mathlib.Core.Path.{_≡_, refl, sym, ap, _∙_}
-use Prim.Native.Nat.{_+_, _*_, _-_, _≤_}
+use Prim.Native.Nat.{ℕ, _+_, _*_, _-_, _≤_}
 use native.Mathlib.Omega.{arith}
 use lib.ListN.{length, drop}
-use Rattle.layout.specs.Layout.{mpb1, runLength}
 use Rattle.lent.specs.Lent.{placed}
 use Rattle.lent.proofs.Lent.{placed-whole}
 use Rattle.block.specs.Blocks.{partsOf}
-use Rattle.basis_file.specs.File.{runIn}
-use Rattle.basis_file.proofs.Files.{run-length}
-use Rattle.block.proofs.Joined.{part-is}
+use Rattle.block.proofs.Joined.{part-is, parts-length}
 use Rattle.basis_file.proofs.Turns.{join-length, join-turn, join-end}
+use borrow.Author.Needs.{needs}
 use Rattle.basis_file.proofs.read.join_parts.Statement.{statement}
 use Rattle.basis_file.proofs.read.join_parts.Tie as tie
 
 abbrev Inv-loop : tie.InvT-loop
-Inv-loop file run₀ b₀ run b =
-    (b ≤ mpb1 .blocks) × (length run ≡ length run₀) × (placed run (506 * b) (partsOf (mpb1 .blocks - b) (drop (512 * b) file)) ≡ placed run₀ 0 (runIn file))
+Inv-loop file n run₀ b₀ run b =
+    (b ≤ n) × (length run ≡ length run₀) × (placed run (506 * b) (partsOf (n - b) (drop (512 * b) file)) ≡ placed run₀ 0 (partsOf n file))
 
 abbrev μ-loop : tie.MeasureT-loop
-μ-loop file run₀ b₀ run b = mpb1 .blocks - b
+μ-loop file n run₀ b₀ run b = n - b
 
 loop-holds : tie.Need-loop-holds Inv-loop μ-loop
-unfolding runIn
-loop-holds c = (omega arith, refl, refl)
-
-mul-from : tie.Need-mul-from Inv-loop μ-loop
-mul-from c = omega arith
-
-add-from : tie.Need-add-from Inv-loop μ-loop
-add-from c = omega arith
-
-add-put : tie.Need-add-put Inv-loop μ-loop
-add-put c = omega arith
-
-sub-put : tie.Need-sub-put Inv-loop μ-loop
-sub-put c = omega arith
-
-part-put-start : tie.Need-part-put-start Inv-loop μ-loop
-part-put-start c = omega arith
-
-part-put-end : tie.Need-part-put-end Inv-loop μ-loop
-part-put-end c = omega arith
-
-mul-put : tie.Need-mul-put Inv-loop μ-loop
-mul-put c = omega arith
-
-put-requires : tie.Need-put-requires Inv-loop μ-loop
-put-requires c κs = omega arith
-
-add-b : tie.Need-add-b Inv-loop μ-loop
-add-b c = omega arith
-
-loop-less : tie.Need-loop-less Inv-loop μ-loop
-loop-less c = omega arith
+loop-holds c =
+    let a = c .before .before .args in
+    (omega arith, refl, ap (λ (k : ℕ). placed (a .run .now) 0 (partsOf k (a .file .now))) (omega arith))
 
 loop-again : tie.Need-loop-again Inv-loop μ-loop
 loop-again c =
     let l = c .before .before .before .before .before .before in
     let s = l .before .before .before in
     let f = s .args .file .now in
+    let n = s .args .n in
     let b = l .loop .b in
-    let m : length (l .loop .run) ≡ runLength mpb1 = omega arith in
+    let m : length (l .loop .run) ≡ 506 * n = omega arith in
     let e = c .before .before .put .ensures ∙ ap (placed (l .loop .run) (506 * b)) (part-is f (512 * b + 2) 506) in (
       omega arith,
-      join-length (mpb1 .blocks) f (l .loop .run) b _ (omega arith) (omega arith) m e ∙ l .loop .inv .1,
-      join-turn (mpb1 .blocks) f (l .loop .run) b _ (omega arith) (omega arith) m e ∙ l .loop .inv .2,
+      join-length n f (l .loop .run) b _ (omega arith) (omega arith) m e ∙ l .loop .inv .1,
+      join-turn n f (l .loop .run) b _ (omega arith) (omega arith) m e ∙ l .loop .inv .2,
     )
-
-same-length : tie.Need-same-length Inv-loop μ-loop
-same-length c = omega arith
 
 returns : tie.Need-returns Inv-loop μ-loop
 returns c =
     let l = c .before in
     let s = l .before .before .before in
     let f = s .args .file .now in
-    let n = run-length f (omega arith) in
-    sym (join-end (mpb1 .blocks) f (l .loop .run) (l .loop .b) (omega arith)) ∙ l .loop .inv .2 ∙ placed-whole (s .args .run .now) (runIn f) (omega arith)
+    let n = s .args .n in
+    let long = parts-length n f (omega arith) in
+    sym (join-end n f (l .loop .run) (l .loop .b) (omega arith)) ∙ l .loop .inv .2 ∙ placed-whole (s .args .run .now) (partsOf n f) (omega arith)
 
 pub join-parts-spec : {M : Type 1} → statement M
 join-parts-spec =
     tie.close
-    (tie.spec
-    Inv-loop
-    μ-loop
-    loop-holds
-    mul-from
-    add-from
-    add-put
-    sub-put
-    part-put-start
-    part-put-end
-    mul-put
-    put-requires
-    add-b
-    loop-less
-    loop-again
-    same-length
-    returns)
+    (tie.spec Inv-loop μ-loop loop-holds (search needs) (search needs) (search needs) (search needs) (search needs)
+    (search needs) (search needs) (search needs) (search needs) (search needs) loop-again (search needs) returns)

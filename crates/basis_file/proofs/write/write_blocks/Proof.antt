@@ -1,94 +1,51 @@
 -- The blocks that are left give the same output as all of them.
 use mathlib.Core.Path.{_≡_, refl, sym, ap, _∙_}
-use Prim.Native.Nat.{_*_, _-_, _≤_}
+use Prim.Native.Nat.{ℕ, _*_, _-_, _≤_}
 use native.Mathlib.Omega.{arith}
 use lib.ListN.{length, drop}
-use Rattle.layout.specs.Layout.{mpb1, fileLength}
 use Rattle.lent.specs.Lent.{placed}
 use Rattle.block.specs.Block.{blockOf}
 use Rattle.block.specs.Blocks.{blocksOf}
-use Rattle.basis_file.specs.File.{fileOf}
 use Rattle.block.proofs.Joined.{part-is}
 use Rattle.basis_file.proofs.Turns.{write-length, write-turn, write-end}
+use borrow.Author.Needs.{needs}
 use Rattle.basis_file.proofs.write.write_blocks.Statement.{statement}
 use Rattle.basis_file.proofs.write.write_blocks.Tie as tie
 
 abbrev Inv-loop : tie.InvT-loop
-Inv-loop run file₀ b₀ file b =
-    (b ≤ mpb1 .blocks) × (length file ≡ length file₀) × (placed file (512 * b) (blocksOf b (mpb1 .blocks - b) (drop (506 * b) run)) ≡ placed file₀ 0 (fileOf run))
+Inv-loop run n file₀ b₀ file b =
+    (b ≤ n) × (length file ≡ length file₀) × (placed file (512 * b) (blocksOf b (n - b) (drop (506 * b) run)) ≡ placed file₀ 0 (blocksOf 0 n run))
 
 abbrev μ-loop : tie.MeasureT-loop
-μ-loop run file₀ b₀ file b = mpb1 .blocks - b
+μ-loop run n file₀ b₀ file b = n - b
 
 loop-holds : tie.Need-loop-holds Inv-loop μ-loop
-unfolding fileOf
-loop-holds c = (omega arith, refl, refl)
-
-mul-from : tie.Need-mul-from Inv-loop μ-loop
-mul-from c = omega arith
-
-add-put-block : tie.Need-add-put-block Inv-loop μ-loop
-add-put-block c = omega arith
-
-sub-put-block : tie.Need-sub-put-block Inv-loop μ-loop
-sub-put-block c = omega arith
-
-part-put-block-start : tie.Need-part-put-block-start Inv-loop μ-loop
-part-put-block-start c = omega arith
-
-part-put-block-end : tie.Need-part-put-block-end Inv-loop μ-loop
-part-put-block-end c = omega arith
-
-mul-put-block : tie.Need-mul-put-block Inv-loop μ-loop
-mul-put-block c = omega arith
-
-put-block-requires : tie.Need-put-block-requires Inv-loop μ-loop
-put-block-requires c κs = omega arith
-
-add-b : tie.Need-add-b Inv-loop μ-loop
-add-b c = omega arith
-
-loop-less : tie.Need-loop-less Inv-loop μ-loop
-loop-less c = omega arith
+loop-holds c =
+    let a = c .before .before .args in
+    (omega arith, refl, ap (λ (k : ℕ). placed (a .file .now) 0 (blocksOf 0 k (a .run .now))) (omega arith))
 
 loop-again : tie.Need-loop-again Inv-loop μ-loop
 loop-again c =
     let l = c .before .before .before .before .before .before in
     let s = l .before .before .before in
     let r = s .args .run .now in
+    let n = s .args .n in
     let b = l .loop .b in
-    let m : fileLength mpb1 ≤ length (l .loop .file) = omega arith in
+    let m : 512 * n ≤ length (l .loop .file) = omega arith in
     let e = c .before .before .put-block .ensures ∙ ap (λ x. placed (l .loop .file) (512 * b) (blockOf b x)) (part-is r (506 * b) 506) in (
       omega arith,
-      write-length (mpb1 .blocks) r (l .loop .file) b _ (omega arith) (omega arith) m e ∙ l .loop .inv .1,
-      write-turn (mpb1 .blocks) r (l .loop .file) b _ (omega arith) (omega arith) m e ∙ l .loop .inv .2,
+      write-length n r (l .loop .file) b _ (omega arith) (omega arith) m e ∙ l .loop .inv .1,
+      write-turn n r (l .loop .file) b _ (omega arith) (omega arith) m e ∙ l .loop .inv .2,
     )
-
-same-length : tie.Need-same-length Inv-loop μ-loop
-same-length c = omega arith
 
 returns : tie.Need-returns Inv-loop μ-loop
 returns c =
     let l = c .before in
     let s = l .before .before .before in
-    sym (write-end (mpb1 .blocks) (s .args .run .now) (l .loop .file) (l .loop .b) (omega arith)) ∙ l .loop .inv .2
+    sym (write-end (s .args .n) (s .args .run .now) (l .loop .file) (l .loop .b) (omega arith)) ∙ l .loop .inv .2
 
 pub write-blocks-spec : {M : Type 1} → statement M
 write-blocks-spec =
     tie.close
-    (tie.spec
-    Inv-loop
-    μ-loop
-    loop-holds
-    mul-from
-    add-put-block
-    sub-put-block
-    part-put-block-start
-    part-put-block-end
-    mul-put-block
-    put-block-requires
-    add-b
-    loop-less
-    loop-again
-    same-length
-    returns)
+    (tie.spec Inv-loop μ-loop loop-holds (search needs) (search needs) (search needs) (search needs) (search needs)
+    (search needs) (search needs) (search needs) (search needs) loop-again (search needs) returns)

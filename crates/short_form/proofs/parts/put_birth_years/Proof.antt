@@ -6,6 +6,7 @@ use lib.ListN.{length}
 use Rattle.layout.specs.Layout.{runLength, birthYears, birthYearProportionsAt}
 use Rattle.layout.proofs.EachForm.{fields-inside}
 use Rattle.short_form.proofs.Placing.{birth-years-placed}
+use Rattle.layout.specs.Meaning.{meant}
 use borrow.Author.Needs.{needs}
 use Rattle.short_form.proofs.parts.put_birth_years.Statement.{statement}
 use Rattle.short_form.proofs.parts.put_birth_years.Tie as tie
@@ -21,25 +22,25 @@ abbrev four-put : tie.After-slice-known5 → tie.Start
 four-put c = three-put (c .before .before .before .before .before)
 
 part-put-end : tie.Need-part-put-end
-part-put-end c = search (needs, fields-inside (c .before .before .before .before .before .args .form))
+part-put-end c = search (needs, fields-inside (meant (c .before .before .before .before .before .args .form)))
 
 put-requires : tie.Need-put-requires
-put-requires c κs = search (needs, fields-inside (c .before .before .before .before .before .before .before .args .form))
+put-requires c κs = search (needs, fields-inside (meant (c .before .before .before .before .before .before .before .args .form)))
 
 put-repeated-requires : tie.Need-put-repeated-requires
-put-repeated-requires c κs = search (needs, fields-inside (one-put (c .before) .args .form))
+put-repeated-requires c κs = search (needs, fields-inside (meant (one-put (c .before) .args .form)))
 
 put-repeated-requires-2 : tie.Need-put-repeated-requires-2
-put-repeated-requires-2 c κs = search (needs, fields-inside (one-put (c .before .before .before .before .before .before) .args .form))
+put-repeated-requires-2 c κs = search (needs, fields-inside (meant (one-put (c .before .before .before .before .before .before) .args .form)))
 
 put-proportions-requires : tie.Need-put-proportions-requires
-put-proportions-requires c κs = search (needs, fields-inside (three-put (c .before .before) .args .form))
+put-proportions-requires c κs = search (needs, fields-inside (meant (three-put (c .before .before) .args .form)))
 
 sub-put-repeated : tie.Need-sub-put-repeated
-sub-put-repeated c = search (needs, fields-inside (four-put c .args .form))
+sub-put-repeated c = search (needs, fields-inside (meant (four-put c .args .form)))
 
 put-repeated-requires-3 : tie.Need-put-repeated-requires-3
-put-repeated-requires-3 c κs = search (needs, fields-inside (four-put (c .before) .args .form))
+put-repeated-requires-3 c κs = search (needs, fields-inside (meant (four-put (c .before) .args .form)))
 
 returns : tie.Need-returns
 returns c =
@@ -53,9 +54,9 @@ returns c =
     let from = e .before .before .birth-year-initial-rates-at in
     let long = e .before .birth-year-long-term-rates-at in
     let kept : long .result - from .result ≡ 4 * birthYears = omega (arith, from .ensures, long .ensures) in
-    let shares : p .before .birth-year-proportions-at .result ≡ birthYearProportionsAt (s .args .form) = p .before .birth-year-proportions-at .ensures in
-    let size : length (s .args .run .now) ≡ runLength (s .args .form) = search needs in
-    birth-years-placed (s .args .form) (s .args .run .now) size (s .args .out .now) _ _ _ _ (search needs) _
+    let shares : p .before .birth-year-proportions-at .result ≡ birthYearProportionsAt (meant (s .args .form)) = p .before .birth-year-proportions-at .ensures in
+    let size : length (s .args .run .now) ≡ runLength (meant (s .args .form)) = search needs in
+    birth-years-placed (meant (s .args .form)) (s .args .run .now) size (s .args .out .now) _ _ _ _ (search needs) _
     (rw (kept, from .ensures) at (a .put .ensures)) (rw (long .ensures) at (b .put-repeated .ensures))
     (rw (t .before .birth-year-periods-at .ensures) at (t .put-repeated2 .ensures))
     (rw shares at (p .put-proportions .ensures))

@@ -1,0 +1,3 @@
+mod Alike
+pub mod Forms
+mod Within
