@@ -34,7 +34,8 @@ module _ (file : List ℕ) (h : fileCheck file ≡ passed) where
   pub run-is-accepted : Accepted (runIn file)
   run-is-accepted = accepted (runIn file) (run-accepted file h)
 
-  pub run-in-front : (room : List ℕ) (c : Finding) → c ≡ passed → (n : ℕ) → n ≡ runLength (formOfFile (length file)) → take n (written c (runIn file) room) ≡ runIn file
+  pub run-in-front : (room : List ℕ) (c : Finding) → c ≡ passed → (n : ℕ) → n ≡ runLength (formOfFile (length file)) →
+      take n (written c (runIn file) room) ≡ runIn file
   run-in-front room c e n k =
       let size = run-size file h ∙ sym k in
       ap (take n) (filled c (runIn file) room n e size) ∙ take-at (runIn file) (drop n room) n size
