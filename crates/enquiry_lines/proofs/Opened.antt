@@ -1,6 +1,6 @@
 -- What stands behind the opening: the accepted run and its history. Assumes nothing.
 use Prim.Native.Nat.{ℕ, _≤_}
-use mathlib.Core.Path.{_≡_, ap, sym, _∙_}
+use mathlib.Core.Path.{_≡_, refl, ap, sym, _∙_}
 use mathlib.Core.List.{List}
 use native.Mathlib.Omega.{arith}
 use lib.ListN.{length, take, drop, replicate, length-replicate}
@@ -25,12 +25,17 @@ use Rattle.enquiry_lines.specs.Output.{filesCheck, Opened}
 pub room-long : (n : ℕ) → n ≤ length (replicate {0} {A = ℕ} n 0)
 room-long n = omega (arith, length-replicate {0} {A = ℕ} n 0)
 
+-- no run is longer than MPB2's
+pub needed-short : (file : List ℕ) (n : ℕ) → n ≡ runLength (formOfFile (length file)) → n ≤ runLength Mpb2
+needed-short file n e = omega (arith, e, run-high (formOfFile (length file)))
+
 -- the run in an accepted file stands in front of room for either form, as long as the file's form says
 module _ (file : List ℕ) (h : fileCheck file ≡ passed) where
   pub run-is-accepted : Accepted (runIn file)
   run-is-accepted = accepted (runIn file) (run-accepted file h)
 
-  pub run-in-front : (room : List ℕ) (c : Finding) → c ≡ passed → (n : ℕ) → n ≡ runLength (formOfFile (length file)) → take n (written c (runIn file) room) ≡ runIn file
+  pub run-in-front : (room : List ℕ) (c : Finding) → c ≡ passed → (n : ℕ) → n ≡ runLength (formOfFile (length file)) →
+      take n (written c (runIn file) room) ≡ runIn file
   run-in-front room c e n k =
       let size = run-size file h ∙ sym k in
       ap (take n) (filled c (runIn file) room n e size) ∙ take-at (runIn file) (drop n room) n size
@@ -38,8 +43,11 @@ module _ (file : List ℕ) (h : fileCheck file ≡ passed) where
 -- where there is room, the file's own check decides
 pub read-check : (file room : List ℕ) → runLength mpb2 ≤ length room → (c : Finding) → c ≡ readCheck file room → fileCheck file ≡ c
 read-check file room l c e =
-    let form = formOfFile (length file) in
-    sym (roomy (runLength form) room (fileCheck file) (omega (arith, run-high form))) ∙ sym e
+    sym (roomy (runLength (formOfFile (length file))) room (fileCheck file) (omega (arith, needed-short file _ refl))) ∙ sym e
+
+module _ {file history room out run after : List ℕ} {r : Opening} (o : Opened file history room out run after r) where
+  pub opened-short : (n : ℕ) → n ≡ runLength (formOfFile (length file)) → n ≤ runLength Mpb2
+  opened-short n k = needed-short file n k
 
 -- the run with its history, where the files have passed
 module _ {file history room out run after : List ℕ} {r : Opening} (o : Opened file history room out run after r) (h : finding (r .check) ≡ passed) where

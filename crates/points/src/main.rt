@@ -44,7 +44,7 @@ fn history_room() -> [u8; 90113]
     [0; 90113]
 }
 
-// Room for the run of either form, which stands in front of it.
+// Room for the run of either form, which is put into its front.
 fn run_room() -> [u8; layout::MPB2_RUN_LENGTH]
     ensures { λ r. ⌜ runLength mpb2 ≡ length r ⌝ }
 {

@@ -1,5 +1,5 @@
 -- What is joined is the run in the file; the output is written only where its check has passed, and then it has the run in front.
-use mathlib.Core.Path.{_≡_, sym, ap, _∙_}
+use mathlib.Core.Path.{sym, ap, _∙_}
 use Prim.Native.Nat.{ℕ}
 use native.Mathlib.Omega.{arith}
 use Rattle.outcome.specs.Outcome.{finding}

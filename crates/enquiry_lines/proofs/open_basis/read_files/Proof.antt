@@ -11,13 +11,12 @@ use Rattle.outcome.proofs.Outcome.{first-passed, first-refused}
 use Rattle.lent.specs.Lent.{placed}
 use Rattle.lent.proofs.Lent.{kept, put-in-front}
 use Rattle.layout.specs.Layout.{mpb2}
-use Rattle.layout.specs.Layout.{runLength, formOfFile}
-use Rattle.layout.proofs.EachForm.{run-high}
+use Rattle.layout.specs.Layout.{runLength}
 use Rattle.basis_file.specs.File.{fileCheck, runIn}
 use Rattle.outcome.specs.Outcome.{passed, finding}
 use Rattle.history.specs.History.{historyCheck}
 use Rattle.enquiry_lines.specs.Output.{filesCheck}
-use Rattle.enquiry_lines.proofs.Opened.{run-is-accepted, run-in-front, read-check, room-long}
+use Rattle.enquiry_lines.proofs.Opened.{run-is-accepted, run-in-front, read-check, room-long, needed-short}
 use borrow.Author.Needs.{needs}
 use Rattle.enquiry_lines.proofs.open_basis.read_files.Statement.{statement}
 use Rattle.enquiry_lines.proofs.open_basis.read_files.Tie as tie
@@ -59,7 +58,7 @@ returns c =
     (told ∙ sym (first-refused _ _ _ (decides k ∙ told)), sym (kept (finding (k .read-file .result)) _ _ _ told))
 
 array-share-prefix-room : tie.Need-array-share-prefix-room
-array-share-prefix-room m = omega (arith, m .length-needed .ensures, run-high (formOfFile (length (start (reads m) .args .file .now))))
+array-share-prefix-room m = omega (arith, needed-short (start (reads m) .args .file .now) _ (m .length-needed .ensures))
 
 front-long : (m : tie.After-length-needed) → length (take (m .length-needed .result) (reads m .read-file .last .1 .0)) ≡ m .length-needed .result
 front-long m = length-take-le (m .length-needed .result) (reads m .read-file .last .1 .0) (omega (arith, array-share-prefix-room m))

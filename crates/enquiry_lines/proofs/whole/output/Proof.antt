@@ -2,16 +2,14 @@
 use mathlib.Core.Path.{_≡_, refl, ap, sym}
 use Prim.Native.Nat.{ℕ}
 use native.Mathlib.Omega.{arith}
-use lib.ListN.{length, take, length-replicate}
+use lib.ListN.{take, length-replicate}
 use lib.Seq.{length-take-le}
 use Rattle.factor_table.specs.FactorTable.{tableLength}
-use Rattle.layout.specs.Layout.{formOfFile}
-use Rattle.layout.proofs.EachForm.{run-high}
 use Rattle.outcome.specs.Outcome.{passed, finding}
 use Rattle.history.specs.History.{Workable}
 use Rattle.reply_text.proofs.Puts.{being, then}
 use Rattle.enquiry_lines.proofs.State.{sound-empty, left-sound, left-few}
-use Rattle.enquiry_lines.proofs.Opened.{opened-workable}
+use Rattle.enquiry_lines.proofs.Opened.{opened-workable, opened-short}
 use Rattle.enquiry_lines.proofs.Printed.{last-reply, accepted-output, refused-output}
 use borrow.Author.Needs.{needs}
 use Rattle.enquiry_lines.proofs.whole.output.Statement.{statement}
@@ -35,7 +33,7 @@ returns c = let o = c .before .before .before .before .before in
     being (refused-output (o .open-files .ensures) (start o .args .text .now) _ (ap finding (c .enum-told2 .given .1))) refl (o .open-files .ensures .put)
 
 array-share-prefix-room : tie.Need-array-share-prefix-room
-array-share-prefix-room m = omega (arith, m .length-needed .ensures, run-high (formOfFile (length (start (opens m) .args .file .now))))
+array-share-prefix-room m = omega (arith, opened-short (opens m .open-files .ensures) _ (m .length-needed .ensures))
 
 slice-aggregate-run : tie.Need-slice-aggregate-run
 slice-aggregate-run c =
