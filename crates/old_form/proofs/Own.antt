@@ -15,8 +15,8 @@ use Rattle.layout.specs.Layout.{widthOf, proportionOf, proportionAt, proportion
 use Rattle.layout.specs.Layout.{foundationAt, ageProportionsAt, birthYearInitialRatesAt, birthYearProportionsAt}
 use Rattle.basis.specs.Basis.{Accepted}
 use Rattle.basis.proofs.Lengths.{fields-within}
-use Rattle.old_form.specs.OldForm.{proportionsIn, between, inForm}
-use Rattle.old_form.proofs.Laying.{tail, in-six}
+use Rattle.old_form.specs.OldForm.{proportionsIn, between, lastBytes, inForm}
+use Rattle.old_form.proofs.Laying.{in-six}
 
 -- six stretches of a list, one after another
 glued : (run a b c d e f : List ℕ) (n₁ n₂ n₃ n₄ n₅ : ℕ) → n₁ ≤ n₂ → n₂ ≤ n₃ → n₃ ≤ n₄ → n₄ ≤ n₅
@@ -65,11 +65,11 @@ module _ (run : List ℕ) (a : Accepted run) (byte : (i : ℕ) → byteAt run i 
   abbrev own : Form
   own = formOfRun (length run)
 
-  tail-own : tail own run ≡ drop (fieldsEnd own) run
-  tail-own =
+  last-own : lastBytes own ≡ drop (fieldsEnd own) run
+  last-own =
       let n = runLength own - fieldsEnd own in
-      let l : length (tail own run) ≡ n = length-replicate n 0 in
-      ext-getD 0 (tail own run) (drop (fieldsEnd own) run) (l ∙ rw length-drop (ap (λ (k : ℕ). k - fieldsEnd own) (sym (a .size))))
+      let l : length (lastBytes own) ≡ n = length-replicate n _ in
+      ext-getD 0 (lastBytes own) (drop (fieldsEnd own) run) (l ∙ rw length-drop (ap (λ (k : ℕ). k - fieldsEnd own) (sym (a .size))))
       (λ i h. getD-replicate n i 0 0 (omega arith)
       ∙ sym (getD-drop (fieldsEnd own) run i 0 ∙ a .lastZeros (fieldsEnd own + i) (omega arith) (omega (arith, a .size))))
 
@@ -80,4 +80,4 @@ module _ (run : List ℕ) (a : Accepted run) (byte : (i : ℕ) → byteAt run i 
       ∙ glued run _ _ _ _ _ _ foundationAt ageProportionsAt (birthYearInitialRatesAt own) (birthYearProportionsAt own) (fieldsEnd own)
       (omega arith) (omega arith) (omega arith) (omega arith) (sym (a .mark)) refl
       (stretch run byte own refl ageProportionsAt ages (birthYearInitialRatesAt own) refl (omega arith)) refl
-      (stretch run byte own refl (birthYearProportionsAt own) birthYears (fieldsEnd own) refl w) tail-own
+      (stretch run byte own refl (birthYearProportionsAt own) birthYears (fieldsEnd own) refl w) last-own

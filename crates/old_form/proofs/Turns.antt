@@ -6,11 +6,16 @@ use Prim.Native.Nat.{ℕ, suc, _+_, _*_, _-_, _<_, _≤_}
 use native.Mathlib.Omega.{arith}
 use lib.ListN.{length}
 use Rattle.outcome.specs.Outcome.{passed, refusedBy, refusal}
-use Rattle.layout.specs.Layout.{mpb1}
+use Rattle.layout.specs.Layout.{Form, mpb1}
 use Rattle.layout.specs.Layout.{widthOf, proportionOf, proportionAt, proportionBytes, formOfRun}
+use Rattle.basis.proofs.Lengths.{entry-inside}
 use Rattle.lent.specs.Lent.{placed}
 use Rattle.lent.proofs.Lent.{placed-none, then, then-length}
 use Rattle.old_form.specs.OldForm.{proportionsIn, isWhole, wholeFrom}
+
+-- how many bytes a P has
+abbrev pub width-of : Form → ℕ
+width-of form = widthOf (proportionOf form)
 
 module _ (run : List ℕ) (offset n place : ℕ) where
   abbrev here : ℕ
@@ -20,15 +25,20 @@ module _ (run : List ℕ) (offset n place : ℕ) where
     left : n - place ≡ suc (n - (place + 1))
     left = omega arith
 
+    -- each ends inside the run if the last does
+    pub entry-within : (width : ℕ) → width ≡ width-of (formOfRun (length run)) → offset + width-of (formOfRun (length run)) * n ≤ length run
+        → offset + width * place + width ≤ length run
+    entry-within width e l = rw e (omega (arith, entry-inside (width-of (formOfRun (length run))) place n h))
+
     -- ---- looked at
     pub whole-turn : {p : ℕ} → p ≡ here → isWhole p ≡ true → wholeFrom run offset (place + 1) (n - (place + 1)) ≡ wholeFrom run offset place (n - place)
     unfolding wholeFrom
     whole-turn same e = rw (left, ← same, e) refl
 
-    pub whole-stop : {p : ℕ} → p ≡ here → isWhole p ≡ false
-        → refusedBy (refusal 17 (offset + widthOf (proportionOf (formOfRun (length run))) * place) 0) ≡ wholeFrom run offset place (n - place)
+    pub whole-stop : {p : ℕ} → p ≡ here → isWhole p ≡ false → (width : ℕ) → width ≡ width-of (formOfRun (length run))
+        → refusedBy (refusal 17 (offset + width * place) 0) ≡ wholeFrom run offset place (n - place)
     unfolding wholeFrom
-    whole-stop same e = rw (left, ← same, e) refl
+    whole-stop same e width w = rw (left, ← same, e, w) refl
 
     -- ---- put into an output
     module _ (out new : List ℕ) (at : ℕ) (room : at + n ≤ length out) (e : new ≡ placed out (at + place) (proportionBytes mpb1 here)) where

@@ -36,13 +36,17 @@ between run from to = take (to - from) (drop from run)
 unfoldable pub agesIn : Form → List ℕ → List ℕ
 agesIn form run = markOf form ++ between run foundationAt ageProportionsAt ++ proportionsIn form run ageProportionsAt 0 ages
 
+-- the zero bytes behind the fields
+abbrev pub lastBytes : Form → List ℕ
+lastBytes form = replicate (runLength form - fieldsEnd form) 0
+
 -- the fields by birth year before P as they stand, P, and the form's last zero bytes
 unfoldable pub birthYearsIn : Form → List ℕ → List ℕ
 birthYearsIn form run =
     let own = formOfRun (length run) in
     between run (birthYearInitialRatesAt own) (birthYearProportionsAt own)
     ++ proportionsIn form run (birthYearProportionsAt own) 0 birthYears
-    ++ replicate (runLength form - fieldsEnd form) 0
+    ++ lastBytes form
 
 unfoldable pub inForm : Form → List ℕ → List ℕ
 inForm form run = agesIn form run ++ birthYearsIn form run

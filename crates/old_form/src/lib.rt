@@ -25,12 +25,12 @@ pub fn write_old_form(run: &[u8], file: &mut [u8]) -> Check
     ensures { λ r. ⌜ finding r ≡ writeOldCheck (now (run .entry)) (now (file .entry)) ⌝ }
     ensures { λ r. ⌜ now (file .exit) ≡ written (finding r) (oldFileOf (now (run .entry))) (now (file .entry)) ⌝ }
 {
-    let c = outcome::first_of(
+    let checked = outcome::first_of(
         lent::check_room(layout::MPB1_FILE_LENGTH, file.len()),
         check_old_form(run),
     );
-    if let Check::Refused(_) = c {
-        return c;
+    if let Check::Refused(_) = checked {
+        return checked;
     }
     let mut old = [0u8; layout::MPB1_RUN_LENGTH];
     fields::lay_old_form(run, &mut old);

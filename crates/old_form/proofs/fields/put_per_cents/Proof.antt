@@ -1,16 +1,15 @@
 -- What is left of the P gives the same output as all of them.
-use mathlib.Core.Path.{_≡_, refl, sym, _∙_}
+use mathlib.Core.Path.{_≡_, refl, sym, ap, _∙_}
 use Prim.Native.Nat.{_+_, _-_, _≤_}
 use native.Mathlib.Nat.{add-zero, sub-zero}
 use native.Mathlib.Omega.{arith}
 use lib.ListN.{length}
 use Rattle.layout.specs.Layout.{mpb1}
-use Rattle.layout.specs.Layout.{widthOf, proportionOf, formOfRun}
 use Rattle.lent.specs.Lent.{placed}
 use Rattle.basis.specs.Basis.{Accepted}
-use Rattle.basis.proofs.Lengths.{entry-inside, short-enough}
+use Rattle.basis.proofs.Lengths.{short-enough}
 use Rattle.old_form.specs.OldForm.{proportionsIn, ProportionsWithin}
-use Rattle.old_form.proofs.Turns.{put-length, put-turn, put-end}
+use Rattle.old_form.proofs.Turns.{width-of, entry-within, put-length, put-turn, put-end}
 use borrow.Author.Needs.{needs}
 use Rattle.old_form.proofs.fields.put_per_cents.Statement.{statement}
 use Rattle.old_form.proofs.fields.put_per_cents.Tie as tie
@@ -33,8 +32,7 @@ proportion-at-requires c κs =
     let s = f .before .before .before in
     let run = s .args .run .now in
     let a : Accepted run = search needs in
-    let h = entry-inside (widthOf (proportionOf (formOfRun (length run)))) (l .loop .place) (s .args .n) (c .loop-test .taken) in
-    (rw (f .form-of-run .ensures) (omega (arith, h)), short-enough run a)
+    (entry-within run (s .args .offset) (s .args .n) (l .loop .place) (c .loop-test .taken) _ (ap width-of (f .form-of-run .ensures)) (search needs), short-enough run a)
 
 put-proportion-requires : tie.Need-put-proportion-requires Inv-loop μ-loop
 put-proportion-requires c κs =

@@ -1,15 +1,13 @@
 -- What is left of a table gives the same answer as the whole table.
-use mathlib.Core.Path.{_≡_, sym, _∙_}
+use mathlib.Core.Path.{_≡_, sym, ap, _∙_}
 use Prim.Native.Nat.{_-_, _≤_}
 use native.Mathlib.Nat.{sub-zero}
 use native.Mathlib.Omega.{arith}
-use lib.ListN.{length}
 use borrow.Author.Tests.{eq-eqb, ne-eqb}
-use Rattle.layout.specs.Layout.{widthOf, proportionOf, formOfRun}
 use Rattle.basis.specs.Basis.{Accepted}
-use Rattle.basis.proofs.Lengths.{entry-inside, short-enough}
+use Rattle.basis.proofs.Lengths.{short-enough}
 use Rattle.old_form.specs.OldForm.{wholeFrom}
-use Rattle.old_form.proofs.Turns.{whole-turn, whole-stop, whole-end}
+use Rattle.old_form.proofs.Turns.{width-of, entry-within, whole-turn, whole-stop, whole-end}
 use borrow.Author.Needs.{needs}
 use Rattle.old_form.proofs.whole.check_table.Statement.{statement}
 use Rattle.old_form.proofs.whole.check_table.Tie as tie
@@ -30,8 +28,7 @@ proportion-at-requires c κs =
     let s = f .before .before in
     let run = s .args .run .now in
     let a : Accepted run = search needs in
-    let h = entry-inside (widthOf (proportionOf (formOfRun (length run)))) (l .loop .place) (s .args .n) (c .loop-test .taken) in
-    (rw (f .form-of-run .ensures) (omega (arith, h)), short-enough run a)
+    (entry-within run (s .args .offset) (s .args .n) (l .loop .place) (c .loop-test .taken) _ (ap width-of (f .form-of-run .ensures)) (search needs), short-enough run a)
 
 mul-t11 : tie.Need-mul-t11 Inv-loop μ-loop
 mul-t11 c =
@@ -40,8 +37,9 @@ mul-t11 c =
     let s = w .before .before .before in
     let run = s .args .run .now in
     let a : Accepted run = search needs in
-    let h = entry-inside (widthOf (proportionOf (formOfRun (length run)))) (t .before .loop .place) (s .args .n) (t .loop-test .taken) in
-    rw (w .proportion-width .ensures, w .before .form-of-run .ensures) (record { fits = omega (arith, h, short-enough run a) })
+    let e = w .proportion-width .ensures ∙ ap width-of (w .before .form-of-run .ensures) in
+    let h = entry-within run (s .args .offset) (s .args .n) (t .before .loop .place) (t .loop-test .taken) (w .proportion-width .result) e (search needs) in
+    record { fits = omega (arith, h, short-enough run a) }
 
 add-t12 : tie.Need-add-t12 Inv-loop μ-loop
 add-t12 c =
@@ -50,8 +48,9 @@ add-t12 c =
     let s = w .before .before .before in
     let run = s .args .run .now in
     let a : Accepted run = search needs in
-    let h = entry-inside (widthOf (proportionOf (formOfRun (length run)))) (t .before .loop .place) (s .args .n) (t .loop-test .taken) in
-    rw (w .proportion-width .ensures, w .before .form-of-run .ensures) (record { fits = omega (arith, h, short-enough run a) })
+    let e = w .proportion-width .ensures ∙ ap width-of (w .before .form-of-run .ensures) in
+    let h = entry-within run (s .args .offset) (s .args .n) (t .before .loop .place) (t .loop-test .taken) (w .proportion-width .result) e (search needs) in
+    record { fits = omega (arith, h, short-enough run a) }
 
 returns : tie.Need-returns Inv-loop μ-loop
 returns c =
@@ -61,9 +60,9 @@ returns c =
     let w = l .before in
     let f = w .before in
     let a = f .before .before .args in
+    let width = w .proportion-width .ensures ∙ ap width-of (f .form-of-run .ensures) in
     let e = rw (f .form-of-run .ensures) at (p .proportion-at .ensures) in
-    rw (w .proportion-width .ensures, f .form-of-run .ensures)
-    (whole-stop (a .run .now) (a .offset) (a .n) (l .loop .place) (t .loop-test .taken) e (ne-eqb _ 0 (c .if1 .taken)) ∙ l .loop .inv .1)
+    whole-stop (a .run .now) (a .offset) (a .n) (l .loop .place) (t .loop-test .taken) e (ne-eqb _ 0 (c .if1 .taken)) _ width ∙ l .loop .inv .1
 
 loop-again : tie.Need-loop-again Inv-loop μ-loop
 loop-again c =
