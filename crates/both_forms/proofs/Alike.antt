@@ -9,6 +9,8 @@ use Rattle.run_check.specs.Run.{runCheck}
 use Rattle.history.specs.History.{basisWith, runAndHistoryCheck}
 use Rattle.survivorship.specs.declared.Kind.{Kind}
 use Rattle.enquiry.specs.Enquiry.{improvementEnquiry, factorEnquiry, rateEnquiry, survivorshipEnquiry, expectationEnquiry, annuityEnquiry}
+use Rattle.exact.specs.Model.{exactImprovement, exactFactor, exactRate, exactSurvivors, exactExpectation, exactAnnuity}
+use Rattle.exact.specs.Distance.{largestYears, rateDistance}
 use Rattle.small_set.specs.declared.Questions.{Questions}
 use Rattle.small_set.specs.SmallSet.{smallSetOf}
 use Rattle.grid_record.specs.declared.Point.{Point}
@@ -51,6 +53,24 @@ module _ (run other : List ℕ) (checked : runCheck run ≡ runCheck other) (sta
     pub same-annuity : annuityEnquiry run history kind age deferment year ≡ annuityEnquiry other history kind age deferment year
     unfolding annuityEnquiry runAndHistoryCheck
     same-annuity = rw (checked, stands) refl
+
+  -- ---- the exact model and the distances
+  module _ (history : List ℕ) (age year : ℕ) where
+    pub same-exact-rates : (exactImprovement (basisWith run history) age year ≡ exactImprovement (basisWith other history) age year)
+        × (exactFactor (basisWith run history) age year ≡ exactFactor (basisWith other history) age year)
+        × (exactRate (basisWith run history) age year ≡ exactRate (basisWith other history) age year)
+    same-exact-rates = (rw stands refl, rw stands refl, rw stands refl)
+
+  module _ (history : List ℕ) (kind : Kind) (age n year : ℕ) where
+    pub same-exact-values : (exactSurvivors (basisWith run history) kind age n year ≡ exactSurvivors (basisWith other history) kind age n year)
+        × (exactExpectation (basisWith run history) kind age n year ≡ exactExpectation (basisWith other history) kind age n year)
+        × (exactAnnuity (basisWith run history) kind age n year ≡ exactAnnuity (basisWith other history) kind age n year)
+    same-exact-values = (rw stands refl, rw stands refl, rw stands refl)
+
+  module _ (history : List ℕ) (kind : Kind) (n year : ℕ) where
+    pub same-distances : (largestYears (basisWith run history) kind n year ≡ largestYears (basisWith other history) kind n year)
+        × (rateDistance (basisWith run history) n ≡ rateDistance (basisWith other history) n)
+    same-distances = (rw stands refl, refl)
 
   -- ---- the sets
   pub same-small-set : (history : List ℕ) (questions : Questions) → smallSetOf run history questions ≡ smallSetOf other history questions

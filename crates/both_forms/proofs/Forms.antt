@@ -46,6 +46,9 @@ module _ (run other : List ℕ) (checked : runCheck run ≡ runCheck other) (sta
         survivorship = same.same-survivorship run other checked stands;
         expectation = same.same-expectation run other checked stands;
         annuity = same.same-annuity run other checked stands;
+        exactRates = same.same-exact-rates run other checked stands;
+        exactValues = same.same-exact-values run other checked stands;
+        distances = same.same-distances run other checked stands;
         smallSet = same.same-small-set run other checked stands;
         gridChecked = same.same-grid-check run other checked stands;
         grid = same.same-grid run other checked stands;

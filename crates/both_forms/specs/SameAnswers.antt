@@ -1,6 +1,6 @@
 -- "MPB1 files are still read, each P times 100, and give the same results" (02, change 7): a data run of either form and the run of the other
 -- form with the same fields answer alike, whatever is asked. Every answer is worked out of the run's check and of the basis that it stands
--- for, and so are the exact model and the distances from it.
+-- for, and so is the exact model.
 use mathlib.Core.Path.{_≡_}
 use mathlib.Core.List.{List}
 use Prim.Native.Nat.{ℕ, _≤_}
@@ -15,6 +15,8 @@ use Rattle.old_form.specs.OldForm.{inForm, oldFormCheck}
 use Rattle.short_form.specs.ShortForm.{shortFormCheck, shortFormOf}
 use Rattle.survivorship.specs.declared.Kind.{Kind}
 use Rattle.enquiry.specs.Enquiry.{improvementEnquiry, factorEnquiry, rateEnquiry, survivorshipEnquiry, expectationEnquiry, annuityEnquiry}
+use Rattle.exact.specs.Model.{exactImprovement, exactFactor, exactRate, exactSurvivors, exactExpectation, exactAnnuity}
+use Rattle.exact.specs.Distance.{largestYears, rateDistance}
 use Rattle.small_set.specs.declared.Questions.{Questions}
 use Rattle.small_set.specs.SmallSet.{smallSetOf}
 use Rattle.grid_record.specs.declared.Point.{Point}
@@ -24,7 +26,7 @@ use Rattle.lifeline.specs.Lifeline.{startAt, stepAt}
 use Rattle.roll.specs.Kept.{joinedRoll}
 
 pub record SameAnswers (run other : List ℕ) : Type 0 where
-  -- the checks, and the basis, of which the exact model and the distances are worked out
+  -- the checks, and the basis
   pub check : (history : List ℕ) → runAndHistoryCheck run history ≡ runAndHistoryCheck other history
   pub basis : (history : List ℕ) → basisWith run history ≡ basisWith other history
   -- the six enquiries
@@ -37,6 +39,17 @@ pub record SameAnswers (run other : List ℕ) : Type 0 where
       → expectationEnquiry run history kind age deferment year ≡ expectationEnquiry other history kind age deferment year
   pub annuity : (history : List ℕ) (kind : Kind) (age deferment year : ℕ)
       → annuityEnquiry run history kind age deferment year ≡ annuityEnquiry other history kind age deferment year
+  -- what these are held against: the exact model, its rates of improvement that the distances' premise is about, and the years that they count
+  pub exactRates : (history : List ℕ) (age year : ℕ) → (exactImprovement (basisWith run history) age year ≡ exactImprovement (basisWith other history) age year)
+      × (exactFactor (basisWith run history) age year ≡ exactFactor (basisWith other history) age year)
+      × (exactRate (basisWith run history) age year ≡ exactRate (basisWith other history) age year)
+  pub exactValues : (history : List ℕ) (kind : Kind) (age n year : ℕ)
+      → (exactSurvivors (basisWith run history) kind age n year ≡ exactSurvivors (basisWith other history) kind age n year)
+      × (exactExpectation (basisWith run history) kind age n year ≡ exactExpectation (basisWith other history) kind age n year)
+      × (exactAnnuity (basisWith run history) kind age n year ≡ exactAnnuity (basisWith other history) kind age n year)
+  pub distances : (history : List ℕ) (kind : Kind) (n year : ℕ)
+      → (largestYears (basisWith run history) kind n year ≡ largestYears (basisWith other history) kind n year)
+      × (rateDistance (basisWith run history) n ≡ rateDistance (basisWith other history) n)
   -- the sets
   pub smallSet : (history : List ℕ) (questions : Questions) → smallSetOf run history questions ≡ smallSetOf other history questions
   pub gridChecked : (history : List ℕ) (count : ℕ) → gridCheck run history count ≡ gridCheck other history count
