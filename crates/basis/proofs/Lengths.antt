@@ -5,9 +5,7 @@ use Prim.Native.Nat.{ℕ, suc, _+_, _*_, _≤_, _<_}
 use native.Mathlib.Nat.{mul-suc, mul-le-mul-left}
 use native.Mathlib.Omega.{arith}
 use lib.ListN.{length}
-use Rattle.layout.specs.Layout.{Form}
-use Rattle.layout.specs.Layout.{mpb1, mpb2}
-use Rattle.layout.specs.Layout.{widthOf, proportionOf, runLength, fieldsEnd, formOfRun, ages, birthYears}
+use Rattle.layout.specs.Layout.{Form, mpb1, mpb2, widthOf, proportionOf, runLength, fieldsEnd, formOfRun, ages, birthYears}
 use Rattle.layout.specs.Layout.{ageProportionsAt, birthYearProportionsAt}
 use Rattle.layout.proofs.EachForm.{run-low, run-high, fields-inside}
 use Rattle.basis.specs.Basis.{Accepted}

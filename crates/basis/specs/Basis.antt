@@ -8,8 +8,7 @@ use lib.Signed.{_≤ℤ_}
 use Rattle.arithmetic.specs.Fraction.{U}
 use Rattle.little_endian.specs.Bytes.{byteAt, u16At, i32At}
 use Rattle.layout.specs.declared.Number.the-variants.{Byte, Word, SignedWord}
-use Rattle.layout.specs.Layout.{Form}
-use Rattle.layout.specs.Layout.{entryAt, proportionAt, formOfRun, runLength, fieldsEnd, markOf, ages, birthYears}
+use Rattle.layout.specs.Layout.{Form, entryAt, proportionAt, formOfRun, runLength, fieldsEnd, markOf, ages, birthYears}
 use Rattle.layout.specs.Layout.{foundationAt, baseAt, additionAt, discountAt, zerosAt, baseRatesAt}
 use Rattle.layout.specs.Layout.{ageInitialRatesAt, ageLongTermRatesAt, agePeriodsAt, ageProportionsAt}
 use Rattle.layout.specs.Layout.{birthYearInitialRatesAt, birthYearLongTermRatesAt, birthYearPeriodsAt, birthYearProportionsAt}

@@ -2,8 +2,7 @@
 ghost use mathlib.Core.Path.{_≡_};
 ghost use Prim.Native.Nat.{_+_, _*_, _≤_, _<_};
 ghost use lib.ListN.{length};
-ghost use Rattle.layout.specs.Layout.{mpb2};
-ghost use Rattle.layout.specs.Layout.{widthOf, proportionOf, runLength};
+ghost use Rattle.layout.specs.Layout.{mpb2, widthOf, proportionOf, runLength};
 ghost use Rattle.layout.specs.Meaning.{meant};
 ghost use Rattle.basis.specs.Basis.{basisOf, accumulationOf, termsAt, Accepted, ratedFrom};
 use crate::Convergence;

@@ -8,8 +8,7 @@ use lib.Seq.{length-take-le}
 use borrow.Author.Tests.{eqb-true, eq-eqb, ne-eqb}
 use Rattle.outcome.specs.declared.Refusal.{Refusal}
 use Rattle.outcome.specs.Outcome.{Finding, passed, refusedBy, refusal, firstOf}
-use Rattle.layout.specs.Layout.{Form}
-use Rattle.layout.specs.Layout.{blocksIn, runLength, fileLength, formOfRun, formOfFile}
+use Rattle.layout.specs.Layout.{Form, blocksIn, runLength, fileLength, formOfRun, formOfFile}
 use Rattle.layout.proofs.EachForm.{of-run, of-file}
 use Rattle.run_check.specs.Run.{runCheck}
 use Rattle.outcome.proofs.Outcome.{unless-passed, both-passed, first-stands, first-passed, first-together}

@@ -10,8 +10,7 @@
 ghost use mathlib.Core.Path.{_≡_};
 ghost use Prim.Native.Nat.{_≤_, _<_};
 ghost use lib.ListN.{length};
-ghost use Rattle.layout.specs.Layout.{mpb1, mpb2};
-ghost use Rattle.layout.specs.Layout.{fileLength};
+ghost use Rattle.layout.specs.Layout.{mpb1, mpb2, fileLength};
 use basis_file::read;
 use basis_file::write;
 use case_io::MOST_CASES;

@@ -10,8 +10,7 @@ use Rattle.outcome.specs.Outcome.{Finding, passed, finding}
 use Rattle.outcome.proofs.Outcome.{both-passed}
 use Rattle.lent.specs.Lent.{written}
 use Rattle.lent.proofs.Lent.{roomy, filled}
-use Rattle.layout.specs.Layout.{mpb2}
-use Rattle.layout.specs.Layout.{runLength, formOfFile}
+use Rattle.layout.specs.Layout.{mpb2, runLength, formOfFile}
 use Rattle.layout.proofs.EachForm.{run-high}
 use Rattle.run_check.proofs.Acceptance.{accepted}
 use Rattle.basis_file.specs.File.{runIn, fileCheck, readCheck}

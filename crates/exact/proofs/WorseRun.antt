@@ -7,8 +7,7 @@ use native.Mathlib.Omega.{arith}
 use lib.IntN.{ℤ, pos, negsuc, natAbs}
 use lib.ListN.{length, drop, getD, replicate, length-replicate, length-append, getD-replicate, List·getD-append}
 use lib.Seq.{drop-drop, drop-at, getD-drop}
-use Rattle.layout.specs.Layout.{mpb1}
-use Rattle.layout.specs.Layout.{hundredthsOf, formOfRun, runLength, fieldsEnd, rateLimit, additionAt, discountAt, baseRatesAt}
+use Rattle.layout.specs.Layout.{mpb1, hundredthsOf, formOfRun, runLength, fieldsEnd, rateLimit, additionAt, discountAt, baseRatesAt}
 use Rattle.layout.specs.Layout.{ageInitialRatesAt, ageLongTermRatesAt, agePeriodsAt, ageProportionsAt}
 use Rattle.layout.specs.Layout.{birthYearInitialRatesAt, birthYearLongTermRatesAt, birthYearPeriodsAt, birthYearProportionsAt}
 use Rattle.little_endian.specs.Bytes.{i32At, signed32}

@@ -2,9 +2,7 @@
 use mathlib.Core.Path.{_≡_, refl, ap, _∙_}
 use Prim.Native.Nat.{ℕ, _≤_}
 use native.Mathlib.Omega.{arith}
-use Rattle.layout.specs.Layout.{Form}
-use Rattle.layout.specs.Layout.{mpb1, mpb2}
-use Rattle.layout.specs.Layout.{widthOf, proportionOf, runLength, fileLength, fieldsEnd, formOfRun, formOfFile}
+use Rattle.layout.specs.Layout.{Form, mpb1, mpb2, widthOf, proportionOf, runLength, fileLength, fieldsEnd, formOfRun, formOfFile}
 
 pub width-low : (form : Form) → 1 ≤ widthOf (proportionOf form)
 width-low mpb1 = omega arith

@@ -1,9 +1,7 @@
 -- The layout's offsets, lengths and limit of P are the paper's, by computation. Assumes nothing.
 use mathlib.Core.Path.{_≡_, refl}
 use Prim.Native.Nat.{_*_}
-use Rattle.layout.specs.Layout.{Form}
-use Rattle.layout.specs.Layout.{mpb1, mpb2}
-use Rattle.layout.specs.Layout.{hundredthsOf, greatestOf, greatestProportion}
+use Rattle.layout.specs.Layout.{Form, mpb1, mpb2, hundredthsOf, greatestOf, greatestProportion}
 use Rattle.layout.specs.Printed.{Printed}
 
 proportion-limit : (form : Form) → hundredthsOf form * greatestOf form ≡ greatestProportion

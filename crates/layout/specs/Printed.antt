@@ -2,9 +2,7 @@
 -- of a basis.
 use Prim.Native.Nat.{_*_, _-_}
 use mathlib.Core.Path.{_≡_}
-use Rattle.layout.specs.Layout.{Form}
-use Rattle.layout.specs.Layout.{mpb1, mpb2}
-use Rattle.layout.specs.Layout.{hundredthsOf, greatestOf, runLength, fileLength, fieldsEnd, greatestProportion}
+use Rattle.layout.specs.Layout.{Form, mpb1, mpb2, hundredthsOf, greatestOf, runLength, fileLength, fieldsEnd, greatestProportion}
 use Rattle.layout.specs.Layout.{ageInitialRatesAt, ageLongTermRatesAt, agePeriodsAt, ageProportionsAt}
 use Rattle.layout.specs.Layout.{birthYearInitialRatesAt, birthYearLongTermRatesAt, birthYearPeriodsAt, birthYearProportionsAt}
 

@@ -6,8 +6,7 @@ use native.Mathlib.Omega.{arith}
 use lib.ListN.{length}
 use borrow.Author.Tests.{eq-eqb}
 use Rattle.outcome.specs.Outcome.{Finding, passed, refusedBy, firstOf}
-use Rattle.layout.specs.Layout.{mpb1, mpb2}
-use Rattle.layout.specs.Layout.{formOfRun, proportionAt, ages, birthYears, ageProportionsAt, birthYearProportionsAt}
+use Rattle.layout.specs.Layout.{mpb1, mpb2, formOfRun, proportionAt, ages, birthYears, ageProportionsAt, birthYearProportionsAt}
 use Rattle.run_check.specs.Run.{runCheck}
 use Rattle.run_check.proofs.Acceptance.{accepted, passes}
 use Rattle.basis_file.proofs.RoundTrip.{round-trips}

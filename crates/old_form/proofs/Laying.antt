@@ -5,8 +5,7 @@ use Prim.Native.Nat.{ℕ, _+_, _-_, _<_, _≤_}
 use native.Mathlib.Omega.{arith}
 use lib.ListN.{length, take, length-replicate, getD-replicate}
 use Rattle.little_endian.specs.Bytes.{byteAt}
-use Rattle.layout.specs.Layout.{Form}
-use Rattle.layout.specs.Layout.{formOfRun, runLength, markOf, fieldsEnd, ages, birthYears}
+use Rattle.layout.specs.Layout.{Form, formOfRun, runLength, markOf, fieldsEnd, ages, birthYears}
 use Rattle.layout.specs.Layout.{foundationAt, ageProportionsAt, birthYearInitialRatesAt, birthYearProportionsAt}
 use Rattle.layout.proofs.EachForm.{fields-inside, of-run}
 use Rattle.basis.specs.Basis.{Accepted}

@@ -10,9 +10,7 @@ use Rattle.little_endian.specs.Bytes.{byteAt, u32At, signed32}
 use Rattle.little_endian.proofs.Bytes.{u16-back}
 use Rattle.layout.specs.declared.Number.{Number}
 use Rattle.layout.specs.declared.Number.the-variants.{Byte, Half, Word, SignedWord}
-use Rattle.layout.specs.Layout.{Form}
-use Rattle.layout.specs.Layout.{mpb1, mpb2}
-use Rattle.layout.specs.Layout.{widthOf, valueAt, proportionOf, proportionAt, proportionBytes, hundredthsOf, greatestProportion}
+use Rattle.layout.specs.Layout.{Form, mpb1, mpb2, widthOf, valueAt, proportionOf, proportionAt, proportionBytes, hundredthsOf, greatestProportion}
 use Rattle.old_form.proofs.Parts.{Part}
 
 abbrev SameBytes : ℕ → List ℕ → ℕ → List ℕ → ℕ → Type 0

@@ -9,8 +9,7 @@ use lib.ListN.{length, take, drop, length-replicate, length-drop, getD-replicate
 use lib.Seq.{drop-cons, drop-drop, take-add, getD-drop, ext-getD}
 use Rattle.little_endian.specs.Bytes.{byteAt}
 use Rattle.little_endian.proofs.Bytes.{bytes-of-u16}
-use Rattle.layout.specs.Layout.{Form}
-use Rattle.layout.specs.Layout.{mpb1, mpb2}
+use Rattle.layout.specs.Layout.{Form, mpb1, mpb2}
 use Rattle.layout.specs.Layout.{widthOf, proportionOf, proportionAt, proportionBytes, formOfRun, runLength, fieldsEnd, ages, birthYears}
 use Rattle.layout.specs.Layout.{foundationAt, ageProportionsAt, birthYearInitialRatesAt, birthYearProportionsAt}
 use Rattle.basis.specs.Basis.{Accepted}

@@ -4,8 +4,7 @@ use mathlib.Core.List.{List, _++_, append-nil}
 use Prim.Native.Nat.{ℕ, _+_, _-_, _≤_}
 use native.Mathlib.Omega.{arith}
 use lib.ListN.{length, length-append}
-use Rattle.layout.specs.Layout.{mpb1}
-use Rattle.layout.specs.Layout.{formOfRun, runLength, markOf, ages, birthYears}
+use Rattle.layout.specs.Layout.{mpb1, formOfRun, runLength, markOf, ages, birthYears}
 use Rattle.layout.specs.Layout.{foundationAt, ageProportionsAt, birthYearInitialRatesAt, birthYearProportionsAt}
 use Rattle.lent.specs.Lent.{placed}
 use Rattle.lent.proofs.Lent.{then, placed-whole}

@@ -5,8 +5,7 @@ use Prim.Native.Nat.{ℕ, zero, suc, _+_, _*_, _<_, _≤_}
 use native.Mathlib.Nat.{mul-zero, mul-suc, add-zero, not-suc-le-zero}
 use native.Mathlib.Omega.{arith}
 use lib.ListN.{length, length-append}
-use Rattle.layout.specs.Layout.{Form}
-use Rattle.layout.specs.Layout.{widthOf, proportionOf, proportionAt, proportionBytes, formOfRun}
+use Rattle.layout.specs.Layout.{Form, widthOf, proportionOf, proportionAt, proportionBytes, formOfRun}
 use Rattle.basis.proofs.Lengths.{entry-inside}
 use Rattle.old_form.specs.OldForm.{proportionsIn, ProportionsWithin}
 use Rattle.old_form.proofs.Parts.{Part, ahead, behind, within}

@@ -8,8 +8,7 @@ use lib.IntN.{natAbs}
 use Rattle.little_endian.specs.Bytes.{byteAt}
 use Rattle.layout.specs.declared.Number.{Number}
 use Rattle.layout.specs.declared.Number.the-variants.{Byte, Half, Word, SignedWord}
-use Rattle.layout.specs.Layout.{Form}
-use Rattle.layout.specs.Layout.{widthOf, valueAt, proportionAt, formOfRun, ages, birthYears}
+use Rattle.layout.specs.Layout.{Form, widthOf, valueAt, proportionAt, formOfRun, ages, birthYears}
 use Rattle.layout.specs.Layout.{foundationAt, baseAt, additionAt, discountAt, baseRatesAt}
 use Rattle.layout.specs.Layout.{ageInitialRatesAt, ageLongTermRatesAt, agePeriodsAt, ageProportionsAt}
 use Rattle.layout.specs.Layout.{birthYearInitialRatesAt, birthYearLongTermRatesAt, birthYearPeriodsAt, birthYearProportionsAt}

@@ -6,8 +6,7 @@ use Prim.Native.Nat.{ℕ, suc, _+_, _*_, _-_, _<_, _≤_}
 use native.Mathlib.Omega.{arith}
 use lib.ListN.{length}
 use Rattle.outcome.specs.Outcome.{passed, refusedBy, refusal}
-use Rattle.layout.specs.Layout.{Form, mpb1}
-use Rattle.layout.specs.Layout.{widthOf, proportionOf, proportionAt, proportionBytes, formOfRun}
+use Rattle.layout.specs.Layout.{Form, mpb1, widthOf, proportionOf, proportionAt, proportionBytes, formOfRun}
 use Rattle.basis.proofs.Lengths.{entry-inside}
 use Rattle.lent.specs.Lent.{placed}
 use Rattle.lent.proofs.Lent.{placed-none, then, then-length}

@@ -4,8 +4,7 @@ use mathlib.Core.List.{List}
 use Prim.Native.Nat.{ℕ, _≤_}
 use lib.ListN.{length}
 use Rattle.outcome.specs.Outcome.{Finding, passed}
-use Rattle.layout.specs.Layout.{mpb1}
-use Rattle.layout.specs.Layout.{formOfRun, fileLength}
+use Rattle.layout.specs.Layout.{mpb1, formOfRun, fileLength}
 use Rattle.lent.specs.Lent.{written}
 use Rattle.lent.proofs.Lent.{roomy, room-passed}
 use Rattle.basis.specs.Basis.{Accepted}

@@ -8,8 +8,7 @@ use lib.Dec.{eqb}
 use lib.ListN.{length, take, drop, replicate}
 use Rattle.little_endian.specs.Bytes.{byteAt}
 use Rattle.outcome.specs.Outcome.{Finding, passed, refusal, unless, firstOf}
-use Rattle.layout.specs.Layout.{Form}
-use Rattle.layout.specs.Layout.{mpb1, mpb2}
+use Rattle.layout.specs.Layout.{Form, mpb1, mpb2}
 use Rattle.layout.specs.Layout.{widthOf, proportionOf, proportionAt, proportionBytes, formOfRun, runLength, fileLength, markOf, fieldsEnd}
 use Rattle.layout.specs.Layout.{ages, birthYears, foundationAt, ageProportionsAt, birthYearInitialRatesAt, birthYearProportionsAt, greatestProportion}
 use Rattle.lent.specs.Lent.{roomCheck}

@@ -2,8 +2,7 @@
 ghost use mathlib.Core.Path.{_≡_};
 ghost use Prim.Native.Nat.{_+_, _*_, _≤_};
 ghost use lib.ListN.{length};
-ghost use Rattle.layout.specs.Layout.{mpb1};
-ghost use Rattle.layout.specs.Layout.{widthOf, proportionOf, formOfRun, runLength, birthYearInitialRatesAt};
+ghost use Rattle.layout.specs.Layout.{mpb1, widthOf, proportionOf, formOfRun, runLength, birthYearInitialRatesAt};
 ghost use Rattle.lent.specs.Lent.{placed};
 ghost use Rattle.basis.specs.Basis.{Accepted};
 ghost use Rattle.old_form.specs.OldForm.{proportionsIn, ProportionsWithin, agesIn, birthYearsIn, inForm};

@@ -3,8 +3,7 @@
 ghost use mathlib.Core.Path.{_≡_};
 ghost use Prim.Native.Nat.{_+_, _*_, _≤_};
 ghost use lib.ListN.{length};
-ghost use Rattle.layout.specs.Layout.{mpb2};
-ghost use Rattle.layout.specs.Layout.{runLength, fileLength};
+ghost use Rattle.layout.specs.Layout.{mpb2, runLength, fileLength};
 ghost use Rattle.history.specs.History.{Workable};
 ghost use Rattle.factor_table.specs.FactorTable.{tableLength};
 ghost use Rattle.io.specs.Counts.{Counts};

@@ -5,9 +5,7 @@ use Prim.Native.Nat.{ℕ, _+_, _*_, _<_, _≤_}
 use native.Mathlib.Nat.{one-mul}
 use native.Mathlib.Omega.{arith}
 use Rattle.little_endian.specs.Bytes.{byteAt, u16At}
-use Rattle.layout.specs.Layout.{Form}
-use Rattle.layout.specs.Layout.{mpb1, mpb2}
-use Rattle.layout.specs.Layout.{widthOf, proportionOf, proportionAt}
+use Rattle.layout.specs.Layout.{Form, mpb1, mpb2, widthOf, proportionOf, proportionAt}
 
 module _ (form : Form) (offset place n : ℕ) (h : offset + widthOf (proportionOf form) * place + widthOf (proportionOf form) ≤ n) where
   pub one-byte : form ≡ mpb1 → offset + place < n

@@ -8,8 +8,7 @@ use lib.Dec.{eqb}
 use lib.IntN.{ℤ, pos, natAbs}
 use borrow.Author.Tests.{ne-eqb}
 use lib.ListN.{length}
-use Rattle.layout.specs.Layout.{mpb1}
-use Rattle.layout.specs.Layout.{formOfRun, formOfFile, runLength, fileLength}
+use Rattle.layout.specs.Layout.{mpb1, formOfRun, formOfFile, runLength, fileLength}
 use Rattle.basis.specs.Basis.{basisOf, ratedFrom}
 use Rattle.outcome.specs.Outcome.{Finding, passed, refusedBy, Outcome, value, refused, firstOf}
 use Rattle.outcome.specs.Refusals.{numbers, recordNumbers, isListed, Listed, RefusesBy, RefusedBy}

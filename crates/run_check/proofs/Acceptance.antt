@@ -10,8 +10,7 @@ use lib.Dec.{eqb, eqb→eq}
 use lib.IntN.{pos, natAbs}
 use Rattle.little_endian.specs.Bytes.{byteAt, i32At}
 use Rattle.layout.specs.declared.Number.the-variants.{SignedWord}
-use Rattle.layout.specs.Layout.{Form}
-use Rattle.layout.specs.Layout.{mpb1, mpb2}
+use Rattle.layout.specs.Layout.{Form, mpb1, mpb2}
 use Rattle.layout.specs.Layout.{entryAt, proportionOf, hundredthsOf, greatestOf, letterOf, greatestProportion, runLength, fieldsEnd, formOfRun, markOf}
 use Rattle.layout.specs.Layout.{ages, birthYears}
 use Rattle.layout.specs.Layout.{additionAt, zerosAt, baseRatesAt, additionLimit, rateLimit}

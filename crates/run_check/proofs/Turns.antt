@@ -5,8 +5,7 @@ use Prim.Native.Nat.{ℕ}
 use lib.ListN.{length}
 use borrow.Author.Tests.{eq-eqb, ne-eqb}
 use Rattle.outcome.specs.Outcome.{Finding, passed, refusedBy, refusal, firstOf}
-use Rattle.layout.specs.Layout.{Form}
-use Rattle.layout.specs.Layout.{formOfRun, runLength}
+use Rattle.layout.specs.Layout.{Form, formOfRun, runLength}
 use Rattle.field_check.specs.declared.Field.{Field}
 use Rattle.field_check.specs.Field.{fieldCheck, fieldsCheck}
 use Rattle.field_check.proofs.Fields.{rows-join}

@@ -8,8 +8,7 @@ use lib.IntN.{ℤ, pos, negℤ}
 use Rattle.arithmetic.specs.Fraction.{U}
 use Rattle.outcome.specs.Outcome.{Finding, refusedBy, refusal}
 use Rattle.layout.specs.declared.Number.the-variants.{Byte, Half, Word, SignedWord}
-use Rattle.layout.specs.Layout.{Form}
-use Rattle.layout.specs.Layout.{letterOf, proportionOf, greatestOf, formOfRun, runLength, fieldsEnd, ages, birthYears}
+use Rattle.layout.specs.Layout.{Form, letterOf, proportionOf, greatestOf, formOfRun, runLength, fieldsEnd, ages, birthYears}
 use Rattle.layout.specs.Layout.{foundationAt, baseAt, additionAt, discountAt, zerosAt, baseRatesAt}
 use Rattle.layout.specs.Layout.{ageInitialRatesAt, ageLongTermRatesAt, agePeriodsAt, ageProportionsAt}
 use Rattle.layout.specs.Layout.{birthYearInitialRatesAt, birthYearLongTermRatesAt, birthYearPeriodsAt, birthYearProportionsAt}

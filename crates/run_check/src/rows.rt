@@ -5,8 +5,7 @@
 ghost use mathlib.Core.Path.{_≡_};
 ghost use Prim.Native.Nat.{_+_, _*_, _≤_};
 ghost use lib.ListN.{length};
-ghost use Rattle.layout.specs.Layout.{mpb1, mpb2};
-ghost use Rattle.layout.specs.Layout.{runLength, fieldsEnd, widthOf, proportionOf};
+ghost use Rattle.layout.specs.Layout.{mpb1, mpb2, runLength, fieldsEnd, widthOf, proportionOf};
 ghost use Rattle.layout.specs.Meaning.{meant};
 ghost use Rattle.outcome.specs.Outcome.{finding};
 ghost use Rattle.field_check.specs.Field.{field, fieldCheck, fieldsCheck};

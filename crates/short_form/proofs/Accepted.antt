@@ -7,8 +7,7 @@ use native.Mathlib.Omega.{arith}
 use lib.ListN.{length, take}
 use lib.Seq.{ext-getD, getD-take, length-take-le}
 use lib.IntN.{ℤ, pos, natAbs}
-use Rattle.layout.specs.Layout.{Form}
-use Rattle.layout.specs.Layout.{runLength, formOfRun, ages, birthYears, rateLimit}
+use Rattle.layout.specs.Layout.{Form, runLength, formOfRun, ages, birthYears, rateLimit}
 use Rattle.layout.specs.Layout.{foundationAt, baseAt, additionAt, discountAt, baseRatesAt}
 use Rattle.layout.specs.Layout.{ageInitialRatesAt}
 use Rattle.layout.proofs.EachForm.{run-low, of-run}

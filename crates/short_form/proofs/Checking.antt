@@ -6,8 +6,7 @@ use mathlib.Core.List.{List}
 use Prim.Native.Nat.{ℕ, _-_, _≤_}
 use lib.ListN.{length}
 use lib.IntN.{ℤ, pos, negℤ, natAbs}
-use Rattle.layout.specs.Layout.{Form}
-use Rattle.layout.specs.Layout.{formOfRun, runLength, ageLongTermRatesAt}
+use Rattle.layout.specs.Layout.{Form, formOfRun, runLength, ageLongTermRatesAt}
 use Rattle.outcome.specs.declared.Refusal.{Refusal}
 use Rattle.basis.specs.Basis.{Accepted}
 use Rattle.outcome.specs.Outcome.{Finding, passed, refusedBy, refusal, unless}

@@ -6,8 +6,7 @@ use native.Mathlib.Omega.{arith}
 use lib.ListN.{length, take, drop, replicate, length-append, length-take, length-drop, length-replicate}
 use lib.Seq.{length-take-le}
 use lib.IntN.{ℤ}
-use Rattle.layout.specs.Layout.{Form}
-use Rattle.layout.specs.Layout.{runLength, fieldsEnd, formOfRun, ages, birthYears}
+use Rattle.layout.specs.Layout.{Form, runLength, fieldsEnd, formOfRun, ages, birthYears}
 use Rattle.layout.specs.Layout.{ageLongTermRatesAt, agePeriodsAt, ageProportionsAt}
 use Rattle.layout.specs.Layout.{birthYearInitialRatesAt, birthYearLongTermRatesAt, birthYearPeriodsAt, birthYearProportionsAt}
 use Rattle.layout.proofs.EachForm.{run-low, fields-inside}

@@ -7,9 +7,7 @@ use native.Mathlib.Omega.{arith}
 use lib.ListN.{length, length-append}
 use lib.IntN.{natAbs}
 use Rattle.little_endian.specs.Bytes.{byteAt}
-use Rattle.layout.specs.Layout.{Form}
-use Rattle.layout.specs.Layout.{mpb1, mpb2}
-use Rattle.layout.specs.Layout.{widthOf, valueAt, proportionOf, hundredthsOf, proportionBytes}
+use Rattle.layout.specs.Layout.{Form, mpb1, mpb2, widthOf, valueAt, proportionOf, hundredthsOf, proportionBytes}
 use Rattle.basis.proofs.Lengths.{entry-inside}
 use Rattle.lent.specs.Lent.{placed}
 use Rattle.lent.proofs.Lent.{placed-none, then, then-length}

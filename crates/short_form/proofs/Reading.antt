@@ -7,8 +7,7 @@ use native.Mathlib.Omega.{arith}
 use lib.ListN.{length, take, drop, replicate, getD-replicate}
 use lib.Seq.{getD-take, getD-drop}
 use lib.IntN.{ℤ, pos, natAbs}
-use Rattle.layout.specs.Layout.{Form}
-use Rattle.layout.specs.Layout.{widthOf, proportionOf, proportionAt, runLength, fieldsEnd, formOfRun, ages, birthYears}
+use Rattle.layout.specs.Layout.{Form, widthOf, proportionOf, proportionAt, runLength, fieldsEnd, formOfRun, ages, birthYears}
 use Rattle.layout.specs.Layout.{ageLongTermRatesAt, agePeriodsAt, ageProportionsAt}
 use Rattle.layout.specs.Layout.{birthYearInitialRatesAt, birthYearLongTermRatesAt, birthYearPeriodsAt, birthYearProportionsAt}
 use Rattle.little_endian.specs.Bytes.{byteAt, u16At, u32At, signed32, i32At, i32Bytes}

@@ -1,8 +1,7 @@
 -- Each table ends inside the run. Assumes nothing.
 use Prim.Native.Nat.{_≤_, _+_}
 use native.Mathlib.Omega.{arith}
-use Rattle.layout.specs.Layout.{Form}
-use Rattle.layout.specs.Layout.{runLength}
+use Rattle.layout.specs.Layout.{Form, runLength}
 use Rattle.layout.proofs.EachForm.{fields-inside}
 use Rattle.tables.specs.declared.Table.{Table}
 use Rattle.tables.specs.declared.Table.the-variants.{BaseRates, AgeInitialRates, AgeLongTermRates, AgePeriods, AgeProportions}

@@ -3,8 +3,7 @@ use Prim.Native.Nat.{ℕ, _*_}
 use mathlib.Core.List.{List}
 use lib.ListN.{length, take, drop}
 use Rattle.outcome.specs.Outcome.{Finding, passed, refusedBy}
-use Rattle.layout.specs.Layout.{Form}
-use Rattle.layout.specs.Layout.{widthOf, proportionOf, formOfRun, ages, birthYears, baseRatesAt}
+use Rattle.layout.specs.Layout.{Form, widthOf, proportionOf, formOfRun, ages, birthYears, baseRatesAt}
 use Rattle.layout.specs.Layout.{ageInitialRatesAt, ageLongTermRatesAt, agePeriodsAt, ageProportionsAt}
 use Rattle.layout.specs.Layout.{birthYearInitialRatesAt, birthYearLongTermRatesAt, birthYearPeriodsAt, birthYearProportionsAt}
 use Rattle.run_check.specs.Run.{runCheck}

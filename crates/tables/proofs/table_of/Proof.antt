@@ -8,8 +8,7 @@ use lib.ListN.{length, take, drop}
 use Rattle.outcome.specs.declared.Refusal.{Refusal}
 use Rattle.outcome.specs.Outcome.{Finding, passed, refusedBy}
 use Rattle.outcome.proofs.Outcome.{found}
-use Rattle.layout.specs.Layout.{mpb2}
-use Rattle.layout.specs.Layout.{formOfRun, runLength}
+use Rattle.layout.specs.Layout.{mpb2, formOfRun, runLength}
 use Rattle.basis.proofs.Lengths.{short-enough}
 use Rattle.run_check.specs.Run.{runCheck}
 use Rattle.run_check.proofs.Acceptance.{accepted}

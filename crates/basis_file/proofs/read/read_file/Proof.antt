@@ -5,8 +5,7 @@ use Prim.Native.Nat.{ℕ, _≤_}
 use native.Mathlib.Omega.{arith}
 use lib.ListN.{length}
 use Rattle.outcome.specs.Outcome.{finding, firstOf}
-use Rattle.layout.specs.Layout.{mpb2}
-use Rattle.layout.specs.Layout.{formOfFile, runLength, fileLength}
+use Rattle.layout.specs.Layout.{mpb2, formOfFile, runLength, fileLength}
 use Rattle.layout.proofs.EachForm.{run-high}
 use Rattle.run_check.specs.Run.{runCheck}
 use Rattle.lent.specs.Lent.{roomCheck, written}

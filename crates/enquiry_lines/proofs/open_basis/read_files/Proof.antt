@@ -10,8 +10,7 @@ use Rattle.basis.specs.Basis.{basisOf}
 use Rattle.outcome.proofs.Outcome.{first-passed, first-refused}
 use Rattle.lent.specs.Lent.{placed}
 use Rattle.lent.proofs.Lent.{kept, put-in-front}
-use Rattle.layout.specs.Layout.{mpb2}
-use Rattle.layout.specs.Layout.{runLength}
+use Rattle.layout.specs.Layout.{mpb2, runLength}
 use Rattle.basis_file.specs.File.{fileCheck, runIn}
 use Rattle.outcome.specs.Outcome.{passed, finding}
 use Rattle.history.specs.History.{historyCheck}
