@@ -26,7 +26,7 @@ pub room-long : (n : ℕ) → n ≤ length (replicate {0} {A = ℕ} n 0)
 room-long n = omega (arith, length-replicate {0} {A = ℕ} n 0)
 
 -- no run is longer than MPB2's
-pub needed-short : (file : List ℕ) (n : ℕ) → n ≡ runLength (formOfFile (length file)) → n ≤ runLength Mpb2
+pub needed-short : (file : List ℕ) (n : ℕ) → n ≡ runLength (formOfFile (length file)) → n ≤ runLength mpb2
 needed-short file n e = omega (arith, e, run-high (formOfFile (length file)))
 
 -- the run in an accepted file stands in front of room for either form, as long as the file's form says
@@ -46,7 +46,7 @@ read-check file room l c e =
     sym (roomy (runLength (formOfFile (length file))) room (fileCheck file) (omega (arith, needed-short file _ refl))) ∙ sym e
 
 module _ {file history room out run after : List ℕ} {r : Opening} (o : Opened file history room out run after r) where
-  pub opened-short : (n : ℕ) → n ≡ runLength (formOfFile (length file)) → n ≤ runLength Mpb2
+  pub opened-short : (n : ℕ) → n ≡ runLength (formOfFile (length file)) → n ≤ runLength mpb2
   opened-short n k = needed-short file n k
 
 -- the run with its history, where the files have passed
