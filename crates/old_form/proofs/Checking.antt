@@ -1,38 +1,35 @@
 -- What the check of the old form lets through: an accepted run, each P of which is a whole per cent. Assumes nothing.
 use mathlib.Core.Path.{_≡_, sym, _∙_}
 use mathlib.Core.List.{List}
-use Prim.Native.Nat.{ℕ, zero, suc, _+_, _*_, _%_, _<_}
+use Prim.Native.Nat.{ℕ, zero, suc, _+_, _%_, _<_}
 use native.Mathlib.Nat.{add-zero, not-suc-le-zero}
 use native.Mathlib.Omega.{arith}
 use lib.ListN.{length}
-use mathlib.Core.Bool.{Bool, true}
+use mathlib.Core.Bool.{true}
 use borrow.Author.Tests.{eqb-true}
-use Rattle.outcome.specs.Outcome.{Finding, passed, refusedBy, refusal, unless}
+use Rattle.outcome.specs.Outcome.{Finding, passed, refusedBy}
 use Rattle.outcome.specs.declared.Refusal.{Refusal}
 use Rattle.outcome.proofs.Outcome.{unless-passed, both-passed, first-stands, first-passed}
+<<<<<<< HEAD
 use Rattle.layout.specs.Layout.{mpb1, widthOf, proportionOf, proportionAt, formOfRun, ages, birthYears, ageProportionsAt, birthYearProportionsAt}
+=======
+use Rattle.layout.specs.Layout.{mpb1, proportionAt, formOfRun, ages, birthYears, ageProportionsAt, birthYearProportionsAt}
+>>>>>>> c7-old
 use Rattle.basis.specs.Basis.{Accepted}
 use Rattle.run_check.specs.Run.{runCheck}
 use Rattle.run_check.proofs.Acceptance.{accepted}
-use Rattle.old_form.specs.OldForm.{isWhole, wholeFrom, wholeCheck, oldFormCheck}
+use Rattle.old_form.specs.OldForm.{isWhole, wholeAt, wholeFrom, wholeCheck, oldFormCheck}
 use Rattle.old_form.proofs.Numbers.{whole-per-cents}
 use Rattle.old_form.proofs.SameBasis.{Counts}
 
 module _ (run : List ℕ) where
   -- the P at a place, and those behind it
-  module _ (offset place n : ℕ) where
-    abbrev rest : Finding
-    rest = wholeFrom run offset (place + 1) n
-
-    abbrev ok : Bool
-    ok = isWhole (proportionAt (formOfRun (length run)) run offset place)
-
-    abbrev refused-here : Refusal
-    refused-here = refusal 17 (offset + widthOf (proportionOf (formOfRun (length run))) * place) 0
-
-    parted : wholeFrom run offset place (suc n) ≡ passed → (ok ≡ true) × (rest ≡ passed)
-    unfolding wholeFrom
-    parted h = let e = both-passed (unless ok refused-here) rest h in (unless-passed ok refused-here (e .0), e .1)
+  parted : (offset place n : ℕ) → wholeFrom run offset place (suc n) ≡ passed
+      → (isWhole (proportionAt (formOfRun (length run)) run offset place) ≡ true) × (wholeFrom run offset (place + 1) n ≡ passed)
+  unfolding wholeFrom
+  parted offset place n h =
+      let e = both-passed (wholeAt run offset place) (wholeFrom run offset (place + 1) n) h in
+      (unless-passed _ _ (e .0), e .1)
 
   each-whole : (offset place n : ℕ) → wholeFrom run offset place n ≡ passed → (i : ℕ) → i < n
       → proportionAt (formOfRun (length run)) run offset (place + i) % 100 ≡ 0

@@ -2,7 +2,7 @@ mod Parts
 mod Numbers
 mod Proportions
 mod Laying
-pub mod SameBasis
+mod SameBasis
 mod Own
 mod Turns
 mod Placing

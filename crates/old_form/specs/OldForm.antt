@@ -55,14 +55,16 @@ inForm form run = agesIn form run ++ birthYearsIn form run
 abbrev pub isWhole : ℕ → Bool
 isWhole hundredths = eqb (hundredths % 100) 0
 
--- the first of n P of a table, from a place on, that is no whole per cent
+-- the P at a place of a table is no whole per cent (17)
+abbrev pub wholeAt : List ℕ → ℕ → ℕ → Finding
+wholeAt run offset place =
+    let form = formOfRun (length run) in
+    unless (isWhole (proportionAt form run offset place)) (refusal 17 (offset + widthOf (proportionOf form) * place) 0)
+
+-- the first of n P, from a place on
 unfoldable pub wholeFrom : List ℕ → ℕ → ℕ → ℕ → Finding
 wholeFrom run offset place zero = passed
-wholeFrom run offset place (suc n) =
-    let form = formOfRun (length run) in
-    firstOf
-    (unless (isWhole (proportionAt form run offset place)) (refusal 17 (offset + widthOf (proportionOf form) * place) 0))
-    (wholeFrom run offset (place + 1) n)
+wholeFrom run offset place (suc n) = firstOf (wholeAt run offset place) (wholeFrom run offset (place + 1) n)
 
 abbrev pub wholeCheck : List ℕ → Finding
 wholeCheck run = firstOf (wholeFrom run ageProportionsAt 0 ages) (wholeFrom run (birthYearProportionsAt (formOfRun (length run))) 0 birthYears)

@@ -12,7 +12,7 @@ use layout::offsets::proportion_width;
 use outcome::Check;
 use outcome::Refusal;
 
-// The first of n P of a table that is none (17).
+// The first of n P of a table that is no whole per cent (17).
 fn check_table(run: &[u8], offset: usize, n: usize) -> Check
     requires { ⌜ Accepted (now run) ⌝ }
     requires { ⌜ offset + widthOf (proportionOf (formOfRun (length (now run)))) * n ≤ length (now run) ⌝ }
