@@ -10,11 +10,7 @@ use borrow.Author.Tests.{eqb-true}
 use Rattle.outcome.specs.Outcome.{Finding, passed, refusedBy}
 use Rattle.outcome.specs.declared.Refusal.{Refusal}
 use Rattle.outcome.proofs.Outcome.{unless-passed, both-passed, first-stands, first-passed}
-<<<<<<< HEAD
-use Rattle.layout.specs.Layout.{mpb1, widthOf, proportionOf, proportionAt, formOfRun, ages, birthYears, ageProportionsAt, birthYearProportionsAt}
-=======
 use Rattle.layout.specs.Layout.{mpb1, proportionAt, formOfRun, ages, birthYears, ageProportionsAt, birthYearProportionsAt}
->>>>>>> c7-old
 use Rattle.basis.specs.Basis.{Accepted}
 use Rattle.run_check.specs.Run.{runCheck}
 use Rattle.run_check.proofs.Acceptance.{accepted}
