@@ -27,11 +27,11 @@ abbrev pub entryAt : Number → List ℕ → ℕ → ℕ → ℤ
 entryAt kind run offset place = valueAt kind run (offset + widthOf kind * place)
 
 -- the bytes of a number, as they stand there
-abbrev pub bytesOf : Number → ℤ → List ℕ
-bytesOf Byte n = natAbs n ∷ []
-bytesOf Half n = u16Bytes (natAbs n)
-bytesOf Word n = u32Bytes (natAbs n)
-bytesOf SignedWord n = i32Bytes n
+abbrev pub numberBytes : Number → ℤ → List ℕ
+numberBytes Byte n = natAbs n ∷ []
+numberBytes Half n = u16Bytes (natAbs n)
+numberBytes Word n = u32Bytes (natAbs n)
+numberBytes SignedWord n = i32Bytes n
 
 -- ---- the form of a data run and of its file, MPB1 or MPB2 (02, change 7)
 pub data Form : Type 0 where
@@ -88,7 +88,7 @@ proportionAt form run offset place = hundredthsOf form * natAbs (entryAt (propor
 
 -- the bytes of a P in a form
 abbrev pub proportionBytes : Form → ℕ → List ℕ
-proportionBytes form hundredths = bytesOf (proportionOf form) (pos (hundredths / hundredthsOf form))
+proportionBytes form hundredths = numberBytes (proportionOf form) (pos (hundredths / hundredthsOf form))
 
 -- ---- the offsets: every table begins where the one before it ends
 -- one number for each age from 20 to 150, or for each birth year from 1842 to 2110

@@ -1,13 +1,14 @@
--- The bytes of a number give the number back, and bytes below 256 are those of their number. Assumes nothing.
-use mathlib.Core.Path.{_≡_, sym, ap, _∙_}
-use mathlib.Core.List.{[], _∷_}
+-- The bytes of a number give the number back, bytes below 256 are those of their number, and the same bytes are the same number. Assumes
+-- nothing.
+use mathlib.Core.Path.{_≡_, refl, sym, ap, _∙_}
+use mathlib.Core.List.{List, [], _∷_}
 use Prim.Native.Nat.{ℕ, _+_, _*_, _/_, _%_, _^_, _<_, _≤_}
 use native.Mathlib.Omega.{arith}
-use native.Mathlib.Nat.{mod-eq-of-lt, div-add-mod', div-div-eq-div-mul}
+use native.Mathlib.Nat.{add-zero, mod-eq-of-lt, div-add-mod', div-div-eq-div-mul}
 use lib.Arith.{digits-div, digits-mod}
 use lib.IntN.{ℤ, pos, negsuc, natAbs}
 use borrow.Author.Tests.{lt-ltb, le-ltb}
-use Rattle.little_endian.specs.Bytes.{u16At, u32At, signed32, i32At, u16Bytes, u32Bytes, unsigned32, i32Bytes}
+use Rattle.little_endian.specs.Bytes.{byteAt, u16At, u32At, signed32, i32At, u16Bytes, u32Bytes, unsigned32, i32Bytes}
 
 -- ---- from a number to its bytes and back
 joined : (n q r t a b c d : ℕ) → q * 256 + a ≡ n → r * 256 + b ≡ q → t * 256 + c ≡ r → d ≡ t → a + 256 * b + 65536 * c + 16777216 * d ≡ n
@@ -59,3 +60,9 @@ signed-back (negsuc n) h =
 
 pub i32-back : (z : ℤ) → natAbs z < 2 ^ 31 → i32At (i32Bytes z) 0 ≡ z
 i32-back z h = ap signed32 (u32-back (unsigned32 z) (unsigned-fits z h)) ∙ signed-back z h
+
+-- ---- numbers whose bytes are the same
+pub same-word : (s t : List ℕ) (at from : ℕ) → ((j : ℕ) → j < 4 → byteAt s (at + j) ≡ byteAt t (from + j)) → u32At s at ≡ u32At t from
+same-word s t at from h =
+    let e : byteAt s at ≡ byteAt t from = simp add-zero at (h 0 (omega arith)) in
+    rw (e, h 1 (omega arith), h 2 (omega arith), h 3 (omega arith)) refl

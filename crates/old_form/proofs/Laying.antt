@@ -10,7 +10,7 @@ use Rattle.layout.specs.Layout.{foundationAt, ageProportionsAt, birthYearInitia
 use Rattle.layout.proofs.EachForm.{fields-inside, of-run}
 use Rattle.basis.specs.Basis.{Accepted}
 use Rattle.basis.proofs.Lengths.{long-enough, fields-within}
-use Rattle.old_form.specs.OldForm.{proportionsIn, between, lastBytes, agesIn, birthYearsIn, inForm}
+use Rattle.old_form.specs.OldForm.{proportionsIn, bytesBetween, lastBytes, agesIn, birthYearsIn, inForm}
 use Rattle.old_form.proofs.Parts.{Part, between-length, six, all-length, second, third, fourth, fifth, sixth}
 use Rattle.old_form.proofs.Proportions.{proportions-length}
 
@@ -20,13 +20,13 @@ module _ (form : Form) (run : List ℕ) where
   own = formOfRun (length run)
 
   abbrev pub front : List ℕ
-  front = between run foundationAt ageProportionsAt
+  front = bytesBetween run foundationAt ageProportionsAt
 
   abbrev pub agePs : List ℕ
   agePs = proportionsIn form run ageProportionsAt 0 ages
 
   abbrev pub births : List ℕ
-  births = between run (birthYearInitialRatesAt own) (birthYearProportionsAt own)
+  births = bytesBetween run (birthYearInitialRatesAt own) (birthYearProportionsAt own)
 
   abbrev pub birthPs : List ℕ
   birthPs = proportionsIn form run (birthYearProportionsAt own) 0 birthYears

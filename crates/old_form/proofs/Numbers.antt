@@ -6,8 +6,8 @@ use native.Mathlib.Nat.{add-zero, zero-add, div-one, one-mul}
 use native.Mathlib.Omega.{arith}
 use lib.ListN.{length}
 use lib.IntN.{pos, natAbs}
-use Rattle.little_endian.specs.Bytes.{byteAt, u32At, signed32}
-use Rattle.little_endian.proofs.Bytes.{u16-back}
+use Rattle.little_endian.specs.Bytes.{byteAt, signed32}
+use Rattle.little_endian.proofs.Bytes.{u16-back, same-word}
 use Rattle.layout.specs.declared.Number.{Number}
 use Rattle.layout.specs.declared.Number.the-variants.{Byte, Half, Word, SignedWord}
 use Rattle.layout.specs.Layout.{Form, mpb1, mpb2, widthOf, valueAt, proportionOf, proportionAt, proportionBytes, hundredthsOf, greatestProportion}
@@ -15,11 +15,6 @@ use Rattle.old_form.proofs.Parts.{Part}
 
 abbrev SameBytes : ℕ → List ℕ → ℕ → List ℕ → ℕ → Type 0
 SameBytes width s at t from = (j : ℕ) → j < width → byteAt s (at + j) ≡ byteAt t (from + j)
-
-same-word : (s t : List ℕ) (at from : ℕ) → SameBytes 4 s at t from → u32At s at ≡ u32At t from
-same-word s t at from h =
-    let e : byteAt s at ≡ byteAt t from = simp add-zero at (h 0 (omega arith)) in
-    rw (e, h 1 (omega arith), h 2 (omega arith), h 3 (omega arith)) refl
 
 pub same-value : (kind : Number) (s t : List ℕ) (at from : ℕ) → SameBytes (widthOf kind) s at t from → valueAt kind s at ≡ valueAt kind t from
 same-value Byte s t at from h = ap pos (simp add-zero at (h 0 (omega arith)))

@@ -14,17 +14,17 @@ use Rattle.layout.specs.Layout.{widthOf, proportionOf, proportionAt, proportion
 use Rattle.layout.specs.Layout.{foundationAt, ageProportionsAt, birthYearInitialRatesAt, birthYearProportionsAt}
 use Rattle.basis.specs.Basis.{Accepted}
 use Rattle.basis.proofs.Lengths.{fields-within}
-use Rattle.old_form.specs.OldForm.{proportionsIn, between, lastBytes, inForm}
+use Rattle.old_form.specs.OldForm.{proportionsIn, bytesBetween, lastBytes, inForm}
 use Rattle.old_form.proofs.Laying.{in-six}
 
 -- six stretches of a list, one after another
 glued : (run a b c d e f : List ℕ) (n₁ n₂ n₃ n₄ n₅ : ℕ) → n₁ ≤ n₂ → n₂ ≤ n₃ → n₃ ≤ n₄ → n₄ ≤ n₅
-    → a ≡ take n₁ run → b ≡ between run n₁ n₂ → c ≡ between run n₂ n₃ → d ≡ between run n₃ n₄ → e ≡ between run n₄ n₅ → f ≡ drop n₅ run
+    → a ≡ take n₁ run → b ≡ bytesBetween run n₁ n₂ → c ≡ bytesBetween run n₂ n₃ → d ≡ bytesBetween run n₃ n₄ → e ≡ bytesBetween run n₄ n₅ → f ≡ drop n₅ run
     → a ++ b ++ c ++ d ++ e ++ f ≡ run
 glued run a b c d e f n₁ n₂ n₃ n₄ n₅ h₂ h₃ h₄ h₅ ea eb ec ed ee ef =
     rw (ea, eb, ec, ed, ee, ef, more n₁ n₂ h₂, more n₂ n₃ h₃, more n₃ n₄ h₄, more n₄ n₅ h₅) (take-append-drop n₅ run)
   where
-    more : (n m : ℕ) → n ≤ m → take n run ++ between run n m ≡ take m run
+    more : (n m : ℕ) → n ≤ m → take n run ++ bytesBetween run n m ≡ take m run
     more n m h = let e : n + (m - n) ≡ m = omega arith in sym (take-add n (m - n) run) ∙ ap (λ (k : ℕ). take k run) e
 
 module _ (run : List ℕ) (byte : (i : ℕ) → byteAt run i < 256) where
@@ -53,7 +53,7 @@ module _ (run : List ℕ) (byte : (i : ℕ) → byteAt run i < 256) where
         let rest = table offset (place + 1) n (omega arith) in
         rw own (rw (first, rest, next, ← drop-drop width o run) (sym (take-add width (width * n) (drop o run)) ∙ ap (λ (k : ℕ). take k (drop o run)) long))
 
-    stretch : (offset n to : ℕ) → to ≡ offset + width * n → to ≤ length run → proportionsIn form run offset 0 n ≡ between run offset to
+    stretch : (offset n to : ℕ) → to ≡ offset + width * n → to ≤ length run → proportionsIn form run offset 0 n ≡ bytesBetween run offset to
     stretch offset n to e h =
         let start : offset + width * 0 ≡ offset = omega (arith, mul-zero width) in
         let size : width * n ≡ to - offset = omega arith in

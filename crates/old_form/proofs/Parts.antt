@@ -6,7 +6,7 @@ use native.Mathlib.Omega.{arith}
 use lib.ListN.{length, drop, length-append, length-take, length-drop, List·getD-append}
 use lib.Seq.{getD-append-add, getD-take, getD-drop}
 use Rattle.little_endian.specs.Bytes.{byteAt}
-use Rattle.old_form.specs.OldForm.{between}
+use Rattle.old_form.specs.OldForm.{bytesBetween}
 
 pub record Part (s : List ℕ) (at : ℕ) (part : List ℕ) : Type 0 where
   pub there : (i : ℕ) → i < length part → byteAt s (at + i) ≡ byteAt part i
@@ -35,10 +35,10 @@ within s at k part inner h p q =
     }
 
 -- ---- bytes of one list from an offset to another, in another list
-pub between-length : (run : List ℕ) (from to : ℕ) → to ≤ length run → length (between run from to) ≡ to - from
+pub between-length : (run : List ℕ) (from to : ℕ) → to ≤ length run → length (bytesBetween run from to) ≡ to - from
 between-length run from to h = rw (length-take, length-drop) (omega arith)
 
-module _ (s run : List ℕ) (at from to : ℕ) (h : to ≤ length run) (p : Part s at (between run from to)) where
+module _ (s run : List ℕ) (at from to : ℕ) (h : to ≤ length run) (p : Part s at (bytesBetween run from to)) where
   pub kept : (k x y : ℕ) → k < to - from → x ≡ at + k → y ≡ from + k → byteAt s x ≡ byteAt run y
   kept k x y l e f =
       rw (e, f)

@@ -28,12 +28,12 @@ abbrev pub ProportionsWithin : List ℕ → ℕ → ℕ → Type 0
 ProportionsWithin run offset n = (place : ℕ) → place < n → proportionAt (formOfRun (length run)) run offset place ≤ greatestProportion
 
 -- the bytes of a run from one offset to another
-abbrev pub between : List ℕ → ℕ → ℕ → List ℕ
-between run from to = take (to - from) (drop from run)
+abbrev pub bytesBetween : List ℕ → ℕ → ℕ → List ℕ
+bytesBetween run from to = take (to - from) (drop from run)
 
 -- the mark, then the fields before the age P as they stand, and the age P
 unfoldable pub agesIn : Form → List ℕ → List ℕ
-agesIn form run = markOf form ++ between run foundationAt ageProportionsAt ++ proportionsIn form run ageProportionsAt 0 ages
+agesIn form run = markOf form ++ bytesBetween run foundationAt ageProportionsAt ++ proportionsIn form run ageProportionsAt 0 ages
 
 -- the zero bytes behind the fields
 abbrev pub lastBytes : Form → List ℕ
@@ -43,7 +43,7 @@ lastBytes form = replicate (runLength form - fieldsEnd form) 0
 unfoldable pub birthYearsIn : Form → List ℕ → List ℕ
 birthYearsIn form run =
     let own = formOfRun (length run) in
-    between run (birthYearInitialRatesAt own) (birthYearProportionsAt own)
+    bytesBetween run (birthYearInitialRatesAt own) (birthYearProportionsAt own)
     ++ proportionsIn form run (birthYearProportionsAt own) 0 birthYears
     ++ lastBytes form
 

@@ -11,7 +11,7 @@ use Rattle.layout.specs.Layout.{Form, widthOf, proportionOf, proportionAt, runL
 use Rattle.layout.specs.Layout.{ageLongTermRatesAt, agePeriodsAt, ageProportionsAt}
 use Rattle.layout.specs.Layout.{birthYearInitialRatesAt, birthYearLongTermRatesAt, birthYearPeriodsAt, birthYearProportionsAt}
 use Rattle.little_endian.specs.Bytes.{byteAt, u16At, u32At, signed32, i32At, i32Bytes}
-use Rattle.little_endian.proofs.Bytes.{i32-back}
+use Rattle.little_endian.proofs.Bytes.{i32-back, same-word}
 use Rattle.basis.proofs.Lengths.{entry-inside}
 use Rattle.short_form.specs.ShortForm.{everyPeriod, everyProportion, longTermOf, longTermRates, periods, proportions, agesOf, birthYearsOf, shortFormOf}
 use Rattle.short_form.proofs.Lists.{ahead, behind, Parts, parts}
@@ -22,11 +22,6 @@ use Rattle.short_form.proofs.Proportions.{length-proportions, proportio
 -- ---- numbers whose bytes are the same
 same-half : (s t : List ℕ) (at : ℕ) → byteAt s at ≡ byteAt t at → byteAt s (at + 1) ≡ byteAt t (at + 1) → u16At s at ≡ u16At t at
 same-half s t at e f = rw (e, f) refl
-
-pub same-word : (s t : List ℕ) (at from : ℕ) → ((j : ℕ) → j < 4 → byteAt s (at + j) ≡ byteAt t (from + j)) → u32At s at ≡ u32At t from
-same-word s t at from h =
-    let e : byteAt s at ≡ byteAt t from = simp add-zero at (h 0 (omega arith)) in
-    rw (e, h 1 (omega arith), h 2 (omega arith), h 3 (omega arith)) refl
 
 -- the bytes of the rate at place i
 rate-bytes : (rate : ℤ) (age n i j at : ℕ) → at ≡ 4 * i + j → i < n → j < 4

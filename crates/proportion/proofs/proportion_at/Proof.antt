@@ -2,6 +2,7 @@
 use mathlib.Core.Path.{ap, _∙_}
 use Prim.Native.Nat.{_+_, _*_}
 use native.Mathlib.Omega.{arith}
+use lib.ListN.{length}
 use Rattle.proportion.proofs.Widths.{one-byte, two-bytes, per-cents-are, hundredths-are}
 use Rattle.layout.specs.Meaning.{meant}
 use borrow.Author.Needs.{needs}
@@ -11,27 +12,27 @@ use Rattle.proportion.proofs.proportion_at.Tie as tie
 add-per-cents : tie.Need-add-per-cents
 add-per-cents c =
     let s = c .before .before .before in
-    omega (arith, one-byte (meant (s .args .form)) (s .args .offset) (s .args .place) _ (s .pre .0) (ap meant (c .enum-told .given .1)), s .pre .1)
+    omega (arith, one-byte (meant (s .args .form)) (s .args .offset) (s .args .place) (length (s .args .run .now)) (search needs) (ap meant (c .enum-told .given .1)))
 
 shared-slice-read-per-cents : tie.Need-shared-slice-read-per-cents
 shared-slice-read-per-cents c =
     let s = c .before .before .before .before in
-    one-byte (meant (s .args .form)) (s .args .offset) (s .args .place) _ (s .pre .0) (ap meant (c .before .enum-told .given .1))
+    one-byte (meant (s .args .form)) (s .args .offset) (s .args .place) (length (s .args .run .now)) (search needs) (ap meant (c .before .enum-told .given .1))
 
 mul-read-u16 : tie.Need-mul-read-u16
 mul-read-u16 c =
     let s = c .before .before .before in
-    omega (arith, two-bytes (meant (s .args .form)) (s .args .offset) (s .args .place) _ (s .pre .0) (ap meant (c .enum-told2 .given .1)), s .pre .1)
+    omega (arith, two-bytes (meant (s .args .form)) (s .args .offset) (s .args .place) (length (s .args .run .now)) (search needs) (ap meant (c .enum-told2 .given .1)))
 
 add-read-u16 : tie.Need-add-read-u16
 add-read-u16 c =
     let s = c .before .before .before in
-    omega (arith, two-bytes (meant (s .args .form)) (s .args .offset) (s .args .place) _ (s .pre .0) (ap meant (c .enum-told2 .given .1)), s .pre .1)
+    omega (arith, two-bytes (meant (s .args .form)) (s .args .offset) (s .args .place) (length (s .args .run .now)) (search needs) (ap meant (c .enum-told2 .given .1)))
 
 read-u16-requires : tie.Need-read-u16-requires
 read-u16-requires c κs =
     let s = c .before .before .before in
-    two-bytes (meant (s .args .form)) (s .args .offset) (s .args .place) _ (s .pre .0) (ap meant (c .enum-told2 .given .1))
+    two-bytes (meant (s .args .form)) (s .args .offset) (s .args .place) (length (s .args .run .now)) (search needs) (ap meant (c .enum-told2 .given .1))
 
 cast-result : tie.Need-cast-result
 cast-result c =

@@ -5,6 +5,9 @@ use Prim.Native.Nat.{ℕ}
 use native.Mathlib.Omega.{arith}
 use native.Mathlib.Nat.{div-one}
 use lib.ListN.{length}
+use Rattle.layout.specs.declared.Form.{Form}
+use Rattle.layout.specs.Layout.{widthOf, proportionOf}
+use Rattle.layout.specs.Meaning.{meant}
 use Rattle.lent.specs.Lent.{placed}
 use borrow.Author.Needs.{needs}
 use Rattle.proportion.proofs.put_proportion.Statement.{statement}
@@ -13,13 +16,13 @@ use Rattle.proportion.proofs.put_proportion.Tie as tie
 put-requires : tie.Need-put-requires
 put-requires c κs =
     let told = c .before .before in
-    omega (arith, rw (told .enum-told .given .1) at (told .before .before .before .pre .1))
+    omega (arith, ap (λ (f : Form). widthOf (proportionOf (meant f))) (told .enum-told .given .1))
 
 put-requires-2 : tie.Need-put-requires-2
 put-requires-2 c κs =
     let told = c .before .before .before in
     omega
-    (arith, rw (told .enum-told2 .given .1) at (told .before .before .before .pre .1), ap (λ (b : List ℕ). length b) (c .before .before .u16-bytes .ensures))
+    (arith, ap (λ (f : Form). widthOf (proportionOf (meant f))) (told .enum-told2 .given .1), ap (λ (b : List ℕ). length b) (c .before .before .u16-bytes .ensures))
 
 returns : tie.Need-returns
 returns c =
