@@ -10,7 +10,7 @@ use Rattle.basis.specs.Basis.{Basis, basisOf}
 use Rattle.run_check.specs.Run.{runCheck}
 use Rattle.old_form.specs.OldForm.{inForm, oldFormCheck}
 use Rattle.old_form.proofs.Forms.{forms}
-use Rattle.short_form.specs.ShortForm.{shortFormCheck, shortFormOf, shortTerms, longTermOf, Shortened}
+use Rattle.short_form.specs.ShortForm.{shortFormCheck, shortFormOf, shortTerms, longTermOf, agePeriodOf, Shortened}
 use Rattle.short_form.proofs.Accepted.{short-form-stands}
 use Rattle.both_forms.specs.SameAnswers.{SameAnswers, BothForms}
 use Rattle.both_forms.proofs.Alike as same
@@ -27,8 +27,10 @@ module _ (run other : List ℕ) (rate : ℤ) (stands : basisOf run ≡ basisOf o
       (s .addition ∙ ap (λ (b : Basis). b .addition) stands ∙ sym (o .addition))
       (s .discount ∙ ap (λ (b : Basis). b .discount) stands ∙ sym (o .discount))
       (λ age l h. s .baseRate age l h ∙ ap (λ (b : Basis). b .baseRate age) stands ∙ sym (o .baseRate age l h))
-      (λ age l h. s .byAge age l h ∙ ap (λ (b : Basis). shortTerms (b .byAge age .initial) (longTermOf rate age)) stands ∙ sym (o .byAge age l h))
-      (λ year l h. s .byBirthYear year l h ∙ ap (λ (b : Basis). shortTerms (b .byBirthYear year .initial) (pos 0)) stands ∙ sym (o .byBirthYear year l h))
+      (λ age l h.
+      s .byAge age l h ∙ ap (λ (b : Basis). shortTerms (b .byAge age .initial) (longTermOf rate age) (agePeriodOf age)) stands ∙ sym (o .byAge age l h))
+      (λ year l h.
+      s .byBirthYear year l h ∙ ap (λ (b : Basis). shortTerms (b .byBirthYear year .initial) (pos 0) 20) stands ∙ sym (o .byBirthYear year l h))
 
 module _ (run other : List ℕ) (checked : runCheck run ≡ runCheck other) (stands : basisOf run ≡ basisOf other) where
   same-short-check : (rate : ℤ) → shortFormCheck run rate ≡ shortFormCheck other rate

@@ -15,9 +15,10 @@ use Rattle.little_endian.specs.Bytes.{signed32}
 use Rattle.basis.specs.Basis.{Basis, basisOf, agePlace, birthYearPlace, ageTermsAt, birthYearTermsAt, ConvergenceLimits, Limited, Accepted}
 use Rattle.basis.proofs.Places.{age-place, age-place-inside, birth-year-place-inside}
 use Rattle.run_check.proofs.Acceptance.{passes}
-use Rattle.short_form.specs.ShortForm.{longTermOf, shortTerms, shortFormOf, Shortened, ShortFormStands}
+use Rattle.short_form.specs.ShortForm.{longTermOf, agePeriodOf, shortTerms, shortFormOf, Shortened, ShortFormStands}
 use Rattle.short_form.proofs.Checking.{within-limits}
 use Rattle.short_form.proofs.LongTerm.{long-term-size}
+use Rattle.short_form.proofs.AgePeriod.{age-period-size}
 use Rattle.short_form.proofs.Placing.{length-short-form}
 use Rattle.short_form.proofs.Reading.{front-kept, half-kept, word-kept, last-zero, age-rate, age-period, age-proportion}
 use Rattle.short_form.proofs.Reading.{birth-initial, birth-rate, birth-period, birth-proportion}
@@ -33,13 +34,13 @@ module _ (run : List ℕ) (rate : ℤ) (form : Form) (e : formOfRun (length run)
 
   module _ (h : natAbs rate < 2_147_483_648) where
     age-terms : (i : ℕ) → i < ages
-        → ageTermsAt form (shortFormOf run rate) i ≡ shortTerms (ageTermsAt form run i .initial) (longTermOf rate (20 + i))
+        → ageTermsAt form (shortFormOf run rate) i ≡ shortTerms (ageTermsAt form run i .initial) (longTermOf rate (20 + i)) (agePeriodOf (20 + i))
     age-terms i l =
         rw (word-kept run rate form e long (ageInitialRatesAt + 4 * i) (omega arith), age-rate run rate form e long i l h)
         (rw (age-period run rate form e long i l, age-proportion run rate form e long i l) refl)
 
     birth-year-terms : (i : ℕ) → i < birthYears
-        → birthYearTermsAt form (shortFormOf run rate) i ≡ shortTerms (birthYearTermsAt form run i .initial) (pos 0)
+        → birthYearTermsAt form (shortFormOf run rate) i ≡ shortTerms (birthYearTermsAt form run i .initial) (pos 0) 20
     birth-year-terms i l =
         rw (birth-initial run rate form e long i l, birth-rate run rate form e long i l)
         (rw (birth-period run rate form e long i l, birth-proportion run rate form e long i l) refl)
@@ -60,8 +61,9 @@ module _ (run : List ℕ) (rate : ℤ) (form : Form) (e : formOfRun (length run)
         }
 
 -- ---- it is accepted: what stands where the run has its mark, its zero bytes and its fields is within their limits
-terms-limited : (initial long : ℤ) → natAbs initial ≤ rateLimit → natAbs long ≤ rateLimit → ConvergenceLimits (shortTerms initial long)
-terms-limited initial long i j = record { initial = i; long = j; period-low = omega arith; period-high = omega arith; remaining = omega arith }
+terms-limited : (initial long : ℤ) (period : ℕ) → natAbs initial ≤ rateLimit → natAbs long ≤ rateLimit → (5 ≤ period) × (period ≤ 20)
+    → ConvergenceLimits (shortTerms initial long period)
+terms-limited initial long period i j p = record { initial = i; long = j; period-low = omega arith; period-high = omega arith; remaining = omega arith }
 
 limited : (b short : Basis) (rate : ℤ) → Shortened b rate short → Limited b → natAbs rate ≤ rateLimit → Limited short
 limited b short rate s l h =
@@ -74,8 +76,8 @@ limited b short rate s l h =
       discount-low = rw (s .discount) (l .discount-low);
       discount-high = rw (s .discount) (l .discount-high);
       baseRate = λ age p q. rw (s .baseRate age p q) (l .baseRate age p q);
-      byAge = λ age p q. rw (s .byAge age p q) (terms-limited _ _ (l .byAge age p q .initial) (long-term-size rate age rateLimit h));
-      byBirthYear = λ year p q. rw (s .byBirthYear year p q) (terms-limited _ _ (l .byBirthYear year p q .initial) (omega arith));
+      byAge = λ age p q. rw (s .byAge age p q) (terms-limited _ _ (agePeriodOf age) (l .byAge age p q .initial) (long-term-size rate age rateLimit h) (age-period-size age));
+      byBirthYear = λ year p q. rw (s .byBirthYear year p q) (terms-limited _ _ 20 (l .byBirthYear year p q .initial) (omega arith) (omega arith, omega arith));
     }
 
 module _ (run : List ℕ) (rate : ℤ) (a : Accepted run) (h : natAbs rate ≤ rateLimit) (form : Form) (e : formOfRun (length run) ≡ form)

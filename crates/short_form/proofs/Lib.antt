@@ -1,6 +1,8 @@
 pub mod LongTerm
+pub mod AgePeriod
 mod Lists
-mod Proportions
+mod Entries
+mod Tables
 mod Placing
 mod Checking
 mod Reading

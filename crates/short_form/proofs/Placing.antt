@@ -1,20 +1,20 @@
 -- One part of the short form after another, as plain laws of lists. Assumes nothing.
 use mathlib.Core.Path.{_≡_, refl, _∙_}
 use mathlib.Core.List.{List, _++_}
-use Prim.Native.Nat.{ℕ, zero, suc, _+_, _*_, _-_, _≤_, _<_}
+use Prim.Native.Nat.{ℕ, _+_, _*_, _-_, _≤_}
 use native.Mathlib.Omega.{arith}
 use lib.ListN.{length, take, drop, replicate, length-append, length-take, length-drop, length-replicate}
 use lib.Seq.{length-take-le}
 use lib.IntN.{ℤ}
-use Rattle.layout.specs.Layout.{Form, runLength, fieldsEnd, formOfRun, ages, birthYears}
+use Rattle.layout.specs.Layout.{Form, widthOf, proportionOf, runLength, fieldsEnd, formOfRun, ages, birthYears}
 use Rattle.layout.specs.Layout.{ageLongTermRatesAt, agePeriodsAt, ageProportionsAt}
 use Rattle.layout.specs.Layout.{birthYearInitialRatesAt, birthYearLongTermRatesAt, birthYearPeriodsAt, birthYearProportionsAt}
 use Rattle.layout.proofs.EachForm.{run-low, fields-inside}
-use Rattle.little_endian.specs.Bytes.{i32Bytes}
 use Rattle.lent.specs.Lent.{placed}
-use Rattle.lent.proofs.Lent.{placed-none, then, then-length}
-use Rattle.short_form.specs.ShortForm.{everyPeriod, longTermOf, longTermRates, periods, proportions, agesOf, birthYearsOf, shortFormOf}
-use Rattle.short_form.proofs.Proportions.{length-proportions}
+use Rattle.lent.proofs.Lent.{then}
+use Rattle.short_form.specs.ShortForm.{birthYearPeriod, longTermRates, agePeriods, birthYearPeriods, proportions, agesOf, birthYearsOf, shortFormOf}
+use Rattle.short_form.proofs.Entries.{length-entries}
+use Rattle.short_form.proofs.Tables.{rate-entry, rate-width, period-entry, period-width, proportion-entry, proportion-width}
 
 -- four parts
 pub four : (out a b c d : List ℕ) (at at₁ at₂ at₃ : ℕ) (p q r s : List ℕ)
@@ -28,32 +28,20 @@ four out a b c d at at₁ at₂ at₃ p q r s e f g h i j k l =
     let m : length (p ++ q ++ r) ≡ length (p ++ q) + length r = length-append (p ++ q) r in
     l ∙ then out at (p ++ q ++ r) (omega arith) c pqr at₃ s (omega arith)
 
--- ---- the rates by age
-module _ (out new : List ℕ) (rate : ℤ) (i : ℕ) (h : i < ages) (k : agePeriodsAt ≤ length out)
-    (e : new ≡ placed out (ageLongTermRatesAt + 4 * i) (i32Bytes (longTermOf rate (20 + i)))) where
-  pub rates-length : length new ≡ length out
-  rates-length = then-length out (ageLongTermRatesAt + 4 * i) (i32Bytes (longTermOf rate (20 + i))) (omega arith) new e
-
-  pub rates-turn : placed new (ageLongTermRatesAt + 4 * (i + 1)) (longTermRates rate (20 + (i + 1)) (ages - (i + 1)))
-      ≡ placed out (ageLongTermRatesAt + 4 * i) (longTermRates rate (20 + i) (ages - i))
-  unfolding longTermRates
-  rates-turn =
-      let d : ages - i ≡ suc (ages - (i + 1)) = omega arith in
-      let a : 20 + (i + 1) ≡ 20 + i + 1 = omega arith in
-      rw (d, a) (then out (ageLongTermRatesAt + 4 * i) (i32Bytes (longTermOf rate (20 + i))) (omega arith) new e (ageLongTermRatesAt + 4 * (i + 1)) _ (omega arith))
-
-pub rates-end : (out : List ℕ) (rate : ℤ) (i : ℕ) → ages ≤ i → placed out (ageLongTermRatesAt + 4 * i) (longTermRates rate (20 + i) (ages - i)) ≡ out
-unfolding longTermRates
-rates-end out rate i h = let e : ages - i ≡ 0 = omega arith in rw e (placed-none out (ageLongTermRatesAt + 4 * i))
-
-pub length-rates : (rate : ℤ) (age n : ℕ) → length (longTermRates rate age n) ≡ 4 * n
-unfolding longTermRates
-length-rates rate age zero = refl
-length-rates rate age (suc n) = rw (length-append, length-rates rate (age + 1) n) (omega arith)
-
--- ---- the whole
+-- ---- how long each part is
 pub repeated : (n x : ℕ) → length (replicate n x) ≡ n
 repeated n x = length-replicate n x
+
+pub length-rates : (rate : ℤ) → length (longTermRates rate) ≡ 4 * ages
+length-rates rate = length-entries (rate-entry rate) 4 (rate-width rate) 20 ages
+
+pub length-age-periods : length agePeriods ≡ ages
+length-age-periods = length-entries period-entry 1 period-width 20 ages
+
+pub length-proportions : (form : Form) (n : ℕ) → length (proportions form n) ≡ widthOf (proportionOf form) * n
+length-proportions form n = length-entries (proportion-entry form) (widthOf (proportionOf form)) (proportion-width form) 0 n
+
+-- ---- the whole
 
 module _ (form : Form) (run : List ℕ) (long : length run ≡ runLength form) where
   pub length-kept : length (take (4 * birthYears) (drop (birthYearInitialRatesAt form) run)) ≡ 4 * birthYears
@@ -63,44 +51,44 @@ module _ (form : Form) (run : List ℕ) (long : length run ≡ runLength form) w
   length-front = length-take-le ageLongTermRatesAt run (omega (arith, run-low form))
 
   module _ (out a b c d : List ℕ) (room : runLength form ≤ length out) where
-    pub ages-placed : (rate : ℤ) → a ≡ placed out 0 (take ageLongTermRatesAt run) → b ≡ placed a ageLongTermRatesAt (longTermRates rate 20 ages)
-        → c ≡ placed b agePeriodsAt (periods ages) → d ≡ placed c ageProportionsAt (proportions form ages) → d ≡ placed out 0 (agesOf form run rate)
+    pub ages-placed : (rate : ℤ) → a ≡ placed out 0 (take ageLongTermRatesAt run) → b ≡ placed a ageLongTermRatesAt (longTermRates rate)
+        → c ≡ placed b agePeriodsAt agePeriods → d ≡ placed c ageProportionsAt (proportions form ages) → d ≡ placed out 0 (agesOf form run rate)
     unfolding agesOf
     ages-placed rate =
         let p = length-front in
-        let q = length-rates rate 20 ages in
-        let t = repeated ages everyPeriod in
+        let q = length-rates rate in
+        let t = length-age-periods in
         let s = length-proportions form ages in
-        four out a b c d 0 ageLongTermRatesAt agePeriodsAt ageProportionsAt (take ageLongTermRatesAt run) (longTermRates rate 20 ages) (periods ages)
+        four out a b c d 0 ageLongTermRatesAt agePeriodsAt ageProportionsAt (take ageLongTermRatesAt run) (longTermRates rate) agePeriods
         (proportions form ages) (omega arith) (omega arith) (omega arith) (omega (arith, fields-inside form))
 
     pub birth-years-placed : (last : List ℕ) → a ≡ placed out (birthYearInitialRatesAt form) (take (4 * birthYears) (drop (birthYearInitialRatesAt form) run))
         → b ≡ placed a (birthYearLongTermRatesAt form) (replicate (4 * birthYears) 0)
-        → c ≡ placed b (birthYearPeriodsAt form) (periods birthYears) → d ≡ placed c (birthYearProportionsAt form) (proportions form birthYears)
+        → c ≡ placed b (birthYearPeriodsAt form) birthYearPeriods → d ≡ placed c (birthYearProportionsAt form) (proportions form birthYears)
         → last ≡ placed d (fieldsEnd form) (replicate (runLength form - fieldsEnd form) 0)
         → last ≡ placed out (birthYearInitialRatesAt form) (birthYearsOf form run)
     unfolding birthYearsOf
     birth-years-placed last e f g h i =
         let kept = take (4 * birthYears) (drop (birthYearInitialRatesAt form) run) in
         let zeros = replicate {A = ℕ} (4 * birthYears) 0 in
-        let fields = kept ++ zeros ++ periods birthYears ++ proportions form birthYears in
+        let fields = kept ++ zeros ++ birthYearPeriods ++ proportions form birthYears in
         let p = length-kept in
         let q = repeated (4 * birthYears) 0 in
-        let t = repeated birthYears everyPeriod in
+        let t = repeated birthYears birthYearPeriod in
         let s = length-proportions form birthYears in
         let n : length fields ≡ fieldsEnd form - birthYearInitialRatesAt form = simp (length-append, p, q, t, s) (omega arith) in
         let inside = fields-inside form in
         let before =
         four out a b c d
         (birthYearInitialRatesAt form) (birthYearLongTermRatesAt form) (birthYearPeriodsAt form) (birthYearProportionsAt form)
-        kept zeros (periods birthYears) (proportions form birthYears)
+        kept zeros birthYearPeriods (proportions form birthYears)
         (omega arith) (omega arith) (omega arith) (omega arith) e f g h in
         i ∙ then out (birthYearInitialRatesAt form) fields (omega arith) d before (fieldsEnd form) _ (omega arith)
 
   module _ (rate : ℤ) where
     pub length-ages : length (agesOf form run rate) ≡ birthYearInitialRatesAt form
     unfolding agesOf
-    length-ages = simp (length-append, length-front, length-rates, repeated, length-proportions form ages)
+    length-ages = simp (length-append, length-front, length-rates rate, length-age-periods, length-proportions form ages)
 
     pub length-birth-years : birthYearInitialRatesAt form + length (birthYearsOf form run) ≡ runLength form
     unfolding birthYearsOf

@@ -1,8 +1,8 @@
 -- What is read at each place of a short form. Assumes nothing.
 use mathlib.Core.Path.{_≡_, refl, sym, ap, _∙_}
 use mathlib.Core.List.{List}
-use Prim.Native.Nat.{ℕ, zero, suc, _+_, _*_, _-_, _≤_, _<_}
-use native.Mathlib.Nat.{add-zero, zero-add, one-mul, not-suc-le-zero}
+use Prim.Native.Nat.{ℕ, _+_, _*_, _-_, _≤_, _<_}
+use native.Mathlib.Nat.{zero-add, one-mul}
 use native.Mathlib.Omega.{arith}
 use lib.ListN.{length, take, drop, replicate, getD-replicate}
 use lib.Seq.{getD-take, getD-drop}
@@ -13,50 +13,36 @@ use Rattle.layout.specs.Layout.{birthYearInitialRatesAt, birthYearLongTermRates
 use Rattle.little_endian.specs.Bytes.{byteAt, u16At, u32At, signed32, i32At, i32Bytes}
 use Rattle.little_endian.proofs.Bytes.{i32-back, same-word}
 use Rattle.basis.proofs.Lengths.{entry-inside}
-use Rattle.short_form.specs.ShortForm.{everyPeriod, everyProportion, longTermOf, longTermRates, periods, proportions, agesOf, birthYearsOf, shortFormOf}
-use Rattle.short_form.proofs.Lists.{ahead, behind, Parts, parts}
+use Rattle.short_form.specs.ShortForm.{longTermOf, agePeriodOf, birthYearPeriod, everyProportion}
+use Rattle.short_form.specs.ShortForm.{longTermRates, agePeriods, birthYearPeriods, proportions, agesOf, birthYearsOf, shortFormOf}
+use Rattle.short_form.proofs.Lists.{Parts, parts}
+use Rattle.short_form.proofs.Entries.{entry-bytes}
+use Rattle.short_form.proofs.Tables.{rate-entry, rate-width, period-entry, period-width, proportion-entry, proportion-width, proportion-is}
 use Rattle.short_form.proofs.LongTerm.{long-term-size}
-use Rattle.short_form.proofs.Placing.{length-rates, repeated, length-front, length-kept}
-use Rattle.short_form.proofs.Proportions.{length-proportions, proportion-bytes, proportion-is}
+use Rattle.short_form.proofs.Placing.{length-rates, length-age-periods, length-proportions, repeated, length-front, length-kept}
 
 -- ---- numbers whose bytes are the same
 same-half : (s t : List ℕ) (at : ℕ) → byteAt s at ≡ byteAt t at → byteAt s (at + 1) ≡ byteAt t (at + 1) → u16At s at ≡ u16At t at
 same-half s t at e f = rw (e, f) refl
 
--- the bytes of the rate at place i
-rate-bytes : (rate : ℤ) (age n i j at : ℕ) → at ≡ 4 * i + j → i < n → j < 4
-    → byteAt (longTermRates rate age n) at ≡ byteAt (i32Bytes (longTermOf rate (age + i))) j
-unfolding longTermRates
-rate-bytes rate age zero i j at e l m = absurd (not-suc-le-zero l)
-rate-bytes rate age (suc n) zero j at e l m =
-    let here : at ≡ j = omega arith in
-    let first : age ≡ age + 0 = omega arith in
-    rw here (ahead (i32Bytes (longTermOf rate age)) (longTermRates rate (age + 1) n) j m)
-    ∙ ap (λ (a : ℕ). byteAt (i32Bytes (longTermOf rate a)) j) first
-rate-bytes rate age (suc n) (suc i) j at e l m =
-    let later : at ≡ 4 + (4 * i + j) = omega arith in
-    let next : age + 1 + i ≡ age + suc i = omega arith in
-    rw later (behind (i32Bytes (longTermOf rate age)) (longTermRates rate (age + 1) n) 4 (4 * i + j) refl)
-    ∙ rate-bytes rate (age + 1) n i j (4 * i + j) refl (omega arith) m ∙ ap (λ (a : ℕ). byteAt (i32Bytes (longTermOf rate a)) j) next
-
 -- ---- the bytes of a short form, part by part
 module _ (run : List ℕ) (rate : ℤ) (form : Form) (e : formOfRun (length run) ≡ form) (long : length run ≡ runLength form) where
   age-parts : Parts (shortFormOf run rate)
-      (take ageLongTermRatesAt run) (longTermRates rate 20 ages) (periods ages) (proportions form ages) (birthYearsOf form run)
+      (take ageLongTermRatesAt run) (longTermRates rate) agePeriods (proportions form ages) (birthYearsOf form run)
       ageLongTermRatesAt (4 * ages) ages (widthOf (proportionOf form) * ages)
   unfolding shortFormOf agesOf
   age-parts =
       rw e (parts _ _ _ _ _ ageLongTermRatesAt (4 * ages) ages (widthOf (proportionOf form) * ages)
-      (length-front form run long) (length-rates rate 20 ages) (repeated ages everyPeriod) (length-proportions form ages))
+      (length-front form run long) (length-rates rate) length-age-periods (length-proportions form ages))
 
   birth-year-parts : Parts (birthYearsOf form run)
-      (take (4 * birthYears) (drop (birthYearInitialRatesAt form) run)) (replicate (4 * birthYears) 0) (periods birthYears) (proportions form birthYears)
+      (take (4 * birthYears) (drop (birthYearInitialRatesAt form) run)) (replicate (4 * birthYears) 0) birthYearPeriods (proportions form birthYears)
       (replicate (runLength form - fieldsEnd form) 0)
       (4 * birthYears) (4 * birthYears) birthYears (widthOf (proportionOf form) * birthYears)
   unfolding birthYearsOf
   birth-year-parts =
       parts _ _ _ _ _ (4 * birthYears) (4 * birthYears) birthYears (widthOf (proportionOf form) * birthYears)
-      (length-kept form run long) (repeated (4 * birthYears) 0) (repeated birthYears everyPeriod) (length-proportions form birthYears)
+      (length-kept form run long) (repeated (4 * birthYears) 0) (repeated birthYears birthYearPeriod) (length-proportions form birthYears)
 
   in-birth-years : (at i : ℕ) → at ≡ birthYearInitialRatesAt form + i → byteAt (shortFormOf run rate) at ≡ byteAt (birthYearsOf form run) i
   in-birth-years at i f = rw f (age-parts .fifth i)
@@ -67,17 +53,17 @@ module _ (run : List ℕ) (rate : ℤ) (form : Form) (e : formOfRun (length run)
   age-rate-byte : (i j : ℕ) → i < ages → j < 4 → byteAt (shortFormOf run rate) (ageLongTermRatesAt + 4 * i + j) ≡ byteAt (i32Bytes (longTermOf rate (20 + i))) j
   age-rate-byte i j l m =
       let f : ageLongTermRatesAt + 4 * i + j ≡ ageLongTermRatesAt + (4 * i + j) = omega arith in
-      rw f (age-parts .second (4 * i + j) (omega arith) ∙ rate-bytes rate 20 ages i j (4 * i + j) refl l m)
+      rw f (age-parts .second (4 * i + j) (omega arith) ∙ entry-bytes (rate-entry rate) 4 (rate-width rate) 20 ages i j (4 * i + j) refl l m)
 
-  pub age-period : (i : ℕ) → i < ages → byteAt (shortFormOf run rate) (agePeriodsAt + 1 * i) ≡ everyPeriod
-  age-period i l = rw one-mul (age-parts .third i l ∙ getD-replicate ages i everyPeriod 0 l)
+  pub age-period : (i : ℕ) → i < ages → byteAt (shortFormOf run rate) (agePeriodsAt + 1 * i) ≡ agePeriodOf (20 + i)
+  age-period i l = rw one-mul (age-parts .third i l ∙ entry-bytes period-entry 1 period-width 20 ages i 0 i (omega arith) l (omega arith))
 
   pub age-proportion : (i : ℕ) → i < ages → proportionAt form (shortFormOf run rate) ageProportionsAt i ≡ everyProportion
   age-proportion i l =
       proportion-is form (shortFormOf run rate) (ageProportionsAt + widthOf (proportionOf form) * i)
       (λ j m. let place = widthOf (proportionOf form) * i + j in
       let f : ageProportionsAt + widthOf (proportionOf form) * i + j ≡ ageProportionsAt + place = omega arith in
-      rw f (age-parts .fourth place (omega (arith, entry-inside (widthOf (proportionOf form)) i ages l)) ∙ proportion-bytes form ages i j place refl l m))
+      rw f (age-parts .fourth place (omega (arith, entry-inside (widthOf (proportionOf form)) i ages l)) ∙ entry-bytes (proportion-entry form) (widthOf (proportionOf form)) (proportion-width form) 0 ages i j place refl l m))
 
   birth-kept : (i : ℕ) → i < 4 * birthYears → byteAt (shortFormOf run rate) (birthYearInitialRatesAt form + i) ≡ byteAt run (birthYearInitialRatesAt form + i)
   birth-kept i l =
@@ -89,10 +75,10 @@ module _ (run : List ℕ) (rate : ℤ) (form : Form) (e : formOfRun (length run)
       in-birth-years (birthYearLongTermRatesAt form + i) (4 * birthYears + i) (omega arith) ∙ birth-year-parts .second i l
       ∙ getD-replicate (4 * birthYears) i 0 0 l
 
-  pub birth-period : (i : ℕ) → i < birthYears → byteAt (shortFormOf run rate) (birthYearPeriodsAt form + 1 * i) ≡ everyPeriod
+  pub birth-period : (i : ℕ) → i < birthYears → byteAt (shortFormOf run rate) (birthYearPeriodsAt form + 1 * i) ≡ birthYearPeriod
   birth-period i l =
       in-birth-years (birthYearPeriodsAt form + 1 * i) (8 * birthYears + i) (omega arith) ∙ birth-year-parts .third i l
-      ∙ getD-replicate birthYears i everyPeriod 0 l
+      ∙ getD-replicate birthYears i birthYearPeriod 0 l
 
   pub birth-proportion : (i : ℕ) → i < birthYears → proportionAt form (shortFormOf run rate) (birthYearProportionsAt form) i ≡ everyProportion
   birth-proportion i l =
@@ -100,7 +86,7 @@ module _ (run : List ℕ) (rate : ℤ) (form : Form) (e : formOfRun (length run)
       (λ j m. let place = widthOf (proportionOf form) * i + j in
       in-birth-years (birthYearProportionsAt form + widthOf (proportionOf form) * i + j) (9 * birthYears + place) (omega arith)
       ∙ birth-year-parts .fourth place (omega (arith, entry-inside (widthOf (proportionOf form)) i birthYears l))
-      ∙ proportion-bytes form birthYears i j place refl l m)
+      ∙ entry-bytes (proportion-entry form) (widthOf (proportionOf form)) (proportion-width form) 0 birthYears i j place refl l m)
 
   pub last-zero : (at : ℕ) → fieldsEnd form ≤ at → at < runLength form → byteAt (shortFormOf run rate) at ≡ 0
   last-zero at l m =

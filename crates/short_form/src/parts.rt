@@ -3,10 +3,11 @@ ghost use mathlib.Core.Path.{_≡_};
 ghost use Prim.Native.Nat.{_+_, _*_, _≤_};
 ghost use lib.ListN.{length};
 ghost use lib.IntN.{natAbs};
-ghost use Rattle.layout.specs.Layout.{widthOf, proportionOf, runLength, ages, ageLongTermRatesAt, agePeriodsAt, birthYearInitialRatesAt};
+ghost use Rattle.layout.specs.Layout.{widthOf, proportionOf, runLength, ages, ageLongTermRatesAt, agePeriodsAt, ageProportionsAt, birthYearInitialRatesAt};
 ghost use Rattle.layout.specs.Meaning.{meant};
 ghost use Rattle.lent.specs.Lent.{placed};
-ghost use Rattle.short_form.specs.ShortForm.{longTermLimit, longTermRates, proportions, agesOf, birthYearsOf};
+ghost use Rattle.short_form.specs.ShortForm.{longTermLimit, longTermRates, agePeriods, proportions, agesOf, birthYearsOf};
+use crate::periods;
 use crate::rates;
 use layout::Form;
 use layout::offsets::birth_year_initial_rates_at;
@@ -18,12 +19,24 @@ use layout::offsets::fields_end;
 // The age L.
 fn put_rates(rate: i32, out: &mut [u8])
     requires { ⌜ (natAbs rate ≤ longTermLimit) × (agePeriodsAt ≤ length (now out)) ⌝ }
-    ensures { λ _. ⌜ now (out .exit) ≡ placed (now (out .entry)) ageLongTermRatesAt (longTermRates rate 20 ages) ⌝ }
+    ensures { λ _. ⌜ now (out .exit) ≡ placed (now (out .entry)) ageLongTermRatesAt (longTermRates rate) ⌝ }
 {
     let mut i: usize = 0;
     while i < layout::AGES {
         let word = little_endian::i32_bytes(rates::long_term_rate(rate, 20 + i));
         lent::put(&word, out, layout::AGE_LONG_TERM_RATES_AT + 4 * i);
+        i += 1;
+    }
+}
+
+// The age T.
+fn put_age_periods(out: &mut [u8])
+    requires { ⌜ ageProportionsAt ≤ length (now out) ⌝ }
+    ensures { λ _. ⌜ now (out .exit) ≡ placed (now (out .entry)) agePeriodsAt agePeriods ⌝ }
+{
+    let mut i: usize = 0;
+    while i < layout::AGES {
+        out[layout::AGE_PERIODS_AT + i] = periods::age_period(20 + i);
         i += 1;
     }
 }
@@ -48,7 +61,7 @@ pub(crate) fn put_ages(run: &[u8], form: Form, rate: i32, out: &mut [u8])
 {
     lent::put(&run[0..layout::AGE_LONG_TERM_RATES_AT], out, 0);
     put_rates(rate, out);
-    lent::put_repeated(20, layout::AGES, out, layout::AGE_PERIODS_AT);
+    put_age_periods(out);
     put_proportions(form, layout::AGES, out, layout::AGE_PROPORTIONS_AT);
 }
 
@@ -62,7 +75,12 @@ pub(crate) fn put_birth_years(run: &[u8], form: Form, out: &mut [u8])
     let end = fields_end(form);
     lent::put(&run[from..long], out, from);
     lent::put_repeated(0, layout::BIRTH_YEAR_RATES_LENGTH, out, long);
-    lent::put_repeated(20, layout::BIRTH_YEARS, out, birth_year_periods_at(form));
+    lent::put_repeated(
+        periods::BY_BIRTH_YEAR,
+        layout::BIRTH_YEARS,
+        out,
+        birth_year_periods_at(form),
+    );
     put_proportions(
         form,
         layout::BIRTH_YEARS,

@@ -20,8 +20,8 @@ put-rates-requires c κs = search (needs, run-low (meant (c .before .before .bef
 abbrev two-put : tie.After-slice-known3 → tie.Start
 two-put c = c .before .before .before .before .before .before .before .before .before .before .before
 
-put-repeated-requires : tie.Need-put-repeated-requires
-put-repeated-requires c κs = search (needs, run-low (meant (two-put (c .before) .args .form)))
+put-age-periods-requires : tie.Need-put-age-periods-requires
+put-age-periods-requires c κs = search (needs, run-low (meant (two-put (c .before) .args .form)))
 
 put-proportions-requires : tie.Need-put-proportions-requires
 put-proportions-requires c κs = search (needs, fields-inside (meant (two-put (c .before .before .before .before .before) .args .form)))
@@ -34,10 +34,10 @@ returns c =
     let a = b .before .before .before .before in
     let s = a .before .before .before .before .before in
     ages-placed (meant (s .args .form)) (s .args .run .now) (search needs) (s .args .out .now) _ _ _ _ (search needs) (s .args .rate)
-    (a .put .ensures) (rw (toZ-ofZ (s .fits .rate)) at (b .put-rates .ensures)) (t .put-repeated .ensures) (d .put-proportions .ensures)
+    (a .put .ensures) (rw (toZ-ofZ (s .fits .rate)) at (b .put-rates .ensures)) (t .put-age-periods .ensures) (d .put-proportions .ensures)
 
 pub put-ages-spec : {M : Type 1} → statement M
 put-ages-spec =
     tie.close
-    (tie.spec (search needs) (search needs) part-put-end put-requires put-rates-requires put-repeated-requires
+    (tie.spec (search needs) (search needs) part-put-end put-requires put-rates-requires put-age-periods-requires
     put-proportions-requires (search needs) returns)

@@ -7,8 +7,9 @@ use lib.ListN.{length}
 use Rattle.layout.specs.Layout.{widthOf, proportionOf}
 use Rattle.basis.proofs.Lengths.{entry-inside}
 use Rattle.lent.specs.Lent.{placed}
-use Rattle.short_form.specs.ShortForm.{proportions}
-use Rattle.short_form.proofs.Proportions.{one-length, proportions-turn, proportions-end}
+use Rattle.short_form.specs.ShortForm.{entriesFrom, proportions}
+use Rattle.short_form.proofs.Entries.{entry-length, entries-turn, entries-end}
+use Rattle.short_form.proofs.Tables.{proportion-entry, proportion-width}
 use Rattle.layout.specs.Meaning.{meant}
 use borrow.Author.Needs.{needs}
 use Rattle.short_form.proofs.parts.put_proportions.Statement.{statement}
@@ -17,7 +18,8 @@ use Rattle.short_form.proofs.parts.put_proportions.Tie as tie
 abbrev Inv-loop : tie.InvT-loop
 Inv-loop form n out₀ at width i₀ out i =
     let f = meant form in
-    (i ≤ n) × (length out ≡ length out₀) × (placed out (at + widthOf (proportionOf f) * i) (proportions f (n - i)) ≡ placed out₀ at (proportions f n))
+    (i ≤ n) × (length out ≡ length out₀)
+    × (placed out (at + widthOf (proportionOf f) * i) (entriesFrom (proportion-entry f) (0 + i) (n - i)) ≡ placed out₀ at (proportions f n))
 
 abbrev μ-loop : tie.MeasureT-loop
 μ-loop form n out₀ at width i₀ out i = n - i
@@ -47,11 +49,14 @@ loop-again c =
     let l = turn .before in
     let s = l .before .before .before in
     let a = s .args in
+    let entry = proportion-entry (meant (a .form)) in
+    let width = widthOf (proportionOf (meant (a .form))) in
+    let each = proportion-width (meant (a .form)) in
     let new = rw (l .before .proportion-width .ensures) at (c .before .before .put-proportion .ensures) in
     let room : a .at + widthOf (proportionOf (meant (a .form))) * a .n ≤ length (l .loop .out) = rw (l .loop .inv .1) (s .pre) in (
       omega arith,
-      one-length (meant (a .form)) (l .loop .out) _ (a .at) (a .n) (l .loop .i) (turn .loop-test .taken) room new ∙ l .loop .inv .1,
-      proportions-turn (meant (a .form)) (l .loop .out) _ (a .at) (a .n) (l .loop .i) (turn .loop-test .taken) room new ∙ l .loop .inv .2,
+      entry-length entry width each (l .loop .out) _ (a .at) 0 (a .n) (l .loop .i) (turn .loop-test .taken) room new ∙ l .loop .inv .1,
+      entries-turn entry width each (l .loop .out) _ (a .at) 0 (a .n) (l .loop .i) (turn .loop-test .taken) room new ∙ l .loop .inv .2,
     )
 
 same-length : tie.Need-same-length Inv-loop μ-loop
@@ -61,7 +66,8 @@ returns : tie.Need-returns Inv-loop μ-loop
 returns c =
     let l = c .before in
     let a = l .before .before .before .args in
-    sym (proportions-end (meant (a .form)) (l .loop .out) (a .at) (a .n) (l .loop .i) (omega arith)) ∙ l .loop .inv .2
+    let form = meant (a .form) in
+    sym (entries-end (proportion-entry form) (widthOf (proportionOf form)) (proportion-width form) (l .loop .out) (a .at) 0 (a .n) (l .loop .i) (omega arith)) ∙ l .loop .inv .2
 
 pub put-proportions-spec : {M : Type 1} → statement M
 put-proportions-spec =

@@ -9,8 +9,9 @@ use mir.Facts.{toZ-ofZ}
 use Rattle.layout.specs.Layout.{ages}
 use Rattle.layout.specs.Layout.{ageLongTermRatesAt, agePeriodsAt}
 use Rattle.lent.specs.Lent.{placed}
-use Rattle.short_form.specs.ShortForm.{longTermRates}
-use Rattle.short_form.proofs.Placing.{rates-length, rates-turn, rates-end}
+use Rattle.short_form.specs.ShortForm.{entriesFrom, longTermRates}
+use Rattle.short_form.proofs.Entries.{entry-length, entries-turn, entries-end}
+use Rattle.short_form.proofs.Tables.{rate-entry, rate-width}
 use Rattle.little_endian.specs.Bytes.{i32Bytes}
 use Rattle.arithmetic.proofs.Machine.{got}
 use borrow.Author.Needs.{needs}
@@ -20,7 +21,7 @@ use Rattle.short_form.proofs.parts.put_rates.Tie as tie
 abbrev Inv-loop : tie.InvT-loop
 Inv-loop rate out₀ i₀ out i =
     (i ≤ ages) × (length out ≡ length out₀)
-    × (placed out (ageLongTermRatesAt + 4 * i) (longTermRates (toZ w32 rate) (20 + i) (ages - i)) ≡ placed out₀ ageLongTermRatesAt (longTermRates (toZ w32 rate) 20 ages))
+    × (placed out (ageLongTermRatesAt + 4 * i) (entriesFrom (rate-entry (toZ w32 rate)) (20 + i) (ages - i)) ≡ placed out₀ ageLongTermRatesAt (longTermRates (toZ w32 rate)))
 
 abbrev μ-loop : tie.MeasureT-loop
 μ-loop rate out₀ i₀ out i = ages - i
@@ -47,8 +48,8 @@ loop-again c =
     let new = c .before .before .put .ensures ∙ ap (placed (l .loop .out) at) word in
     let room : agePeriodsAt ≤ length (l .loop .out) = omega arith in (
       omega arith,
-      rates-length (l .loop .out) _ rate (l .loop .i) (omega arith) room new ∙ l .loop .inv .1,
-      rates-turn (l .loop .out) _ rate (l .loop .i) (omega arith) room new ∙ l .loop .inv .2,
+      entry-length (rate-entry rate) 4 (rate-width rate) (l .loop .out) _ ageLongTermRatesAt 20 ages (l .loop .i) (omega arith) room new ∙ l .loop .inv .1,
+      entries-turn (rate-entry rate) 4 (rate-width rate) (l .loop .out) _ ageLongTermRatesAt 20 ages (l .loop .i) (omega arith) room new ∙ l .loop .inv .2,
     )
 
 same-length : tie.Need-same-length Inv-loop μ-loop
@@ -58,7 +59,8 @@ returns : tie.Need-returns Inv-loop μ-loop
 returns c =
     let l = c .before in
     let s = l .before .before in
-    rw (toZ-ofZ (s .fits .rate)) at (sym (rates-end (l .loop .out) (toZ w32 (ofZ w32 (s .args .rate))) (l .loop .i) (omega arith)) ∙ l .loop .inv .2)
+    let rate = toZ w32 (ofZ w32 (s .args .rate)) in
+    rw (toZ-ofZ (s .fits .rate)) at (sym (entries-end (rate-entry rate) 4 (rate-width rate) (l .loop .out) ageLongTermRatesAt 20 ages (l .loop .i) (omega arith)) ∙ l .loop .inv .2)
 
 pub put-rates-spec : {M : Type 1} → statement M
 put-rates-spec =
