@@ -19,8 +19,11 @@ def level(foundation_year=2006, base_year=None, addition=0, discount=0, base_rat
 
 
 def sample():
-    """The paper's: F and B 2006, all base rates 100,000,000, other rates 0, T 20, P 50."""
-    return level()
+    """The paper's: F and B 2006, all base rates 100,000,000, other rates 0, T 20, P 50.
+
+    Its T are its own and not the short form's default, which is another one above age 61 (02, change 8).
+    """
+    return level(2006, 2006, 0, 0, 100_000_000, age=(0, 0, 20, 50), cohort=(0, 0, 20, 50))
 
 
 # ---- a realistic basis

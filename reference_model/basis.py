@@ -176,6 +176,13 @@ def long_term_rate_at(age, long_term_rate):
     return rounded(long_term_rate * (120 - age), 30) if age < 120 else 0
 
 
+def default_period_at(age):
+    """20 through age 60, then 20 less the whole part of (age - 60) / 2 through 90, and 5 above."""
+    if age <= 60:
+        return 20
+    return 20 - (age - 60) // 2 if age <= 90 else 5
+
+
 def short_form(run, long_term_rate, output_length=None):
     """An accepted data run with other long-term rates, T and P, and all else as it was."""
     check_output(form_needed(run).run_length, output_length)
@@ -185,8 +192,9 @@ def short_form(run, long_term_rate, output_length=None):
     fields = dict(vars(decode(run)))
     fields["age_long_term_rates"] = tuple(long_term_rate_at(age, long_term_rate) for age in AGES)
     fields["cohort_long_term_rates"] = (0,) * len(BIRTH_YEARS)
+    fields["age_convergence_periods"] = tuple(default_period_at(age) for age in AGES)
+    fields["cohort_convergence_periods"] = (20,) * len(BIRTH_YEARS)
     for kind, count in (("age", len(AGES)), ("cohort", len(BIRTH_YEARS))):
-        fields[kind + "_convergence_periods"] = (20,) * count
         fields[kind + "_proportions_remaining"] = (fields["form"].whole // 2,) * count
     return encode(Basis(**fields))
 

@@ -1,6 +1,7 @@
 """The paper's own figures: components, short form, factors, refusals, an annuity, the points."""
 
 import unittest
+from pathlib import Path
 
 from reference_model import engine
 from reference_model.bases import level, sample
@@ -59,6 +60,26 @@ class ShortForm(unittest.TestCase):
                               (120, 0), (150, 0)):
             self.assertEqual(basis.age_long_term_rates[age - 20], expected)
 
+    def test_periods(self):
+        """02, change 8."""
+        basis = decode(short_form(encode(sample()), 10_000_000))
+        for age, expected in ((20, 20), (60, 20), (61, 20), (62, 19), (89, 6), (90, 5), (91, 5), (150, 5)):
+            self.assertEqual(basis.age_convergence_periods[age - 20], expected)
+        self.assertEqual(basis.cohort_convergence_periods, (20,) * 269)
+
+    def test_improvements(self):
+        """Three years after F the weight is 17² x 2,600 / 800,000 with T 20, 16² x 2,500 / 685,900 with T 19,
+        3² x 1,200 / 21,600 with T 6 and 2² x 1,100 / 12,500 with T 5: of 10,000,000 over L.
+
+        Where I is by birth year it is the first of these at every age.
+        """
+        by_age = short_form(encode(level(age=(20_000_000, 0, 9, 9))), 10_000_000)
+        by_birth_year = short_form(encode(level(cohort=(10_000_000, 0, 9, 9))), 0)
+        for age, expected in ((60, 19_392_500), (61, 19_392_500), (62, 19_330_806), (89, 15_000_000),
+                              (90, 13_520_000)):
+            self.assertEqual(engine.improvement(by_age, NO_HISTORY, age, 2009), expected)
+            self.assertEqual(engine.improvement(by_birth_year, NO_HISTORY, age, 2009), 9_392_500)
+
 
 class Factors(unittest.TestCase):
     def test_one_per_cent_thrice(self):
@@ -110,6 +131,12 @@ class Values(unittest.TestCase):
                     (-1, (149, 1, 2130), 900_000_001)):
                 run = encode(level(discount=discount))
                 self.assertEqual(engine.annuity(run, NO_HISTORY, kind, *question), expected)
+
+    def test_basis_of_the_points(self):
+        """The stored one names T 20 at every age and birth year, which no default could give it."""
+        stored = Path(__file__).resolve().parents[2] / "crates/points/data/basis.bin"
+        self.assertEqual(stored.read_bytes(), encode_file(encode(sample())))
+        self.assertEqual(set(sample().age_convergence_periods + sample().cohort_convergence_periods), {20})
 
     def test_points(self):
         text = b"148 0 2010\n150 0 2010\n148 3 2010\n"

@@ -5,7 +5,7 @@ tables, and the old form.
 import unittest
 
 from reference_model.bases import limits_basis, named_bases, random_basis, realistic
-from reference_model.basis import (check_file, check_run, decode, encode, encode_file, in_form,
+from reference_model.basis import (check_file, check_run, decode, default_period_at, encode, encode_file, in_form,
                                    long_term_rate_at, read_file, short_form, table, write_file, write_old_form)
 from reference_model.blocks import joined_data
 from reference_model.damage import damaged_runs, of_length, with_number, with_numbers
@@ -136,17 +136,30 @@ class ShortForm(unittest.TestCase):
             self.assertEqual([long_term_rate_at(age, rate) for age in AGES],
                              [rounded(rate * share, 30) for share in shares])
 
+    def test_periods_by_age(self):
+        """02, change 8, age by age: 20 to 61, each year less for two ages from 62 on, 5 from 90 on."""
+        falling = [period for period in range(19, 5, -1) for _ in range(2)]
+        expected = [20] * 42 + falling + [5] * 61
+        self.assertEqual([default_period_at(age) for age in AGES], expected)
+        self.assertEqual([expected[age - 20] for age in (60, 61, 62, 89, 90, 91)],
+                         [20, 20, 19, 6, 5, 5])
+        for run in RUNS:
+            for rate in (0, -200_000_000):
+                shortened = decode(short_form(run, rate))
+                self.assertEqual(list(shortened.age_convergence_periods), expected)
+                self.assertEqual(list(shortened.cohort_convergence_periods), [20] * 269)
+
     def test_only_long_term_rates_and_courses_differ(self):
         for run, half in ((RUN, 50), (FITTED, 5_000)):
             before, after = decode(run), decode(short_form(run, -7_000_001))
             for name, number in vars(before).items():
                 if "long_term" in name or "convergence" in name or "proportions" in name:
-                    self.assertEqual(len(set(getattr(after, name))) > 1, name == "age_long_term_rates")
+                    self.assertEqual(len(set(getattr(after, name))) > 1,
+                                     name in ("age_long_term_rates", "age_convergence_periods"))
                 else:
                     self.assertEqual(getattr(after, name), number)
             self.assertEqual(set(after.cohort_long_term_rates), {0})
-            self.assertEqual(set(after.age_convergence_periods
-                                 + after.cohort_convergence_periods), {20})
+            self.assertEqual(set(after.cohort_convergence_periods), {20})
             self.assertEqual(set(after.age_proportions_remaining
                                  + after.cohort_proportions_remaining), {half})
             self.assertEqual(len(after.age_long_term_rates), len(AGES))
