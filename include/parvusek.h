@@ -44,7 +44,7 @@
 extern "C" {
 #endif
 
-#define PARVUSEK_VERSION 600u        /* of this header, 0.6.0: 10,000 x major + 100 x minor + patch */
+#define PARVUSEK_VERSION 700u        /* of this header, 0.7.0: 10,000 x major + 100 x minor + patch */
 #define PARVUSEK_UNIT 1000000000u    /* U, units to one */
 #define PARVUSEK_FILE_LENGTH 4608u   /* bytes of a basis file in the old form, MPB1 */
 #define PARVUSEK_RUN_LENGTH 4554u    /* bytes of a data run in the old form */
@@ -101,8 +101,9 @@ parvusek_refusal_t parvusek_write_basis(const uint8_t *run, size_t run_len, uint
 parvusek_refusal_t parvusek_write_old_form(const uint8_t *run, size_t run_len, uint8_t *file, size_t file_len);
 
 /* Writes the short form into the first 4,554 or 5,060 bytes of out, in the run's own form: the data run with this one
-   long-term rate, in units, run off over the ages 91 to 119, every period 20 and every proportion 50 per cent (50 in
-   the old form, 5,000 in the new); further bytes are kept.
+   long-term rate, in units, run off over the ages 91 to 119, a default period, and every proportion 50 per cent (50 in
+   the old form, 5,000 in the new); further bytes are kept. The period by age is 20 through age 60, then 20 less the
+   whole part of (age - 60) / 2 through 90, and 5 above; by birth year it is 20.
    Refused: 11 (out too short: 4554, or 5060 for a run of 5,060 bytes), 1, 4, 5, then 5 at offset 1078 for a rate beyond
    200,000,000 either way. */
 parvusek_refusal_t parvusek_short_form(const uint8_t *run, size_t run_len, int32_t long_term_rate, uint8_t *out, size_t out_len);

@@ -203,6 +203,13 @@ static void check_files(void) {
 
 static int32_t long_term(const uint8_t *run, uint32_t age) { return (int32_t)get4(run + 1078 + 4 * (age - 20)); }
 
+/* 20 to age 61, then each year less for two ages, and 5 from age 90 on */
+static int has_default_periods(const uint8_t *periods) {
+    for (uint8_t period = 19, place = 42; period > 5; period--, place += 2)
+        if (periods[place] != period || periods[place + 1] != period) return 0;
+    return all(periods, 42, 20) && all(periods + 70, 61, 5);
+}
+
 static void check_short_forms(void) {
     uint8_t run[RUN], out[RUN + FURTHER];
     sample_beyond(run);
@@ -220,7 +227,7 @@ static void check_short_forms(void) {
     HOLDS(long_term(out, 91) == 9666667);
     HOLDS(long_term(out, 119) == 333333);
     HOLDS(long_term(out, 120) == 0 && long_term(out, 150) == 0);
-    HOLDS(all(out + 1602, 131, 20) && all(out + 1733, 131, 50));
+    HOLDS(has_default_periods(out + 1602) && all(out + 1733, 131, 50));
     HOLDS(memcmp(out + 1864, run + 1864, 1076) == 0);
     HOLDS(all(out + 2940, 1076, 0));
     HOLDS(all(out + 4016, 269, 20) && all(out + 4285, 269, 50));
@@ -229,6 +236,14 @@ static void check_short_forms(void) {
     HOLDS(long_term(out, 90) == 15000000 && long_term(out, 100) == 10000000);
     HOLDS(passed(parvusek_short_form(run, RUN, -1, out, RUN)));
     HOLDS(long_term(out, 91) == -1 && long_term(out, 105) == 0);
+
+    /* three years after F 0.93925 of the difference remains with T 20, a half with T 6 and 0.352 with T 5 */
+    sample(run);
+    fill4(run + 554, 131, 20000000);
+    HOLDS(passed(parvusek_short_form(run, RUN, 10000000, out, RUN)));
+    HOLDS(is_signed(parvusek_improvement(out, RUN, NO_HISTORY, 61, 2009), 19392500));
+    HOLDS(is_signed(parvusek_improvement(out, RUN, NO_HISTORY, 89, 2009), 15000000));
+    HOLDS(is_signed(parvusek_improvement(out, RUN, NO_HISTORY, 90, 2009), 13520000));
 }
 
 /* ---- single cells */

@@ -64,6 +64,9 @@ def check_bases(e):
     same("a short form", places(e.short_form(other, -1, short, len(short))), (0, 0, 0))
     rates = struct.unpack("<131i", bytes(short)[1078:1602])
     same("its long-term rates", rates, tuple(-1 if age < 105 else 0 for age in range(20, 151)))
+    falling = [period for period in range(19, 5, -1) for _ in range(2)]  # two ages each, from 62 to 89
+    same("its periods by age", bytes(short)[1602:1733], bytes([20] * 42 + falling + [5] * 61))
+    same("its periods by birth year", bytes(short)[4016:4285], bytes([20]) * 269)
     same("what is kept of the run", bytes(short)[:1078] + bytes(short)[1864:2940], other[:1078] + other[1864:2940])
     same("its further bytes", bytes(short)[RUN:], bytes([KEPT]) * FURTHER)
 

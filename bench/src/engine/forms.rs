@@ -214,7 +214,10 @@ fn a_short_form_keeps_its_run_s_form() {
         }
     }
     assert_eq!((&short.run[..4], &short.run[4954..]), (b"MPB2".as_slice(), [0; 106].as_slice()));
-    assert_eq!((&out[1602..1733], &out[4147..4416], out[5060]), ([20; 131].as_slice(), [20; 269].as_slice(), 9));
+    // T of ages 20 to 61, 62 and 63, 88 to 91, 150, and of every birth year
+    assert_eq!((&out[1602..1644], &out[1644..1646]), ([20; 42].as_slice(), [19; 2].as_slice()));
+    assert_eq!((&out[1670..1674], out[1732]), ([6, 6, 5, 5].as_slice(), 5));
+    assert_eq!((&out[4147..4416], out[5060]), ([20; 269].as_slice(), 9));
     assert_eq!((out[..1078] == draft.run[..1078], out[1995..3071] == draft.run[1995..3071]), (true, true));
     assert_eq!(out[3071..4147], [0; 1076]);
 }

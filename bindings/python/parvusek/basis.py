@@ -151,9 +151,10 @@ class Basis:
         Path(path).write_bytes(self.to_old_form())
 
     def short_form(self, long_term_rate: int) -> "Basis":
-        """The basis that has one long-term rate, running off from age 90 to 120, every T 20 and P 50 per cent.
+        """The basis that has one long-term rate, running off from age 90 to 120, a default T and every P 50 per cent.
 
-        Its form and its history stay.
+        T is 20 to age 60, then 20 less the whole part of (age - 60) / 2 to age 90, and 5 above; by birth year 20.
+        The form and the history stay.
         """
         run = ctypes.create_string_buffer(len(self._run))
         rate = fits("long_term_rate", long_term_rate, -2**31, 2**31 - 1)

@@ -184,8 +184,9 @@ impl Basis {
     }
 
     /// The short form: the basis that differs only in its long-term rates (this one to age 90, running off to 0 at
-    /// 120; none by birth year), every T 20 and every P 50 per cent. Its form and its history stay. A rate beyond
-    /// ±200,000,000 units is refused by 5.
+    /// 120; none by birth year), in T (by age 20 to 60, then 20 less the whole part of (age − 60) / 2 to 90, and 5
+    /// above; by birth year 20), and in P (50 per cent). Its form and its history stay. A rate beyond ±200,000,000
+    /// units is refused by 5.
     ///
     /// ```
     /// # use parvusek::Basis;

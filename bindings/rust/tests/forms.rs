@@ -91,6 +91,9 @@ fn the_short_form_keeps_the_form() {
     let wanted = old().short_form(10_000_000).expect("a rate within its limits");
     assert_eq!(short.run(), widened(wanted.run()));
     assert_eq!(short.run()[1733..1735], 5_000_u16.to_le_bytes());
+    // T of ages 60 to 62 and 89 to 91, and of the first birth year and the last
+    assert_eq!((&short.run()[1642..1645], &short.run()[1671..1674]), ([20, 20, 19].as_slice(), [6, 5, 5].as_slice()));
+    assert_eq!((short.run()[4147], short.run()[4415]), (20, 20));
     assert_eq!(short.short_form(200_000_001), Err(refusal(5, 1078)));
 }
 

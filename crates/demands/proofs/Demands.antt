@@ -23,7 +23,7 @@ use Rattle.improvement.proofs.OneRounding.{one-rounding}
 use Rattle.improvement.proofs.LongTerm.{long-term-from-2130}
 use Rattle.improvement.proofs.Edges.{edges}
 use Rattle.short_form.proofs.Accepted.{short-form-stands}
-use Rattle.short_form.proofs.AgePeriod.{age-periods}
+use Rattle.short_form.proofs.PeriodByAge.{period-by-age}
 use Rattle.lifeline.proofs.Survivorship.{is-cohort-survivorship}
 use Rattle.enquiry_text.proofs.Says.{line-says}
 use Rattle.figures.proofs.Computed.{figures-hold}
@@ -166,7 +166,7 @@ module _ (run history : List ℕ) where
         oneRounding = one-rounding;
         longTerm = long-term-from-2130 (basisWith run history);
         shortForm = short-form-stands run;
-        agePeriods = age-periods;
+        periodByAge = period-by-age;
         lifeline = is-cohort-survivorship run history;
         figures = figures-hold;
       }

@@ -18,7 +18,7 @@ use Rattle.basis_file.specs.RoundTrips.{RoundTrips}
 use Rattle.history.specs.History.{basisWith, runAndHistoryCheck}
 use Rattle.history.specs.Accepted.{HistoryAcceptance}
 use Rattle.old_form.specs.OldForm.{writeOldCheck, oldFileOf, Forms}
-use Rattle.short_form.specs.ShortForm.{shortFormOf, shortCheck, ShortFormStands, AgePeriods}
+use Rattle.short_form.specs.ShortForm.{shortFormOf, shortCheck, ShortFormStands, PeriodByAge}
 use Rattle.component.specs.PerCent.{WeightInPerCent}
 use Rattle.improvement.specs.Improvement.{firstYear, improvementOf, improvementNeeded}
 use Rattle.improvement.specs.Answered.{Edges, ActualAnswered}
@@ -148,7 +148,7 @@ pub record Demand2 (run history : List ℕ) : Type 0 where
   -- the short form is accepted, and differs only in what it may
   pub shortForm : (rate : ℤ) → ShortFormStands run rate
   -- its period by age is 20 through age 60, then 20 less the whole part of (age − 60) / 2 through 90, and 5 above (02, change 8)
-  pub agePeriods : AgePeriods
+  pub periodByAge : PeriodByAge
   -- a lifeline's steps are cohort survivorship, and say what their checks, their age and their year say
   pub lifeline : (age year : ℕ) → IsCohortSurvivorship run history age year
   -- the marked figures of the paper

@@ -18,7 +18,7 @@ use Rattle.run_check.proofs.Acceptance.{passes}
 use Rattle.short_form.specs.ShortForm.{longTermOf, agePeriodOf, shortTerms, shortFormOf, Shortened, ShortFormStands}
 use Rattle.short_form.proofs.Checking.{within-limits}
 use Rattle.short_form.proofs.LongTerm.{long-term-size}
-use Rattle.short_form.proofs.AgePeriod.{age-period-size}
+use Rattle.short_form.proofs.PeriodByAge.{age-period-size}
 use Rattle.short_form.proofs.Placing.{length-short-form}
 use Rattle.short_form.proofs.Reading.{front-kept, half-kept, word-kept, last-zero, age-rate, age-period, age-proportion}
 use Rattle.short_form.proofs.Reading.{birth-initial, birth-rate, birth-period, birth-proportion}

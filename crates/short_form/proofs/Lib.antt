@@ -1,5 +1,5 @@
 pub mod LongTerm
-pub mod AgePeriod
+pub mod PeriodByAge
 mod Lists
 mod Entries
 mod Tables

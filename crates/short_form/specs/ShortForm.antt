@@ -54,7 +54,7 @@ abbrev pub everyProportion : ℕ
 everyProportion = 5_000
 
 -- ---- the tables, as they stand in a data run
--- n entries, one after another, the first of them that of an age or of a place
+-- n entries of a table, one after another, from that of a first age or place on
 unfoldable pub entriesFrom : (ℕ → List ℕ) → ℕ → ℕ → List ℕ
 entriesFrom entry first zero = []
 entriesFrom entry first (suc n) = entry first ++ entriesFrom entry (first + 1) n
@@ -110,7 +110,7 @@ pub record ShortFormStands (run : List ℕ) (rate : ℤ) : Type 0 where
   pub form : shortFormCheck run rate ≡ passed → length (shortFormOf run rate) ≡ length run
 
 -- ---- the period by age, case by case, and at the ages where the cases meet (02, change 8)
-pub record AgePeriods : Type 0 where
+pub record PeriodByAge : Type 0 where
   pub level : (age : ℕ) → age ≤ 60 → agePeriodOf age ≡ 20
   pub falling : (age : ℕ) → 60 < age → age ≤ 90 → agePeriodOf age ≡ 20 - (age - 60) / 2
   pub least : (age : ℕ) → 90 < age → agePeriodOf age ≡ 5

@@ -34,10 +34,10 @@ fn put_age_periods(out: &mut [u8])
     requires { ⌜ ageProportionsAt ≤ length (now out) ⌝ }
     ensures { λ _. ⌜ now (out .exit) ≡ placed (now (out .entry)) agePeriodsAt agePeriods ⌝ }
 {
-    let mut i: usize = 0;
-    while i < layout::AGES {
-        out[layout::AGE_PERIODS_AT + i] = periods::age_period(20 + i);
-        i += 1;
+    let mut place: usize = 0;
+    while place < layout::AGES {
+        out[layout::AGE_PERIODS_AT + place] = periods::age_period(20 + place);
+        place += 1;
     }
 }
 

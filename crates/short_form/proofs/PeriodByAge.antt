@@ -4,10 +4,10 @@ use Prim.Native.Nat.{ℕ, _-_, _/_, _≤_, _<_}
 use native.Mathlib.Decide.{decLt}
 use native.Mathlib.Omega.{arith}
 use borrow.Author.Tests.{le-leb, lt-leb}
-use Rattle.short_form.specs.ShortForm.{agePeriodOf, AgePeriods}
+use Rattle.short_form.specs.ShortForm.{agePeriodOf, PeriodByAge}
 
-pub age-periods : AgePeriods
-age-periods =
+pub period-by-age : PeriodByAge
+period-by-age =
     record {
       level = λ age h. rw (le-leb age 60 h) refl;
       falling = λ age h k. rw (lt-leb age 60 h, le-leb age 90 k) refl;
@@ -19,6 +19,6 @@ pub age-period-size : (age : ℕ) → (5 ≤ agePeriodOf age) × (agePeriodOf ag
 age-period-size age = by (decLt 60 age) (decLt 90 age)
   where
     by : Dec (60 < age) → Dec (90 < age) → (5 ≤ agePeriodOf age) × (agePeriodOf age ≤ 20)
-    by (no l) k = rw (age-periods .level age (omega arith)) (omega arith, omega arith)
-    by (yes l) (no k) = rw (age-periods .falling age l (omega arith)) (omega arith, omega arith)
-    by (yes l) (yes k) = rw (age-periods .least age k) (omega arith, omega arith)
+    by (no l) k = rw (period-by-age .level age (omega arith)) (omega arith, omega arith)
+    by (yes l) (no k) = rw (period-by-age .falling age l (omega arith)) (omega arith, omega arith)
+    by (yes l) (yes k) = rw (period-by-age .least age k) (omega arith, omega arith)
