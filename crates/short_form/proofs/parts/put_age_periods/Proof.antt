@@ -1,6 +1,7 @@
 -- What is left of the periods gives the same output as all of them.
-use mathlib.Core.Path.{_≡_, refl, sym, _∙_}
-use Prim.Native.Nat.{_+_, _*_, _-_, _≤_}
+use mathlib.Core.Path.{_≡_, refl, sym, ap, _∙_}
+use mathlib.Core.List.{[], _∷_}
+use Prim.Native.Nat.{ℕ, _+_, _*_, _-_, _≤_}
 use native.Mathlib.Nat.{one-mul}
 use native.Mathlib.Omega.{arith}
 use lib.ListN.{length, set}
@@ -30,7 +31,8 @@ loop-again c =
     let place = l .loop .place in
     let out = l .loop .out in
     let new : set out (agePeriodsAt + place) (c .age-period .result) ≡ placed out (agePeriodsAt + 1 * place) (period-entry (20 + place)) =
-    rw (one-mul, ← c .age-period .ensures) (stored out (agePeriodsAt + place) (c .age-period .result) (omega arith)) in (
+    rw one-mul
+    (stored out (agePeriodsAt + place) (c .age-period .result) (omega arith) ∙ ap (λ (x : ℕ). placed out (agePeriodsAt + place) (x ∷ [])) (c .age-period .ensures)) in (
       omega arith,
       entry-length period-entry 1 period-width out _ agePeriodsAt 20 ages place (omega arith) (omega arith) new ∙ l .loop .inv .1,
       entries-turn period-entry 1 period-width out _ agePeriodsAt 20 ages place (omega arith) (omega arith) new ∙ l .loop .inv .2,
