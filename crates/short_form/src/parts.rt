@@ -3,7 +3,7 @@ ghost use mathlib.Core.Path.{_≡_};
 ghost use Prim.Native.Nat.{_+_, _*_, _≤_};
 ghost use lib.ListN.{length};
 ghost use lib.IntN.{natAbs};
-ghost use Rattle.layout.specs.Layout.{widthOf, proportionOf, runLength, ages, ageLongTermRatesAt, agePeriodsAt, ageProportionsAt, birthYearInitialRatesAt};
+ghost use Rattle.layout.specs.Layout.{widthOf, proportionOf, runLength, ageLongTermRatesAt, agePeriodsAt, ageProportionsAt, birthYearInitialRatesAt};
 ghost use Rattle.layout.specs.Meaning.{meant};
 ghost use Rattle.lent.specs.Lent.{placed};
 ghost use Rattle.short_form.specs.ShortForm.{longTermLimit, longTermRates, agePeriods, proportions, agesOf, birthYearsOf};
