@@ -25,6 +25,11 @@ use Rattle.short_form.proofs.Placing.{length-rates, length-age-periods,
 same-half : (s t : List ℕ) (at : ℕ) → byteAt s at ≡ byteAt t at → byteAt s (at + 1) ≡ byteAt t (at + 1) → u16At s at ≡ u16At t at
 same-half s t at e f = rw (e, f) refl
 
+-- the bytes of the P at place i
+proportion-bytes : (form : Form) (n i j : ℕ) → i < n → j < widthOf (proportionOf form)
+    → byteAt (proportions form n) (widthOf (proportionOf form) * i + j) ≡ byteAt (proportion-entry form i) j
+proportion-bytes form n i j = entry-bytes (proportion-entry form) (widthOf (proportionOf form)) (proportion-width form) 0 n i j _ refl
+
 -- ---- the bytes of a short form, part by part
 module _ (run : List ℕ) (rate : ℤ) (form : Form) (e : formOfRun (length run) ≡ form) (long : length run ≡ runLength form) where
   age-parts : Parts (shortFormOf run rate)
@@ -63,7 +68,7 @@ module _ (run : List ℕ) (rate : ℤ) (form : Form) (e : formOfRun (length run)
       proportion-is form (shortFormOf run rate) (ageProportionsAt + widthOf (proportionOf form) * i)
       (λ j m. let place = widthOf (proportionOf form) * i + j in
       let f : ageProportionsAt + widthOf (proportionOf form) * i + j ≡ ageProportionsAt + place = omega arith in
-      rw f (age-parts .fourth place (omega (arith, entry-inside (widthOf (proportionOf form)) i ages l)) ∙ entry-bytes (proportion-entry form) (widthOf (proportionOf form)) (proportion-width form) 0 ages i j place refl l m))
+      rw f (age-parts .fourth place (omega (arith, entry-inside (widthOf (proportionOf form)) i ages l)) ∙ proportion-bytes form ages i j l m))
 
   birth-kept : (i : ℕ) → i < 4 * birthYears → byteAt (shortFormOf run rate) (birthYearInitialRatesAt form + i) ≡ byteAt run (birthYearInitialRatesAt form + i)
   birth-kept i l =
@@ -86,7 +91,7 @@ module _ (run : List ℕ) (rate : ℤ) (form : Form) (e : formOfRun (length run)
       (λ j m. let place = widthOf (proportionOf form) * i + j in
       in-birth-years (birthYearProportionsAt form + widthOf (proportionOf form) * i + j) (9 * birthYears + place) (omega arith)
       ∙ birth-year-parts .fourth place (omega (arith, entry-inside (widthOf (proportionOf form)) i birthYears l))
-      ∙ entry-bytes (proportion-entry form) (widthOf (proportionOf form)) (proportion-width form) 0 birthYears i j place refl l m)
+      ∙ proportion-bytes form birthYears i j l m)
 
   pub last-zero : (at : ℕ) → fieldsEnd form ≤ at → at < runLength form → byteAt (shortFormOf run rate) at ≡ 0
   last-zero at l m =

@@ -60,7 +60,8 @@ returns c =
     let l = c .before in
     let s = l .before .before in
     let rate = toZ w32 (ofZ w32 (s .args .rate)) in
-    rw (toZ-ofZ (s .fits .rate)) at (sym (entries-end (rate-entry rate) 4 (rate-width rate) (l .loop .out) ageLongTermRatesAt 20 ages (l .loop .i) (omega arith)) ∙ l .loop .inv .2)
+    rw (toZ-ofZ (s .fits .rate))
+    at (sym (entries-end (rate-entry rate) 4 (rate-width rate) (l .loop .out) ageLongTermRatesAt 20 ages (l .loop .i) (omega arith)) ∙ l .loop .inv .2)
 
 pub put-rates-spec : {M : Type 1} → statement M
 put-rates-spec =
