@@ -21,7 +21,7 @@ pub cell-passed : (run history : List ℕ) (first age year : ℕ) → basisWith 
 cell-passed run history first age year from h =
     let p = both-passed (runAndHistoryCheck run history) (cellCheck first age year) h in
     let q = question.cell-passed first age year (p .1) in
-    record { usable = accepted-workable run history (p .0); age-low = q .0; age-high = q .1; year-low = omega (arith, from, q .2) }
+    record { usable = accepted-workable run history (p .0); age-low = q .0; age-high = q .1; year-low = omega (arith, from, q .2); birth-high = omega (arith, q .0, q .3) }
 
 -- one from the first year that has an improvement on
 pub improved-passed : (run history : List ℕ) (age year : ℕ) → firstOf (runAndHistoryCheck run history) (cellCheck (firstYear (basisWith run history)) age year) ≡ passed →

@@ -14,7 +14,8 @@ use Rattle.valuation.specs.Valuation.{discountNext, discountAfter}
 use Rattle.valuation.proofs.Discount.{discount-turn}
 use Rattle.sweep.specs.Encoding.{decoded}
 use Rattle.factor_table.specs.Inner.Storing.{KeptBefore}
-use Rattle.factor_table.specs.FactorTable.{tableYears, factorsLength, tableLength, YearsStored, RestIsZero, DiscountsStored, FactorTable}
+use Rattle.factor_table.proofs.LaterPlaces.{ends-in-time}
+use Rattle.factor_table.specs.FactorTable.{earlyYears, earlyLength, laterAt, factorsLength, tableLength, YearsStored, RestIsZero, LaterYearsStored, DiscountsStored, FactorTable}
 
 -- the first j discounts are stored, and v is the next one
 pub record Discounted (b : Basis) (start numbers : List ℕ) (j v : ℕ) : Type 0 where
@@ -43,14 +44,18 @@ module _ {b : Basis} {start : List ℕ} where
       by i k (yes q) = ap pos (getD-set-other numbers (factorsLength + j) (factorsLength + i) v 0 (λ e. omega arith)) ∙ d .stored i q
       by i k (no q) = let e : i ≡ j = omega arith in rw e (ap pos (getD-set-same numbers (factorsLength + j) v 0 (omega (arith, d .same))) ∙ sym (d .next))
 
--- ---- the discounts are stored behind the years, which begin in 1992 at the earliest, and so keep them
-pub stored-behind : (b : Basis) (numbers cleared after : List ℕ) → 1992 ≤ b .base → length after ≡ tableLength
-    → YearsStored b numbers (tableYears b) → RestIsZero b cleared → KeptBefore (131 * tableYears b) numbers cleared
-    → DiscountsStored b after 131 → KeptBefore factorsLength cleared after → FactorTable b after
-stored-behind b numbers cleared after first size years zero stand discounts kept =
+-- ---- each part is stored behind the one before it, and so keeps it; the years begin in 1992 at the earliest
+pub stored-behind : (b : Basis) (years cleared later after : List ℕ) → 1992 ≤ b .base → length after ≡ tableLength
+    → YearsStored b years (earlyYears b) → RestIsZero b cleared → KeptBefore (131 * earlyYears b) years cleared
+    → LaterYearsStored b later 66 → KeptBefore earlyLength cleared later
+    → DiscountsStored b after 131 → KeptBefore factorsLength later after → FactorTable b after
+stored-behind b years cleared later after first size stored zero stand rows kept discounts last =
     record {
       size = size;
-      years = λ k i l m. ap (decoded (20 + i)) (kept (131 * k + i) (omega arith) ∙ stand (131 * k + i) (omega arith)) ∙ years k i l m;
-      rest = λ i l m. kept i m ∙ zero i l m;
+      years = λ k i l m.
+          let at = 131 * k + i in
+          ap (decoded (20 + i)) (last at (omega arith) ∙ kept at (omega arith) ∙ stand at (omega arith)) ∙ stored k i l m;
+      rest = λ i l m. last i (omega arith) ∙ kept i m ∙ zero i l m;
+      later = λ m i l q. ap (decoded (20 + (2 * m + i))) (last (earlyLength + laterAt m + i) (omega (arith, ends-in-time m l))) ∙ rows m i l q;
       discounts = discounts;
     }

@@ -1,6 +1,8 @@
 mod Clearing
 mod Copying
+mod LaterPlaces
+mod LaterSweeping
 mod Discounting
 pub mod Fixed
-pub mod Reading
+pub mod StoredFactors
 mod Sweeping

@@ -4,6 +4,7 @@ use mathlib.Core.List.{List}
 use Prim.Native.Nat.{ℕ, suc, _+_, _*_, _<_}
 use native.Mathlib.Omega.{arith}
 use native.Mathlib.Decide.{decLt}
+use native.Mathlib.Nat.{zero-add}
 use native.Mathlib.Numerals.{add-one}
 use lib.ListN.{length, getD}
 use Rattle.basis.specs.Basis.{Basis}
@@ -23,7 +24,7 @@ module _ {b : Basis} where
   pub sweeping-none : {numbers state : List ℕ} → length numbers ≡ tableLength → Encodes state sweepStart → Sweeping b numbers state 0
   sweeping-none {state = state} h s = record { size = h; years = λ k i l. absurd (omega arith); holds = start-after b state s }
 
-  pub sweeping-next : {numbers state after next : List ℕ} {k at year : ℕ} → Sweeping b numbers state k → at ≡ 131 * k → StandsAt at state after
+  pub sweeping-next : {numbers state after next : List ℕ} {k at year : ℕ} → Sweeping b numbers state k → at ≡ 131 * k → StandsAt at 0 state after
       → KeptBefore at numbers after → length after ≡ length numbers → Encodes next (sweepStep b year (stateIn state))
       → year ≡ b .base + k → Sweeping b after next (k + 1)
   sweeping-next {state = state} {after} {next} {k} s ea stands kept same g ey =
@@ -34,4 +35,4 @@ module _ {b : Basis} where
       by j i l m (yes q) = ap (decoded (20 + i)) (kept (131 * j + i) (omega (arith, ea))) ∙ s .years j i q m
       by j i l m (no q) =
           let e : j ≡ k = omega arith in
-          rw (e, ← ea) (ap (decoded (20 + i)) (stands i m) ∙ s .holds .each i m)
+          rw (e, ← ea) (ap (decoded (20 + i)) (rw zero-add at (stands i (omega arith))) ∙ s .holds .each i m)

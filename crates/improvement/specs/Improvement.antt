@@ -9,7 +9,7 @@ use Rattle.basis.specs.Basis.{Basis}
 use Rattle.basis.specs.declared.Convergence.{Convergence}
 use Rattle.component.specs.Component.{componentOf}
 
--- ---- the projection's, at an age in a year from F to 2130
+-- ---- the projection's, at an age in a year from F on
 -- the constant addition, if the year is after F
 unfoldable pub additionOf : Basis → ℕ → ℤ
 additionOf b year = cond (ltb (b .foundation) year) (b .addition) (pos 0)

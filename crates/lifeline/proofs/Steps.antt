@@ -35,7 +35,7 @@ unfolding survivorsCheck
 survivors-passed size survivors h = leb-true survivors U (unless-passed (leb survivors U) _ h)
 
 pub step-passed : (run history : List ℕ) (p : Position) → stepCheck run history p ≡ passed
-    → Cell run history (p .age) (p .year) × (p .year ≤ lastYearAt (p .age)) × (p .survivors ≤ U)
+    → Cell run history (p .age) (p .year) × (p .survivors ≤ U)
 unfolding positionCheck
 step-passed run history p h =
     let first = ratedFrom (basisWith run history) in
@@ -46,8 +46,8 @@ step-passed run history p h =
     let y = step-year-passed first (p .age) (p .year) (s .0) in
     let late = rated-late (basisWith run history) in
     let cell : Cell run history (p .age) (p .year) =
-    record { usable = accepted-workable run history (c .0); age-low = a .0; age-high = a .1; year-low = omega (arith, y .0, late) } in
-    (cell, y .1, survivors-passed (length run) (p .survivors) (s .1))
+    record { usable = accepted-workable run history (c .0); age-low = a .0; age-high = a .1; year-low = omega (arith, y .0, late); birth-high = y .1 } in
+    (cell, survivors-passed (length run) (p .survivors) (s .1))
 
 -- ---- the start
 module _ (run history : List ℕ) (age year : ℕ) where

@@ -105,7 +105,7 @@ fn check_step(run: &[u8], history: &[u8], position: Position) -> Check
 
 // One year of cohort survivorship; where its rate is refused, the position is unchanged.
 fn year_later(run: &[u8], history: &[u8], position: Position) -> LifelineStep
-    requires { ⌜ Cell (now run) (now history) (position .age) (position .year) × (position .age < 150) × (position .year ≤ 2260)
+    requires { ⌜ Cell (now run) (now history) (position .age) (position .year) × (position .age < 150)
         × (position .survivors ≤ 1_000_000_000) ⌝ }
     ensures { λ r. ⌜ stepMeaning r ≡ yearLater position
         (survivorsAfterYear (basisWith (now (run .entry)) (now (history .entry))) (position .age) (position .year) (pos (position .survivors))) ⌝ }

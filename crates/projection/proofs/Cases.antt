@@ -1,17 +1,16 @@
--- The definitions of the factor case by case: refused by 9, by 10, valued; before and after 2130. Assumes nothing.
+-- The definitions of the factor case by case: refused by 9, by 10, valued. Assumes nothing.
 use mathlib.Core.Path.{_≡_, _∙_, refl}
 use mathlib.Core.Bool.{Bool, true, false, cond}
 use Prim.Native.Nat.{ℕ, _≤_, _<_}
 use native.Mathlib.Omega.{arith}
-use native.Mathlib.Decide.{decLt}
 use lib.IntN.{ℤ, pos}
 use lib.Signed.{leZ}
-use borrow.Author.Tests.{lt-ltb, le-ltb, le-leb, lt-leb}
+use borrow.Author.Tests.{le-leb, lt-leb}
 use Rattle.outcome.specs.declared.Refusal.{Refusal}
 use Rattle.outcome.specs.Outcome.{value, refused, andThen, refusal}
 use Rattle.improvement.specs.Improvement.{usable, improvementNeeded}
 use Rattle.improvement.proofs.Cases.{needed-usable, needed-beyond}
-use Rattle.projection.specs.Projection.{factorNeeded, factorNext, factorFrom, heldYear}
+use Rattle.projection.specs.Projection.{factorNeeded, factorNext, factorFrom}
 
 -- ---- a year's factor: 9, then 10, then the value
 module _ (age year : ℕ) (i f : ℤ) where
@@ -56,33 +55,3 @@ module _ (age year : ℕ) (i f : ℤ) where
       by true true q k = let z : _≡_ {A = ℕ} 0 1 = cc in absurd (omega arith)
       by true false q k = let e : r ≡ refusal 10 age year = cc in (10, e, omega arith, omega arith)
       by false t q k = let e : r ≡ refusal 9 age year = cc in (9, e, omega arith, omega arith)
-
--- ---- the held year
-pub held-before : (year : ℕ) → year < 2130 → heldYear year ≡ year
-unfolding heldYear
-held-before year h = rw (lt-ltb year 2130 h)
-
-pub held-after : (year : ℕ) → 2130 ≤ year → heldYear year ≡ 2130
-unfolding heldYear
-held-after year h = rw (le-ltb year 2130 h)
-
-pub held-until : (year : ℕ) → year ≤ 2130 → heldYear year ≡ year
-held-until year h = by (decLt year 2130)
-  where
-    by : Dec (year < 2130) → heldYear year ≡ year
-    by (yes l) = held-before year l
-    by (no l) = held-after year (omega arith) ∙ omega arith
-
-pub held-late : (year : ℕ) → heldYear year ≤ 2130
-held-late year = by (decLt year 2130)
-  where
-    by : Dec (year < 2130) → heldYear year ≤ 2130
-    by (yes l) = rw (held-before year l) (omega arith)
-    by (no l) = rw (held-after year (omega arith)) (omega arith)
-
-pub held-early : (base year : ℕ) → base ≤ year → base ≤ 2130 → base ≤ heldYear year
-held-early base year h k = by (decLt year 2130)
-  where
-    by : Dec (year < 2130) → base ≤ heldYear year
-    by (yes l) = rw (held-before year l) h
-    by (no l) = rw (held-after year (omega arith)) k

@@ -1,6 +1,6 @@
 -- No number but 6 to 10: by the laws of what refuses by numbers of a list. Assumes nothing.
 use mathlib.Core.Path.{refl}
-use Prim.Native.Nat.{ℕ, _-_}
+use Prim.Native.Nat.{ℕ}
 use lib.IntN.{ℤ, pos}
 use lib.Signed.{leZ}
 use Rattle.arithmetic.specs.Fraction.{U}
@@ -8,7 +8,7 @@ use Rattle.basis.specs.Basis.{Basis}
 use Rattle.outcome.specs.Refusals.{recordNumbers, isListed, RefusedBy}
 use Rattle.outcome.proofs.Refusals.{value-by, work-by, work-cond-by, then-by, steps-by}
 use Rattle.improvement.proofs.Numbered.{needed-numbered}
-use Rattle.projection.specs.Projection.{factorNext, factorNeeded, factorFrom, heldYear, factorOf, rateFrom, rateOf}
+use Rattle.projection.specs.Projection.{factorNext, factorNeeded, factorFrom, yearsTo, factorOf, rateFrom, rateOf}
 
 factor-needed-numbered : (age year : ℕ) (factor : ℤ) → RefusedBy recordNumbers (factorNeeded age year factor)
 unfolding factorNeeded recordNumbers isListed
@@ -21,7 +21,7 @@ year-numbered age year i factor = then-by (needed-numbered age year i) (λ i. fa
 module _ (b : Basis) (age year : ℕ) where
   pub factor-numbered : RefusedBy recordNumbers (factorOf b age year)
   unfolding factorOf
-  factor-numbered = steps-by (pos U) (heldYear year - b .base) (λ k f. year-numbered _ _ _ f)
+  factor-numbered = steps-by (pos U) (yearsTo b year) (λ k f. year-numbered _ _ _ f)
 
   pub rate-numbered : RefusedBy recordNumbers (rateOf b age year)
   unfolding rateOf

@@ -17,7 +17,7 @@ use Rattle.outcome.specs.declared.Answer.{Answer}
 use Rattle.outcome.proofs.Outcome.{next, along, came}
 use Rattle.improvement.specs.Improvement.{improvementOf}
 use Rattle.projection.specs.Bounded.{AtMost}
-use Rattle.projection.specs.Projection.{factorNext, factorFrom, factorStep, heldYear, factorOf, rateFrom, rateOf}
+use Rattle.projection.specs.Projection.{factorNext, factorFrom, factorStep, yearsTo, factorOf, rateFrom, rateOf}
 use Rattle.projection.proofs.Cases.{year-value}
 use Rattle.improvement.proofs.Cases.{usable-abs}
 
@@ -51,7 +51,7 @@ module _ (b : Basis) (age : ℕ) where
   turn k f e h g told = next (factorStep b age) (pos U) k f h ∙ sym (g ∙ year-is k f e) ∙ ap meaning told
 
   -- what the last year gives is the answer
-  pub ended : (year n : ℕ) (o : Outcome ℤ) → n ≡ heldYear year - b .base → steps (factorStep b age) (pos U) n ≡ o → o ≡ factorOf b age year
+  pub ended : (year n : ℕ) (o : Outcome ℤ) → n ≡ yearsTo b year → steps (factorStep b age) (pos U) n ≡ o → o ≡ factorOf b age year
   unfolding factorOf
   ended year n o e h = sym h ∙ ap (λ (m : ℕ). steps (factorStep b age) (pos U) m) e
 
@@ -59,7 +59,7 @@ module _ (b : Basis) (age : ℕ) where
   unfolding factorOf
   factor-small year f h =
       leb-true f 4_000_000_000
-      (along (factorStep b age) (pos U) (λ k a. leZ a (pos 4_000_000_000) ≡ true) (heldYear year - b .base) refl
+      (along (factorStep b age) (pos U) (λ k a. leZ a (pos 4_000_000_000) ≡ true) (yearsTo b year) refl
       (λ k a g l p q. year-value age (b .base + 1 + k) (improvementOf b age (b .base + 1 + k)) a g q .2) (pos f) h)
 
   pub factor-bounded : {o : Outcome ℤ} (year : ℕ) → o ≡ factorOf b age year → AtMost 4_000_000_000 o
@@ -69,7 +69,7 @@ module _ (b : Basis) (age : ℕ) where
   pub factor-natural : (year : ℕ) (f : ℤ) → factorOf b age year ≡ value f → (n : ℕ) × (f ≡ pos n)
   unfolding factorOf
   factor-natural year f h =
-      along (factorStep b age) (pos U) (λ k a. (n : ℕ) × (a ≡ pos n)) (heldYear year - b .base) (U, refl)
+      along (factorStep b age) (pos U) (λ k a. (n : ℕ) × (a ≡ pos n)) (yearsTo b year) (U, refl)
       (λ k a g l p q.
       let year = b .base + 1 + k in
       let i = improvementOf b age year in

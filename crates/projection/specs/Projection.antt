@@ -1,7 +1,6 @@
--- Factor and rate (01, "The projection"), with refusals 9 and 10 in the order of the work.
+-- Factor and rate (01, "The projection"; 02, change 9), with refusals 9 and 10 in the order of the work.
 use Prim.Native.Nat.{ℕ, _+_, _-_}
 use mathlib.Core.Bool.{cond}
-use lib.Dec.{ltb}
 use lib.IntN.{ℤ, pos, _-ℤ_, _*ℤ_}
 use lib.Signed.{leZ}
 use Rattle.arithmetic.specs.Fraction.{whole, _/ᶠ_, round, lesserℤ, U}
@@ -26,15 +25,11 @@ factorFrom age year improvement factor = andThen (improvementNeeded age year imp
 abbrev pub factorStep : Basis → ℕ → ℕ → ℤ → Outcome ℤ
 factorStep b age k factor = factorFrom age (b .base + 1 + k) (improvementOf b age (b .base + 1 + k)) factor
 
--- after 2130 the factor of 2130 is held
-unfoldable pub heldYear : ℕ → ℕ
-heldYear year = cond (ltb year 2130) year 2130
-
--- k, the years from B to the year, at most to 2130
+-- k, the years from B to the year
 abbrev pub yearsTo : Basis → ℕ → ℕ
-yearsTo b year = heldYear year - b .base
+yearsTo b year = year - b .base
 
--- U in year B, then year by year
+-- U in year B, then year by year; each year after 2130 takes the long-term rates and the addition (02, change 9), which is what an improvement is there
 unfoldable pub factorOf : Basis → ℕ → ℕ → Outcome ℤ
 factorOf b age year = steps (factorStep b age) (pos U) (yearsTo b year)
 

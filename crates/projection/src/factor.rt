@@ -7,7 +7,7 @@ ghost use Rattle.history.specs.History.{basisWith};
 ghost use Rattle.outcome.specs.Outcome.{meaning};
 ghost use Rattle.improvement.specs.Improvement.{improvementOf};
 ghost use Rattle.improvement.specs.Checked.{ImprovedCell};
-ghost use Rattle.projection.specs.Projection.{factorNext, factorFrom, heldYear, factorOf};
+ghost use Rattle.projection.specs.Projection.{factorNext, factorFrom, factorOf};
 use arithmetic::UNIT;
 use basis::Convergence;
 use outcome::Answer;
@@ -61,13 +61,6 @@ pub fn factor_in(
     )
 }
 
-// After 2130 the factor of 2130 is held.
-pub fn held_year(year: u32) -> u32
-    ensures { λ r. ⌜ r ≡ heldYear year ⌝ }
-{
-    if year < 2130 { year } else { 2130 }
-}
-
 // The factor at an age in a year from B on.
 pub fn factor_at(run: &[u8], history: &[u8], age: u32, year: u32) -> Answer
     requires { ⌜ Cell (now run) (now history) age year ⌝ }
@@ -75,7 +68,7 @@ pub fn factor_at(run: &[u8], history: &[u8], age: u32, year: u32) -> Answer
 {
     let terms = basis::fields::age_terms(run, age);
     let base = basis::fields::base_year(run);
-    let years = held_year(year) - base;
+    let years = year - base;
     let mut factor: u64 = UNIT;
     let mut k: u32 = 0;
     while k < years {

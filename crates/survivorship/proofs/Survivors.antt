@@ -60,11 +60,22 @@ pub year-late : (kind : Kind) (j year : ℕ) → year ≤ yearOn kind j year
 year-late Period j year = omega arith
 year-late Cohort j year = omega arith
 
--- the cell of the rate j years on
+-- and by no more than the years that passed
+pub year-early : (kind : Kind) (j year : ℕ) → yearOn kind j year ≤ year + j
+year-early Period j year = omega arith
+year-early Cohort j year = omega arith
+
+-- the cell of the rate j years on: its birth year is no later than that of the first
 pub cell-on : {run history : List ℕ} {age start year : ℕ} (kind : Kind) (j : ℕ) → Cell run history age start → age + j ≤ 150 → year ≡ yearOn kind j start →
     Cell run history (age + j) year
 cell-on {start = start} kind j cell high e =
-    record { usable = cell .usable; age-low = omega arith; age-high = high; year-low = omega (arith, year-late kind j start) }
+    record {
+      usable = cell .usable;
+      age-low = omega arith;
+      age-high = high;
+      year-low = omega (arith, year-late kind j start);
+      birth-high = omega (arith, e, year-early kind j start, cell .birth-high);
+    }
 
 -- ---- survivorship: at first, one year more, after a refusal, and its size
 module _ (b : Basis) (kind : Kind) (age : ℕ) where

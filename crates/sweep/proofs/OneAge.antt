@@ -9,7 +9,7 @@ use Rattle.basis.specs.Basis.{Basis}
 use Rattle.sweep.specs.Sweep.{factorOn, hasNextYear, advancedFactor}
 
 module _ (b : Basis) (age year : ℕ) (last : Outcome ℤ) where
-  -- before 2130 an age takes a step, and a factor goes on to the next year's
+  -- before the year of the birth year 2110 an age takes a step, and a factor goes on to the next year's
   pub advanced-early : hasNextYear age year ≡ true → advancedFactor b age year last ≡ andThen last (factorOn b age year)
   unfolding advancedFactor
   advanced-early l = rw l refl
@@ -26,7 +26,7 @@ module _ (b : Basis) (age year : ℕ) (last : Outcome ℤ) where
       by true = rw h refl
       by false = refl
 
-  -- from 2130 on all stands
+  -- from then on all stands
   pub advanced-late : hasNextYear age year ≡ false → advancedFactor b age year last ≡ last
   unfolding advancedFactor
   advanced-late l = rw l refl

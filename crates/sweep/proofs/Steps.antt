@@ -16,7 +16,7 @@ use Rattle.sweep.specs.Sweep.{sweepAfter}
 use Rattle.sweep.specs.Encoding.{decoded, stateIn, Encodes}
 use Rattle.sweep.specs.EachStep.{Swept, EachStep}
 use Rattle.sweep.proofs.OneAge.{advanced-refused}
-use Rattle.sweep.proofs.Direct.{start-after, step-after, sweep-direct}
+use Rattle.sweep.proofs.Direct.{swept-until, swept-after, start-after, step-after, sweep-direct}
 
 -- a refusal stands
 stands : (b : Basis) (age j d : ℕ) (r : Refusal) → sweepAfter b j age ≡ refused r → sweepAfter b (d + j) age ≡ refused r
@@ -42,7 +42,9 @@ each-step run history =
     record {
       factor = λ passed lists n s k l age low high.
           encoded-at (holds run history lists n s k l) age low high
-          ∙ sweep-direct (basisWith run history) age (limits-with (accepted-workable run history passed) .base-high) k;
+          ∙ sweep-direct (basisWith run history) age (omega (arith, limits-with (accepted-workable run history passed) .base-high)) k;
+      upTo = swept-until;
+      last = swept-after;
       first = λ lists n s j k l m age low high r h.
           let e : k - j + j ≡ k = omega arith in
           let before = sym (encoded-at (holds run history lists n s j (omega arith)) age low high) ∙ h in

@@ -1,4 +1,4 @@
--- The year sweep (02, change 5): the factors of all ages, advanced one year per step.
+-- The year sweep (02, changes 5 and 9): the factors of all ages, advanced one year per step.
 use Prim.Native.Nat.{ℕ, zero, suc, _+_}
 use mathlib.Core.Bool.{Bool, cond}
 use lib.Dec.{ltb}
@@ -21,9 +21,13 @@ sweepStart age = value (pos U)
 abbrev pub factorOn : Basis → ℕ → ℕ → ℤ → Outcome ℤ
 factorOn b age year factor = factorFrom age (year + 1) (improvementOf b age (year + 1)) factor
 
--- has an age a factor of the next year? After 2130 the factors stand, at every age
+-- has an age a factor of the next year? The last is that of the birth year 2110; from then on the age's factor is left as it stands
 abbrev pub hasNextYear : ℕ → ℕ → Bool
-hasNextYear age year = ltb year 2130
+hasNextYear age year = ltb year (2110 + age)
+
+-- the year whose factor an age has then: the lesser of the year and that of the birth year 2110
+unfoldable pub sweptYear : ℕ → ℕ → ℕ
+sweptYear age year = cond (hasNextYear age year) year (2110 + age)
 
 -- one age from a year to the next; a refusal stays
 unfoldable pub advancedFactor : Basis → ℕ → ℕ → Outcome ℤ → Outcome ℤ

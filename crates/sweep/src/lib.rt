@@ -1,7 +1,7 @@
-// The year sweep (02, change 5): the factors of all ages, advanced one year per step.
+// The year sweep (02, changes 5 and 9): the factors of all ages, advanced one year per step.
 // The state is lent: 131 numbers of 4 bytes, one for each age from 20 to 150, each a factor or a refusal.
 ghost use mathlib.Core.Path.{_≡_};
-ghost use Prim.Native.Nat.{_≤_, _<_};
+ghost use Prim.Native.Nat.{_+_, _≤_, _<_};
 ghost use lib.IntN.{pos};
 ghost use lib.Dec.{ltb};
 ghost use lib.ListN.{length};
@@ -15,7 +15,7 @@ use outcome::Refusal;
 
 // The number of a refusal that is given in a year.
 fn refused_number(number: u32, year: u32) -> u32
-    requires { ⌜ (number ≤ 10) × (year ≤ 2130) ⌝ }
+    requires { ⌜ (number ≤ 10) × (year ≤ 2260) ⌝ }
     ensures { λ r. ⌜ r ≡ refusedNumber number year ⌝ }
 {
     4_000_000_000 + (10_000 * number + year)
@@ -45,7 +45,7 @@ pub fn start() -> [u32; 131]
 
 // The number of the next year's factor at an age, or of its refusal.
 fn next_factor(run: &[u8], history: &[u8], age: u32, year: u32, n: u32) -> u32
-    requires { ⌜ Cell (now run) (now history) age year × (year < 2130) × (n ≤ 4_000_000_000) ⌝ }
+    requires { ⌜ Cell (now run) (now history) age year × (year < 2110 + age) × (n ≤ 4_000_000_000) ⌝ }
     ensures { λ r. ⌜ decoded age r ≡ factorOn (basisWith (now (run .entry)) (now (history .entry))) age year (pos n) ⌝ }
 {
     let terms = basis::fields::age_terms(run, age);
@@ -55,15 +55,15 @@ fn next_factor(run: &[u8], history: &[u8], age: u32, year: u32, n: u32) -> u32
     }
 }
 
-// One age from a year to the next: a refusal stays, and after 2130 a factor does too.
+// One age from a year to the next: a refusal stays, and from the birth year 2110 on a factor does too.
 fn advanced_factor(run: &[u8], history: &[u8], age: u32, year: u32, n: u32) -> u32
-    requires { ⌜ Cell (now run) (now history) age year ⌝ }
+    requires { ⌜ Workable (now run) (now history) × (20 ≤ age) × (age ≤ 150) × (basisWith (now run) (now history) .base ≤ year) ⌝ }
     ensures { λ r. ⌜ decoded age r ≡ advancedFactor (basisWith (now (run .entry)) (now (history .entry))) age year (decoded age n) ⌝ }
 {
     if 4_000_000_000 < n {
         return n;
     }
-    if year < 2130 {
+    if year < 2110 + age {
         next_factor(run, history, age, year, n)
     } else {
         n

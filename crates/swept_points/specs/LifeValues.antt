@@ -9,10 +9,9 @@ use Rattle.outcome.specs.Outcome.{Outcome, value, refused}
 use Rattle.swept_points.specs.declared.life_values.LifeValues.{LifeValues}
 use Rattle.swept_points.specs.declared.life_values.LifeValues.the-variants.{Values, Refused}
 
--- what they are worked out from: an age in a year from B on, as late as a deferment from 2130 ends, a deferment that ends by age 150, and the table
+-- what they are worked out from: an age in a year from B on, a deferment that ends by age 150, and the table
 pub record LifeFrom (run history numbers : List ℕ) (age deferment year : ℕ) : Type 0 where
   pub start : Cell run history age year
-  pub year-high : year ≤ 2260
   pub age-high : age + deferment ≤ 150
   pub table : FactorTable (basisWith run history) numbers
 

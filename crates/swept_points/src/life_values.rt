@@ -34,7 +34,7 @@ fn survivors_after_year(
     requires { ⌜ Cell (now run) (now history) age year × FactorTable (basisWith (now run) (now history)) (now table) × (s ≤ 1_000_000_000) ⌝ }
     ensures { λ r. ⌜ meaning r ≡ survivorsAfterYear (basisWith (now (run .entry)) (now (history .entry))) age year (pos s) ⌝ }
 {
-    let factor = factor_table::factors::factor(run, table, age, year);
+    let factor = factor_table::reading::factor(run, history, table, age, year);
     survivorship::survivors_by(projection::rate::rate_by(run, age, factor), s)
 }
 

@@ -4,21 +4,21 @@ use Prim.Native.Nat.{_*_, _-_, _≤_}
 use native.Mathlib.Omega.{arith}
 use borrow.Author.Needs.{needs}
 use Rattle.basis.specs.Basis.{basisOf}
-use Rattle.factor_table.specs.FactorTable.{tableYears, factorsLength}
+use Rattle.factor_table.specs.FactorTable.{earlyYears, earlyLength}
 use Rattle.factor_table.proofs.Clearing.{Cleared, cleared-none, cleared-next}
 use Rattle.factor_table.proofs.factors.clear_rest.Statement.{statement}
 use Rattle.factor_table.proofs.factors.clear_rest.Tie as tie
 
 abbrev Inv-loop : tie.InvT-loop
 Inv-loop run numbers₀ years at₀ numbers at =
-    (131 * tableYears (basisOf run) ≤ at) × (at ≤ factorsLength) × Cleared (131 * tableYears (basisOf run)) numbers₀ numbers at
+    (131 * earlyYears (basisOf run) ≤ at) × (at ≤ earlyLength) × Cleared (131 * earlyYears (basisOf run)) numbers₀ numbers at
 
 abbrev μ-loop : tie.MeasureT-loop
-μ-loop run numbers₀ years at₀ numbers at = factorsLength - at
+μ-loop run numbers₀ years at₀ numbers at = earlyLength - at
 
 loop-holds : tie.Need-loop-holds Inv-loop μ-loop
 loop-holds c =
-    let e : 131 * (2131 - c .base-year .result) ≡ 131 * tableYears (basisOf (c .before .before .before .args .run .now)) = omega arith in
+    let e : 131 * (2130 - c .base-year .result) ≡ 131 * earlyYears (basisOf (c .before .before .before .args .run .now)) = omega arith in
     rw e (omega arith, omega arith, cleared-none)
 
 loop-again : tie.Need-loop-again Inv-loop μ-loop
@@ -27,7 +27,7 @@ loop-again c = (omega arith, omega arith, cleared-next (c .before .loop .inv .2)
 returns : tie.Need-returns Inv-loop μ-loop
 returns c =
     let l = c .before in
-    let e : l .loop .at ≡ factorsLength = omega arith in
+    let e : l .loop .at ≡ earlyLength = omega arith in
     (rw e at (l .loop .inv .2 .zeros), l .loop .inv .2 .kept)
 
 pub clear-rest-spec : {M : Type 1} → statement M

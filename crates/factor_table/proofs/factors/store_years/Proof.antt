@@ -4,7 +4,7 @@ use Prim.Native.Nat.{_-_, _≤_}
 use native.Mathlib.Omega.{arith}
 use borrow.Author.Needs.{needs}
 use Rattle.history.specs.History.{basisWith}
-use Rattle.factor_table.specs.FactorTable.{tableYears}
+use Rattle.factor_table.specs.FactorTable.{earlyYears}
 use Rattle.factor_table.proofs.Sweeping.{Sweeping, sweeping-none, sweeping-next}
 use Rattle.factor_table.proofs.factors.store_years.Statement.{statement}
 use Rattle.factor_table.proofs.factors.store_years.Tie as tie
@@ -30,8 +30,8 @@ returns : tie.Need-returns Inv-loop μ-loop
 returns c =
     let l = c .before in
     let a = l .before .before .before .before .before .before .args in
-    let e : l .loop .k ≡ tableYears (basisWith (a .run .now) (a .history .now)) = omega arith in
-    rw e at (l .loop .inv .1 .years)
+    let e : l .loop .k ≡ earlyYears (basisWith (a .run .now) (a .history .now)) = omega arith in
+    (rw e at (l .loop .inv .1 .holds), rw e at (l .loop .inv .1 .years))
 
 pub store-years-spec : {M : Type 1} → statement M
 store-years-spec =

@@ -13,7 +13,7 @@ year-later-requires c κs =
     let told = c .before .before in
     let a = told .before .before .before .before .before .args in
     let p = step-passed (a .run .now) (a .history .now) (a .position) (found (told .before .before .check-step .ensures) (told .enum-told .given .1)) in
-    (p .0, omega (arith, p .0 .age-high), omega (arith, p .0 .age-high, p .1), p .2)
+    (p .0, omega (arith, p .0 .age-high), p .1)
 
 returns : tie.Need-returns
 returns c =

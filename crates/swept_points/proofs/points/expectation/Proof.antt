@@ -18,4 +18,4 @@ pub expectation-spec : {M : Type 1} → statement M
 expectation-spec =
     tie.close
     (tie.spec (search needs) returns (search needs) (search needs)
-    (λ c κs. record { start = search needs; year-high = search needs; age-high = search needs; table = search needs }) (search needs) returns-2)
+    (λ c κs. record { start = search needs; age-high = search needs; table = search needs }) (search needs) returns-2)
