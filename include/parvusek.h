@@ -44,7 +44,7 @@
 extern "C" {
 #endif
 
-#define PARVUSEK_VERSION 700u        /* of this header, 0.7.0: 10,000 x major + 100 x minor + patch */
+#define PARVUSEK_VERSION 800u        /* of this header, 0.8.0: 10,000 x major + 100 x minor + patch */
 #define PARVUSEK_UNIT 1000000000u    /* U, units to one */
 #define PARVUSEK_FILE_LENGTH 4608u   /* bytes of a basis file in the old form, MPB1 */
 #define PARVUSEK_RUN_LENGTH 4554u    /* bytes of a data run in the old form */

@@ -5,7 +5,7 @@ from fractions import Fraction
 
 from reference_model.exact import SCALE, rates_used
 from reference_model.history import actual_years
-from reference_model.units import LAST_AGE, UNIT
+from reference_model.units import LAST_AGE, LAST_YEAR, UNIT
 
 # Of one answered enquiry: does the premise hold, the distance's two bounds, the paper's bound.
 Distance = namedtuple("Distance", "premise lower upper bound")
@@ -41,6 +41,11 @@ def takes_actual(model, kind, age, deferment, year):
     """Whether an actual improvement is among those taken: that of B + 1 comes first, if any."""
     return len(actual_years(model.basis)) > 0 and any(
         model.years_from_base(each) > 0 for _, each in factors_used(kind, age, deferment, year))
+
+
+def takes_later(kind, age, deferment, year):
+    """Whether an improvement of a year after 2130 is among those taken."""
+    return any(each > LAST_YEAR for _, each in factors_used(kind, age, deferment, year))
 
 
 def premise_holds(model, kind, age, deferment, year):

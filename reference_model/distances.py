@@ -5,9 +5,9 @@ input and output, `crates/check_answers/stdin` and `stdout`; that the program wr
 the gate's to say. For each of the six kinds it prints how many answers were checked and how near to
 its bound the worst one came; annuities at a rate of discount below zero, whose bound is four times
 as much, are a kind of their own here. Answers that take actual improvements into a factor are
-counted a second time, under a name of their own, and so are those on bases in the new form. It ends
-with status 1 if a bound is broken or cannot be decided, or if fewer answers under a name than
-`LEAST_CHECKED` says could be checked.
+counted a second time, under a name of their own, and so are those that take improvements of years
+after 2130, and those on bases in the new form. It ends with status 1 if a bound is broken or cannot
+be decided, or if fewer answers under a name than `LEAST_CHECKED` says could be checked.
 """
 
 import struct
@@ -17,7 +17,7 @@ from functools import cache
 from pathlib import Path
 
 from reference_model.basis import decode
-from reference_model.distance import distance, takes_actual
+from reference_model.distance import distance, takes_actual, takes_later
 from reference_model.enquiries import (ANNUITY, EXPECTATION, FACTOR, IMPROVEMENT, KINDS, RATE,
                                        SURVIVORSHIP)
 from reference_model.exact import ExactModel
@@ -28,11 +28,12 @@ from reference_model.make_answer_cases import CASE
 FOLDER = Path("crates/check_answers")
 BELOW_ZERO = "annuity below 0"  # an annuity whose rate of discount is below zero
 ACTUAL = "actual years"  # an answer of any kind that takes actual improvements into a factor
+LATER = "later years"  # an answer of any kind that takes improvements of years after 2130 into a factor
 NEW_FORM = "new form"  # an answer of any kind on a basis in the new form
 
 # What is judged, and the least number of each; for an improvement no premise can fail.
 LEAST_CHECKED = {IMPROVEMENT: 700, FACTOR: 700, RATE: 700, SURVIVORSHIP: 700, EXPECTATION: 700,
-                 ANNUITY: 700, BELOW_ZERO: 300, ACTUAL: 700, NEW_FORM: 700}
+                 ANNUITY: 700, BELOW_ZERO: 300, ACTUAL: 700, LATER: 700, NEW_FORM: 700}
 
 # Of one case: its kind, the place of its basis among the data runs in the order in which they are asked
 # about, age, deferment and year, its history, and its line of output.
@@ -112,6 +113,8 @@ def judged(asked, answered):
         tally.add(found, case)
         if takes_actual(model, case.kind, *case.question):
             tallies[ACTUAL].add(found, case)
+        if takes_later(case.kind, *case.question):
+            tallies[LATER].add(found, case)
         if forms[case.place] == MPB2:
             tallies[NEW_FORM].add(found, case)
     return tallies
@@ -125,7 +128,7 @@ def main():
     status = 0
     for name, tally in tallies.items():
         # Refused enquiries are counted by their kind alone.
-        refused = "" if name in (ACTUAL, NEW_FORM) else ", refused %d" % tally.counts["refused"]
+        refused = "" if name in (ACTUAL, LATER, NEW_FORM) else ", refused %d" % tally.counts["refused"]
         print("%-15s checked %d (premise fails %d%s), worst distance / bound %.6f" % (
             name, tally.counts["checked"], tally.counts["premise fails"], refused, tally.worst))
         if tally.worst_case:

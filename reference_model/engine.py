@@ -6,7 +6,7 @@ from reference_model.basis import check_run, decode
 from reference_model.history import actual_years, check_history, decode_history
 from reference_model.refusals import Refusal
 from reference_model.units import (FACTOR_LIMIT, FIRST_AGE, FIRST_BIRTH_YEAR, IMPROVEMENT_LIMIT, LAST_AGE,
-                                   LAST_YEAR, PER_CENT, UNIT, rounded)
+                                   LAST_YEAR, PER_CENT, UNIT, last_year_at, rounded)
 
 PERIOD, COHORT = "period", "cohort"
 
@@ -39,7 +39,7 @@ class Projection:
         self._factor_rows = {}
 
     def improvement(self, age, year):
-        """From B + 1 to F the actual one as it is; otherwise the projected one.
+        """From B + 1 to F the actual one as it is; then the projected one, and the later one after 2130.
 
         An actual improvement takes no addition, and the check of the history keeps it within the
         limits of 9.
@@ -47,7 +47,19 @@ class Projection:
         years = actual_years(self.basis)
         if year in years:
             return self.actual_improvements[years.index(year)][age - FIRST_AGE]
+        if year > LAST_YEAR:
+            return self.later_improvement(age, year)
         return self.projected_improvement(age, year)
+
+    def later_improvement(self, age, year):
+        """After 2130 the long-term rates, age plus birth year, plus the addition (02, change 9).
+
+        The limits of the three add up to that of 9, which these years therefore never give.
+        """
+        basis = self.basis
+        return (basis.age_long_term_rates[age - FIRST_AGE]
+                + basis.cohort_long_term_rates[year - age - FIRST_BIRTH_YEAR]
+                + basis.constant_addition)
 
     def projected_improvement(self, age, year):
         """The components joined, and the addition after F; 9 looks at the number so rounded."""
@@ -79,9 +91,12 @@ class Projection:
         return rounded(first * other + second * denominator, denominator * other)
 
     def _factor_row(self, age):
-        """The factors of the years B, B + 1 and so on, as far as they go, and what stops them."""
+        """The factors of the years B, B + 1 and so on, as far as they go, and what stops them.
+
+        They end with the last birth year at this age: no answer needs a later one.
+        """
         row = [UNIT]
-        for year in range(self.basis.base_year + 1, LAST_YEAR + 1):
+        for year in range(self.basis.base_year + 1, last_year_at(age) + 1):
             try:
                 improvement = self.improvement(age, year)
             except Refusal as refusal:
@@ -93,11 +108,12 @@ class Projection:
         return row, None
 
     def factor(self, age, year):
-        """After 2130 the factor of 2130 is held. Only the years up to the one used are needed."""
+        """Only the years up to the one used are needed, so that 10 may name any of them."""
+        assert year <= last_year_at(age)
         if age not in self._factor_rows:
             self._factor_rows[age] = self._factor_row(age)
         row, refusal = self._factor_rows[age]
-        place = min(year, LAST_YEAR) - self.basis.base_year
+        place = year - self.basis.base_year
         if place < len(row):
             return row[place]
         raise refusal.again()

@@ -12,7 +12,7 @@ from fractions import Fraction
 from itertools import accumulate
 
 from reference_model.history import actual_years
-from reference_model.units import FIRST_AGE, FIRST_BIRTH_YEAR, LAST_AGE, LAST_YEAR, PER_CENT, UNIT
+from reference_model.units import FIRST_AGE, FIRST_BIRTH_YEAR, LAST_AGE, PER_CENT, UNIT, last_year_at
 
 SCALE = 2 ** 256
 
@@ -76,6 +76,9 @@ class ExactModel:
         return self.projected_improvement(age, year)
 
     def projected_improvement(self, age, year):
+        """After 2130 by the same rule: every convergence is over then, so that the long-term rates and
+        the addition are left of it.
+        """
         basis, years = self.basis, year - self.basis.foundation_year
         i, j = age - FIRST_AGE, year - age - FIRST_BIRTH_YEAR
         by_age = component(
@@ -89,12 +92,12 @@ class ExactModel:
         return by_age + by_birth_year + (basis.constant_addition if years > 0 else 0)
 
     def _row(self, age):
-        """At an age: the improvements of B + 1 to 2130, how many come before the first below zero,
-        and the factors of B to 2130.
+        """At an age: the improvements from B + 1 to its last year, how many come before the first below
+        zero, and the factors from B to its last year.
         """
         if age not in self._rows:
             improvements = [Fraction(self.improvement(age, year))
-                            for year in range(self.basis.base_year + 1, LAST_YEAR + 1)]
+                            for year in range(self.basis.base_year + 1, last_year_at(age) + 1)]
             factors = [ONE]
             for improvement in improvements:
                 multiplier = UNIT - improvement
@@ -106,8 +109,8 @@ class ExactModel:
         return self._rows[age]
 
     def years_from_base(self, year):
-        """k: the years from B to the year, at most to 2130."""
-        return min(year, LAST_YEAR) - self.basis.base_year
+        """k: the years from B to the year."""
+        return year - self.basis.base_year
 
     def improvements_into_factor(self, age, year):
         """Those that enter the exact factor at this age and year."""

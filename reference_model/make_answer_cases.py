@@ -22,8 +22,9 @@ from reference_model.finer_bases import (finer_bases, finer_celled_bases, fitted
 from reference_model.history import NO_HISTORY
 from reference_model.history_cases import (REFUSED, Group, along_history, beyond_the_bytes,
                                            groups_with_history, in_turn, without_history)
+from reference_model.later_bases import later_bases, rounded_one_way_later
 from reference_model.layout import form_of_run
-from reference_model.older_bases import lent
+from reference_model.older_bases import gentle_older_bases, lent, table_of_2000
 from reference_model.refusals import Refusal, outcome
 from reference_model.rounding_bases import ONE_WAY_AGE, ONE_WAY_YEARS, celled_bases, rounded_one_way
 from reference_model.units import LAST_AGE, LAST_YEAR
@@ -135,6 +136,37 @@ def along_convergence(kind, basis, draw):
         yield 60, 1 if kind[0] == SURVIVORSHIP else 0, basis.foundation_year + each
 
 
+# Ages and deferments in 2130, most of whose years are later: whole lives of the last birth year, the last
+# rates of all, and deferments that end on either side of them.
+YOUNG_IN_2130 = ((20, 0), (20, 2), (20, 45), (20, 128), (20, 129), (20, 130), (21, 128), (60, 5), (100, 49),
+                 (147, 2), (148, 1), (148, 2), (149, 1))
+
+# Each annuity goes on to 150, so of them there are fewer.
+ANNUITIES_IN_2130 = ((20, 0), (20, 129), (60, 5), (120, 29), (147, 2), (148, 2), (149, 1))
+
+# Single cells, of which those after 2130 are refused, also where the birth year is one of the table's.
+CELLS_TO_2130 = ((20, 2130), (149, 2130), (150, 2130), (20, 2131), (21, 2131), (149, 2259), (150, 2260))
+
+
+def after_the_last_year(kind, basis, draw):
+    """Members who are young in 2130 or not long before it, and deferments that lead past it."""
+    if kind[1] is None:
+        for age, year in CELLS_TO_2130:
+            yield age, 0, year
+        return
+    for age, deferment in ANNUITIES_IN_2130 if kind[0] == ANNUITY else YOUNG_IN_2130:
+        yield age, deferment, LAST_YEAR
+    yield 45, 20, max(basis.base_year, LAST_YEAR - 15)
+    age = draw(20, 100)
+    yield age, draw(0, LAST_AGE - age), draw(max(basis.base_year, 2100), LAST_YEAR)
+
+
+def members_in_2130(kind, basis, draw):
+    """A few, as the base year is long past and each of them takes many years."""
+    if kind[1] is not None:
+        yield from [(20, 45, LAST_YEAR), (60, 5, LAST_YEAR), (100, 35, 2100)]
+
+
 def refused(kind, basis, draw):
     """The data run's refusal comes before what could be said of the question."""
     yield from [(60, 0, 2020), (19, 0, 2020), (150, 1, 2020), (60, 0, 2131)]
@@ -177,6 +209,19 @@ def groups_in_the_new_form():
     damages = (*other_lengths(run), *tails(run), *list(proportions_of_two_bytes(run))[::3])
     for place, damage in enumerate(damages):
         yield Group(damage.content, NO_HISTORY, in_turn(place, REFUSED))
+
+
+def groups_of_later_years():
+    """The later bases, and some that are lent already: the samples, and gentle ones, one with the
+    longest history.
+    """
+    for basis in (*later_bases().values(), rounded_one_way_later()):
+        yield Group(encode(basis), NO_HISTORY, after_the_last_year)
+    for basis in (realistic(), fitted(), gentle_bases()["random small 100"], gentle_bases()["one unit"],
+                  discounted_bases()["random small, lowest discount"]):
+        yield Group(encode(basis), NO_HISTORY, members_in_2130)
+    for older in (table_of_2000(), gentle_older_bases()["longest history"]):
+        yield Group(*lent(older), members_in_2130)
 
 
 def line_of(answer):
@@ -231,14 +276,15 @@ def input_and_output():
     cases.add_all([Group(run, NO_HISTORY, questions) for run, questions in bases()], 20_060_101)
     cases.add_all(list(groups_with_history(edges)), 20_000_101)
     # What is lent from here on stands already, so that these stretches are beyond it.
-    new_form = list(groups_in_the_new_form())
-    for group in new_form:
+    new_form, later = list(groups_in_the_new_form()), list(groups_of_later_years())
+    for group in new_form + later:
         cases.stretch_of(group.run)
         cases.stretch_of(group.history)
     for place, stretch in enumerate(beyond_the_bytes(len(cases.lent))):
         for group, kind, question in without_history(place):
             cases.add(group, kind, question, stretch)
     cases.add_all(new_form, 20_070_101)
+    cases.add_all(later, 21_300_101)
     return cases.input_and_output()
 
 

@@ -18,6 +18,7 @@ from reference_model.basis import decode, encode, table
 from reference_model.damage import damaged_runs
 from reference_model.finer_bases import finer_bases, fitted, fitted_table_of_2000
 from reference_model.history import NO_HISTORY
+from reference_model.later_bases import later_bases
 from reference_model.layout import MPB1, form_of_run
 from reference_model.older_bases import lent, older_bases
 from reference_model.points import start_lifeline, step_lifeline
@@ -45,6 +46,12 @@ def lifelines(base_year):
     yield from [(149, last, 1), (149, last, 2), (150, base_year, 0), (150, base_year, 3)]
     yield from [(19, base_year, 1), (151, base_year, 1), (65, base_year - 1, 2), (65, last + 1, 2)]
     yield from [(20, last, 90), (95, base_year, 12)]
+
+
+def later_lifelines():
+    """Most of their years are after 2130: up to the last rate but one, past the end, and near it."""
+    last = LAST_YEAR
+    return (20, last, 1), (20, last, 129), (20, last, 131), (60, last, 89), (100, last, 49), (147, last, 3)
 
 
 def accepted_cases():
@@ -93,14 +100,21 @@ def line_of(run, history, age, year, steps):
     return "%d %d %d" % (lifeline.age, lifeline.year, lifeline.survivors)
 
 
+def cases():
+    """Each data run with its history and its lifelines."""
+    for run, history in (*accepted_cases(), *refused_cases(), *in_the_new_form(),
+                         *damaged_cases(encode(fitted()))):
+        base_year = decode(run).base_year if form_of_run(len(run)) else 0
+        yield run, history, list(lifelines(base_year or 2006))
+    for basis in later_bases().values():
+        yield encode(basis), NO_HISTORY, later_lifelines()
+
+
 def input_and_output():
     """The bytes of standard input and of the expected standard output."""
     asked, lines = b"", []
-    for run, history in (*accepted_cases(), *refused_cases(), *in_the_new_form(),
-                         *damaged_cases(encode(fitted()))):
+    for run, history, followed in cases():
         assert len(run) <= LONGEST_RUN and len(history) <= LONGEST_HISTORY
-        base_year = decode(run).base_year if form_of_run(len(run)) else 0
-        followed = list(lifelines(base_year or 2006))
         asked += struct.pack("<II", len(run), len(history)) + run + history
         asked += len(followed).to_bytes(2, "little")
         lines += [table_line(run, each.name) for each in MPB1.tables]  # the names are either form's

@@ -5,8 +5,8 @@ Run with `python3 -m reference_model.make_sweep_cases [folder]` from the folder 
 Standard input, all numbers little-endian: cases to the end. A case is the number of bytes of its data
 run (4) and of its history (4), the data run and the history. Expected, a line a state, from B to 2260
 and after one step more: the year, and the sum of age x number over the ages, a number being the factor
-of that age and year, or for its first refusal up to then 4 x U + 10,000 x the refusal's number + its
-year. A refused basis has the line of its refusal alone.
+of that age and year (of the age's last year, if that is earlier), or for its first refusal up to then
+4 x U + 10,000 x the refusal's number + its year. A refused basis has the line of its refusal alone.
 """
 
 import struct
@@ -17,9 +17,10 @@ from reference_model.damage import with_number
 from reference_model.engine import accepted
 from reference_model.finer_bases import finer_bases, fitted_table_of_2000
 from reference_model.history import NO_HISTORY
+from reference_model.later_bases import later_bases
 from reference_model.older_bases import lent, older_bases
 from reference_model.refusals import Refusal, outcome
-from reference_model.units import FACTOR_LIMIT, FIRST_AGE, LAST_AGE
+from reference_model.units import FACTOR_LIMIT, FIRST_AGE, LAST_AGE, last_year_at
 from reference_model.vectors import command, write
 
 LAST_SWEPT = 2260
@@ -34,15 +35,18 @@ FINER = ("fitted", "widest", "finer 9 in mid-course", "finer 10 in mid-course", 
 
 
 def number(projection, age, year):
-    """The factor, or what stands for the refusal; its year is that of the refusal."""
+    """The factor, or what stands for the refusal; its year is that of the refusal.
+
+    The factor stands from the year on whose next birth year would be after 2110.
+    """
     try:
-        return projection.factor(age, year)
+        return projection.factor(age, min(year, last_year_at(age)))
     except Refusal as refusal:
         return FACTOR_LIMIT + 10_000 * refusal.number + refusal.second
 
 
 def states(run, history):
-    """The lines of a case: the factor of 2130 is held, and so a step after 2260 moves nothing."""
+    """The lines of a case: age 150 moves in 2260, the last of all, and a step after it moves nothing."""
     projection = accepted(run, history)
     for year in range(projection.basis.base_year, LAST_SWEPT + 2):
         weighed = sum(age * number(projection, age, year) for age in range(FIRST_AGE, LAST_AGE + 1))
@@ -55,7 +59,9 @@ def lines(run, history):
 
 
 def cases():
-    """Bases by choice, all that have a history, and some that are refused; then in the new form."""
+    """Bases by choice, all that have a history, and some that are refused; then in the new form; then
+    those that turn on the years after 2130.
+    """
     by_name = named_bases()
     chosen = [(encode(by_name[name]), NO_HISTORY) for name in CHOSEN]
     older = [lent(each) for each in older_bases().values()]
@@ -63,7 +69,8 @@ def cases():
     return (chosen + older
             + [(with_number(encode(realistic()), 20, 1, 1), NO_HISTORY), (run, NO_HISTORY),
                (run, history[:-1] + bytes([history[-1] ^ 1])), (encode(realistic()), history)]
-            + cases_in_the_new_form(history))
+            + cases_in_the_new_form(history)
+            + [(encode(basis), NO_HISTORY) for basis in later_bases().values()])
 
 
 def cases_in_the_new_form(other_history):

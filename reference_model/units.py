@@ -15,6 +15,11 @@ IMPROVEMENT_LIMIT = 500_000_000
 FACTOR_LIMIT = 4 * UNIT
 
 
+def last_year_at(age):
+    """In which the last birth year has this age: 2130 at age 20, 2259 at 149, and 2260 at 150."""
+    return LAST_BIRTH_YEAR + age
+
+
 def rounded(numerator, denominator):
     """The greatest whole number not above the fraction plus one half: ties go up, also below zero.
 

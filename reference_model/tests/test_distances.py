@@ -5,31 +5,35 @@ import unittest
 
 from reference_model.bases import level, named_bases
 from reference_model.basis import encode
-from reference_model.distances import ACTUAL, BELOW_ZERO, NEW_FORM, judged, read_cases
+from reference_model.distances import ACTUAL, BELOW_ZERO, LATER, NEW_FORM, judged, read_cases
 from reference_model.enquiries import KINDS, ask
+from reference_model.later_bases import each_rate_its_own
 from reference_model.layout import MPB2
 from reference_model.older_bases import lent, table_of_2000, with_history
 
 # An answer of each kind, and a factor whose premise fails. Then two payments where nobody dies, at
 # a discount of 0 and of -1. Then factors of a basis older than F: in B, in an actual year and after
 # F, and one in an actual year whose premise fails. Then improvements below zero and actual. Then an
-# improvement and a factor of a basis in the new form.
+# improvement and a factor of a basis in the new form. Then survivors of 2130, the year before 2131's rate
+# is used and after it.
 QUESTIONS = ((1, 0, 60, 0, 1993), (2, 0, 60, 0, 1993), (4, 0, 100, 5, 1993), (6, 0, 140, 2, 1993),
              (8, 0, 140, 2, 1993), (0, 0, 60, 0, 1993), (1, 1, 100, 0, 2060),
              (7, 2, 149, 0, 2006), (7, 3, 149, 0, 2006),
              (1, 4, 60, 0, 2004), (1, 4, 60, 0, 2006), (1, 4, 60, 0, 2008), (1, 5, 150, 0, 2003),
-             (0, 1, 100, 0, 2060), (0, 4, 60, 0, 2005), (0, 6, 60, 0, 1993), (1, 6, 60, 0, 1993))
+             (0, 1, 100, 0, 2060), (0, 4, 60, 0, 2005), (0, 6, 60, 0, 1993), (1, 6, 60, 0, 1993),
+             (4, 7, 148, 1, 2130), (4, 7, 148, 2, 2130))
 AT_ZERO, AT_MINUS_ONE, IN_BASE_YEAR, IN_ACTUAL_YEAR, AFTER_ACTUAL_YEARS = 7, 8, 9, 10, 11
 IMPROVEMENT_OF_A_TIE, IMPROVEMENT_BELOW_ZERO, ACTUAL_IMPROVEMENT = 5, 13, 14
 IMPROVEMENT_OF_A_FINER_TIE, FACTOR_IN_THE_NEW_FORM = 15, 16
+IN_THE_LAST_YEAR, AFTER_THE_LAST_YEAR = 17, 18
 # In 1993 the components are 0.2 and 0.3 of a unit, which makes a tie.
 TIE = level(1992, 1992, 0, 0, 999_999_999, (1, 0, 2, 20), (1, 0, 2, 30))
 FINER_TIE = level(1992, 1992, 0, 0, 999_999_999, (1, 0, 2, 2_050), (1, 0, 2, 2_950), MPB2)
 OLDER = with_history(level(2006, 2004), lambda age, year: 25_000 if year == 2005 else 20_000)
 BASES = (encode(TIE), encode(named_bases()["rising rates"]),
          encode(named_bases()["nobody dies"]), encode(named_bases()["nobody dies, discount -1"]),
-         lent(OLDER)[0], lent(table_of_2000())[0], encode(FINER_TIE))
-HISTORIES = (b"", b"", b"", b"", lent(OLDER)[1], lent(table_of_2000())[1], b"")
+         lent(OLDER)[0], lent(table_of_2000())[0], encode(FINER_TIE), encode(each_rate_its_own()))
+HISTORIES = (b"", b"", b"", b"", lent(OLDER)[1], lent(table_of_2000())[1], b"", b"")
 
 
 def vectors(added=0, at=0):
@@ -55,8 +59,8 @@ class Judged(unittest.TestCase):
     def test_right_answers_keep_their_bounds(self):
         tallies = judged(*vectors())
         self.assertEqual([tally.counts["checked"] for tally in tallies.values()],
-                         [4, 5, 1, 1, 1, 2, 1, 2, 2])
-        self.assertEqual([tally.faults for tally in tallies.values()], [[]] * 9)
+                         [4, 5, 1, 3, 1, 2, 1, 2, 1, 2])
+        self.assertEqual([tally.faults for tally in tallies.values()], [[]] * 10)
         # An improvement below zero is taken into two factors, so nothing is claimed of them; of one
         # it is an actual improvement.
         self.assertEqual(tallies["factor"].counts["premise fails"], 2)
@@ -73,7 +77,7 @@ class Judged(unittest.TestCase):
         self.assertEqual(faults(-1, 0), ["broken: factor, basis 0, age 60, deferment 0, year 1993: "
                                          "value 999999998"])
         self.assertEqual([len(faults(2_000, at)) for at in range(len(QUESTIONS))],
-                         [1, 1, 1, 1, 1, 1, 0, 1, 1, 1, 2, 2, 0, 1, 1, 2, 2])
+                         [1, 1, 1, 1, 1, 1, 0, 1, 1, 1, 2, 2, 0, 1, 1, 2, 2, 1, 2])
 
     def test_an_improvement_needs_no_premise(self):
         # The tie of 1 could be 0 as well, and no more than that; an actual one is exact.
@@ -106,6 +110,16 @@ class Judged(unittest.TestCase):
         # In B no year has passed, so that no improvement is taken, and after F the actual ones are.
         self.assertEqual([judged(*vectors(7, at))[ACTUAL].faults == []
                           for at in (IN_BASE_YEAR, AFTER_ACTUAL_YEARS)], [True, False])
+
+    def test_answers_of_later_years_are_counted_a_second_time(self):
+        # After one year by the rate of 2130, five years after B, the bound is 6; after two, by that of
+        # 2131, it is 14. With K 5 it would be 12.
+        for at, kept, broken, times in ((IN_THE_LAST_YEAR, 5, 7, 1), (AFTER_THE_LAST_YEAR, 13, 15, 2)):
+            for sign in (1, -1):
+                self.assertEqual(faults(sign * kept, at), [])
+                self.assertEqual(len(faults(sign * broken, at)), times)
+        fault = "broken: cohort survivorship, basis 7, age 148, deferment 2, year 2130: value "
+        self.assertTrue(judged(*vectors(15, AFTER_THE_LAST_YEAR))[LATER].faults[0].startswith(fault))
 
     def test_answers_in_the_new_form_are_counted_a_second_time(self):
         # 0.205 and 0.295 make a tie, which a whole per cent would not; so 0 is as good as 1.

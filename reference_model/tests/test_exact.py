@@ -12,17 +12,19 @@ from reference_model.distance import (bound, distance, exact_answer, improvement
 from reference_model.enquiries import KINDS, ask
 from reference_model.exact import SCALE, ExactModel, component, rates_used
 from reference_model.history import NO_HISTORY
+from reference_model.later_bases import each_rate_its_own, rounded_one_way_later
 from reference_model.older_bases import gentle_older_bases, lent, older_bases, table_of_2000, with_history
-from reference_model.units import LAST_AGE, LAST_YEAR, UNIT
+from reference_model.units import BIRTH_YEARS, FIRST_BIRTH_YEAR, LAST_AGE, LAST_YEAR, UNIT
 
 IMPROVEMENT, FACTOR, RATE = KINDS[:3]
+PERIOD_EXPECTATION = KINDS[5]
 PERIOD_ANNUITY, COHORT_ANNUITY = KINDS[7], KINDS[8]
 
 
 def plain_rate(model, age, year):
     """The rate as a plain fraction, for a few years only: its denominator grows with each."""
     factor = Fraction(1)
-    for each in range(model.basis.base_year + 1, min(year, LAST_YEAR) + 1):
+    for each in range(model.basis.base_year + 1, year + 1):
         factor *= (UNIT - model.improvement(age, each)) / Fraction(UNIT)
     return min(Fraction(1), model.basis.base_rates[age - 20] * factor / UNIT)
 
@@ -58,11 +60,26 @@ class Enclosures(unittest.TestCase):
                 self.assertLessEqual(plain, exact.upper)
                 self.assertLess(exact.upper - exact.lower, 2 ** 40)
 
+    def test_after_the_last_year(self):
+        """The plain fractions there are of the long-term rates and the addition."""
+        basis = each_rate_its_own()
+        model = ExactModel(basis)
+        self.assertEqual(model.improvement(149, 2259), basis.age_long_term_rates[129]
+                         + basis.cohort_long_term_rates[-1] + basis.constant_addition)
+        for kind in KINDS[3:]:
+            for question in ((144, 3, 2130), (140, 9, 2130), (146, 1, 2129)):
+                exact = exact_answer(model, kind, *question)
+                plain = SCALE * plain_answer(model, kind, *question)
+                self.assertLessEqual(exact.lower, plain)
+                self.assertLessEqual(plain, exact.upper)
+                self.assertLess(exact.upper - exact.lower, 2 ** 40)
+
     def test_narrow_also_over_a_whole_life(self):
         for discount_rate in (30_000_000, -10_000_000):
             model = ExactModel(replace(named_bases()["F 1992"], discount_rate=discount_rate))
-            exact = exact_answer(model, COHORT_ANNUITY, 20, 0, 1992)
-            self.assertLess(exact.upper - exact.lower, 2 ** 40)
+            for year in (1992, 2130):
+                exact = exact_answer(model, COHORT_ANNUITY, 20, 0, year)
+                self.assertLess(exact.upper - exact.lower, 2 ** 40)
 
     def test_the_discount_below_zero(self):
         """Where nobody dies an annuity is a sum of powers of 100 / 99, whose sum is known."""
@@ -107,8 +124,12 @@ class Figures(unittest.TestCase):
         self.assertEqual(len(improvements_taken(model, RATE, 60, 0, 2008)), 0)
         # A cohort of 148 from 2129 uses 148 in 2129 and 149 in 2130.
         self.assertEqual(len(improvements_taken(model, COHORT_ANNUITY, 148, 0, 2129)), 121 + 122)
-        # The factor of 2130 is held, so nothing is taken from after it.
-        self.assertEqual(len(improvements_taken(model, COHORT_ANNUITY, 148, 0, 2130)), 122 + 122)
+        # From 2130 it uses 149 in 2131, which takes that year's improvement as well.
+        self.assertEqual(len(improvements_taken(model, COHORT_ANNUITY, 148, 0, 2130)), 122 + 123)
+        self.assertEqual(len(improvements_taken(model, PERIOD_ANNUITY, 148, 0, 2130)), 122 + 122)
+        # From 20 in 2130 to 149 in 2259, and by the rates of 2259 alone.
+        self.assertEqual(len(improvements_taken(model, COHORT_ANNUITY, 20, 0, 2130)), sum(range(122, 252)))
+        self.assertEqual(len(improvements_taken(model, PERIOD_EXPECTATION, 20, 129, 2130)), 251)
 
     def test_premise_is_about_every_improvement_taken(self):
         draw = random.Random(9).randint
@@ -122,6 +143,19 @@ class Figures(unittest.TestCase):
                 self.assertEqual(premise_holds(model, kind, *question), expected)
                 found.add(expected)
         self.assertEqual(found, {True, False})
+
+    def test_premise_covers_the_years_after_2130(self):
+        """One long-term rate of -1, of birth year 1982, which is 149 in 2131 and 148 in 2130."""
+        basis = level(2080, 2130)
+        rates = [0] * len(BIRTH_YEARS)
+        rates[1982 - FIRST_BIRTH_YEAR] = -1
+        model = ExactModel(replace(basis, cohort_long_term_rates=tuple(rates)))
+        for question, expected in (((COHORT_ANNUITY, 149, 0, 2130), True),
+                                   ((COHORT_ANNUITY, 148, 0, 2130), False),
+                                   ((PERIOD_ANNUITY, 148, 0, 2130), True),
+                                   ((PERIOD_EXPECTATION, 147, 1, 2130), False),
+                                   ((COHORT_ANNUITY, 140, 0, 2130), False)):
+            self.assertEqual(premise_holds(model, *question), expected, question)
 
     def test_premise(self):
         basis = named_bases()["rising rates"]
@@ -217,7 +251,7 @@ class ActualYears(unittest.TestCase):
 
 class Bounds(unittest.TestCase):
     def test_written_out(self):
-        """k and K at B + 10, and K of a cohort that runs past 2130."""
+        """k and K at B + 10, and K of what runs past 2130: 149 in 2139, and in 2259."""
         basis = level(age=(5_000_000, 1_000_000, 30, 40))
         model, run = ExactModel(basis), encode(basis)
         for kind, question, expected in (
@@ -230,13 +264,26 @@ class Bounds(unittest.TestCase):
                 (KINDS[6], (140, 4, 2016), Fraction(2 * 6 * 7 * 20, 4)),
                 (KINDS[7], (140, 4, 2016), Fraction(11 * (10 * 23 + 2), 4)),
                 (KINDS[8], (140, 4, 2016), Fraction(11 * (10 * 41 + 2), 4)),
-                (KINDS[8], (140, 4, 2130), Fraction(11 * (10 * 251 + 2), 4)),
+                (KINDS[7], (140, 4, 2130), Fraction(11 * (10 * 251 + 2), 4)),
+                (KINDS[8], (140, 4, 2130), Fraction(11 * (10 * 269 + 2), 4)),
+                (KINDS[4], (20, 130, 2130), Fraction(2 * 130 * 254, 2)),
+                (KINDS[5], (20, 129, 2130), Fraction(2 * 254, 2)),
                 (KINDS[8], (150, 0, 2130), Fraction(2, 4)),
                 (KINDS[6], (140, 10, 2016), Fraction(0)),
                 (KINDS[3], (60, 0, 2016), Fraction(0))):
             found = distance(model, kind, *question, ask(run, NO_HISTORY, kind, *question))
             self.assertEqual(found.bound, expected, (kind, question))
             self.assertLessEqual(found.upper, expected)
+
+    def test_a_k_that_stops_at_2130_is_too_small(self):
+        """B 2130: the rate of 2259 is 64 units out, and with k 0 an expectation at 149 had a bound of 1."""
+        basis = rounded_one_way_later()
+        for kind in KINDS[5:7]:
+            question = kind, 20, 129, 2130
+            found = distance(ExactModel(basis), *question, ask(encode(basis), NO_HISTORY, *question))
+            self.assertEqual((found.premise, found.bound), (True, 130))
+            self.assertGreater(found.lower, 64)
+            self.assertLess(found.upper, 65)
 
     def test_four_times_for_annuities_below_zero(self):
         """At -1 already, and for no other kind: with N 10 and K 10, and with N 0."""

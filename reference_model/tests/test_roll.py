@@ -57,6 +57,11 @@ class Liabilities(unittest.TestCase):
         self.assertEqual(engine.annuity(run, NO_HISTORY, engine.PERIOD, 148, 0, 2006),
                          2_710_000_000)
 
+    def test_years_after_2130_are_the_cohorts_too(self):
+        """B 2130 and the same 0.99 in 2131."""
+        run = encode(level(2080, 2130, 10_000_000))
+        self.assertEqual(self.total(run, 148, 10_000, year=2130), 27_109)
+
     def test_the_history_is_used(self):
         run, history = lent(older_bases()["one actual year"])
         annuity = engine.annuity(run, history, engine.COHORT, 60, 0, 2005)

@@ -26,7 +26,9 @@ use Rattle.short_form.proofs.Accepted.{short-form-stands}
 use Rattle.short_form.proofs.PeriodByAge.{period-by-age}
 use Rattle.lifeline.proofs.Survivorship.{is-cohort-survivorship}
 use Rattle.enquiry_text.proofs.Says.{line-says}
-use Rattle.figures.proofs.Computed.{figures-hold}
+use Rattle.figures.proofs.Computed.{figures-hold, after-last-cell-hold}
+use Rattle.later_years.proofs.LaterYears.{each-later-year}
+use Rattle.later_years.proofs.BirthYears.{none-after-2110}
 use Rattle.history.specs.History.{basisWith, runAndHistoryCheck}
 use Rattle.old_form.specs.OldForm.{writeOldCheck, oldFileOf}
 use Rattle.old_form.proofs.Forms.{forms}
@@ -165,10 +167,13 @@ module _ (run history : List ℕ) where
         ties = ties-go-up;
         oneRounding = one-rounding;
         longTerm = long-term-from-2130 (basisWith run history);
+        laterYears = each-later-year (basisWith run history);
+        birthYears = none-after-2110 (basisWith run history);
         shortForm = short-form-stands run;
         periodByAge = period-by-age;
         lifeline = is-cohort-survivorship run history;
         figures = figures-hold;
+        laterFigures = after-last-cell-hold;
       }
 
 pub demands-met : (run history : List ℕ) → Demands run history

@@ -11,6 +11,7 @@ use Rattle.layout.specs.Printed.{Printed}
 use Rattle.lent.specs.Lent.{written}
 use Rattle.outcome.specs.declared.Refusal.{Refusal}
 use Rattle.basis.specs.Basis.{Accepted, ratedFrom}
+use Rattle.basis.specs.declared.Convergence.{Convergence}
 use Rattle.outcome.specs.Outcome.{passed, refusedBy, value, refused, firstOf, andThen}
 use Rattle.run_check.specs.Run.{runCheck}
 use Rattle.basis_file.specs.File.{runIn, fileOf, readCheck, writeCheck}
@@ -49,7 +50,9 @@ use Rattle.roll.specs.Kept.{rollCheck, numbersIn, openedRoll, joinedRoll, leftR
 use Rattle.roll.specs.Totals.{RunningTotal, FurtherKept}
 use Rattle.enquiry_text.specs.Said.{LineSays}
 use Rattle.both_forms.specs.SameAnswers.{BothForms}
-use Rattle.figures.specs.Figures.{FiguresHold}
+use Rattle.figures.specs.Figures.{FiguresHold, AfterLastCellHold}
+use Rattle.later_years.specs.LaterYears.{EachLaterYear}
+use Rattle.later_years.specs.BirthYears.{NoneAfter2110}
 use Rattle.engine.specs.Enquiry.{answerOf}
 use Rattle.refusals.specs.Numbered.{workOn, NumberedRefusals, ZeroIsNone}
 use Rattle.exact.specs.Distance.{Demand3}
@@ -143,17 +146,21 @@ pub record Demand2 (run history : List ℕ) : Type 0 where
   -- ties go up, and the two components are rounded once (02, change 3)
   pub ties : TiesGoUp
   pub oneRounding : OneRounding
-  -- from 2130 on an improvement is the long-term rates, age plus birth year, plus the addition (02, change 9)
+  -- from 2130 on an improvement is the long-term rates, age plus birth year, plus the addition, and is not refused by 9; each later factor takes
+  -- them, and no answer reads a birth year after 2110 (02, change 9)
   pub longTerm : LongTermFrom2130 (basisWith run history)
+  pub laterYears : EachLaterYear (basisWith run history)
+  pub birthYears : (other : ℕ → Convergence) → NoneAfter2110 (basisWith run history) other
   -- the short form is accepted, and differs only in what it may
   pub shortForm : (rate : ℤ) → ShortFormStands run rate
   -- its period by age is 20 through age 60, then 20 less the whole part of (age − 60) / 2 through 90, and 5 above (02, change 8)
   pub periodByAge : PeriodByAge
   -- a lifeline's steps are cohort survivorship, and say what their checks, their age and their year say
   pub lifeline : (age year : ℕ) → IsCohortSurvivorship run history age year
-  -- the marked figures of the paper
+  -- the marked figures of the paper, and those of the factor after 2130
   pub figures : FiguresHold
-  -- the sweep has what the direct engine answers (02, change 5)
+  pub laterFigures : AfterLastCellHold
+  -- the sweep has what the direct engine answers (02, changes 5 and 9)
   pub sweep : EachStep run history
   -- and neither it nor the factor table leaves a number of a lent list free
   pub encodingIsFixed : EncodingIsFixed

@@ -13,7 +13,7 @@ use Rattle.outcome.specs.Outcome.{value}
 use Rattle.outcome.proofs.Outcome.{along, came}
 use Rattle.improvement.specs.Improvement.{improvementOf}
 use Rattle.projection.specs.Projection.{factorNext, factorStep, yearsTo, factorOf, rateFrom, rateOf}
-use Rattle.projection.proofs.Cases.{year-value, held-late}
+use Rattle.projection.proofs.Cases.{year-value}
 use Rattle.improvement.proofs.Cases.{usable-abs}
 use Rattle.exact.specs.Model.{exactImprovement, exactFactorAfter, exactFactor, exactRate}
 use Rattle.exact.specs.Distance.{NotBelowZero, Improving, rateDistance}
@@ -37,7 +37,7 @@ module _ (b : Basis) (age k : ℕ) (f : ℤ) (byAge : ConvergenceLimits (b .byAg
       chained-next c (rest-small i U i⁺ (omega arith)) (unit-rest (unit-near i (exactImprovement b age year) (omega arith) premise near))
       (within-difference (within-whole (pos U)) near)
 
-module _ (b : Basis) (age year : ℕ) (life : LimitedLife b age 0) (improving : Improving b age year) where
+module _ (b : Basis) (age year : ℕ) (life : LimitedLife b age 0 year) (improving : Improving b age year) where
   high : age ≤ 150
   high = omega (arith, life .age-high)
 
@@ -48,10 +48,9 @@ module _ (b : Basis) (age year : ℕ) (life : LimitedLife b age 0) (improving : 
       (λ k a g less c q.
       let t = b .base + 1 + k in
       let y = year-value age t (improvementOf b age t) a g q in
-      let late = held-late year in
       rw (y .1)
       (factored-next b age k a (life .limits .byAge age (life .age-low) high)
-      (life .limits .byBirthYear (t - age) (omega (arith, life .limits .base-low, high)) (omega (arith, life .age-low, late)))
+      (life .limits .byBirthYear (t - age) (omega (arith, life .limits .base-low, high)) (omega (arith, life .birth-high)))
       (improving t (omega arith) (omega arith)) (usable-abs (improvementOf b age t) (y .0)) c))
       f h
 

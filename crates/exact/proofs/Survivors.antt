@@ -24,14 +24,14 @@ use Rattle.exact.proofs.Factor.{rate-within, rate-unit}
 abbrev pub Survived : Basis → Kind → ℕ → ℕ → ℕ → ℕ → ℤ → Type 0
 Survived b kind age year r j s = Chained r j s (exactSurvivors b kind age j year)
 
-module _ (b : Basis) (kind : Kind) (age year r n : ℕ) (life : LimitedLife b age n)
+module _ (b : Basis) (kind : Kind) (age year r n : ℕ) (life : LimitedLife b age n year)
     (improving : ImprovingOver b kind age n year) (most : (j : ℕ) → j < n → rateDistance b (yearsTo b (yearOn kind j year)) ≤ r) where
   survived-next : (j : ℕ) (s q : ℤ) → j < n → rateOf b (age + j) (yearOn kind j year) ≡ value q → Survived b kind age year r j s
       → Survived b kind age year r (suc j) (survivorsNext s q)
   unfolding exactSurvivors
   survived-next j s q less h c =
       let m = rate-small b (age + j) (yearOn kind j year) q h in
-      let then = later life j 0 (omega (arith, life .age-high)) in
+      let then = later life kind j 0 (omega (arith, life .age-high)) in
       let near = rate-within b (age + j) (yearOn kind j year) then (improving j less) q h in
       let unit = rate-unit b (age + j) (yearOn kind j year) then (improving j less) q h in
       let left : natAbs (pos U -ℤ q) ≤ U = rw (m .1, rest (m .0) (m .2)) (omega arith) in

@@ -17,6 +17,7 @@ use Rattle.projection.specs.Projection.{yearsTo}
 use Rattle.survivorship.specs.Survivorship.{yearOn, survivorsOf}
 use Rattle.valuation.specs.Valuation.{curtateOf, expectationOf, discountAfter, payment, paymentAfter, annuityOf}
 use Rattle.survivorship.specs.declared.Kind.{Kind}
+use Rattle.survivorship.specs.declared.Kind.the-variants.{Cohort}
 use Rattle.exact.specs.Model.{exactSurvivors, exactExpectation, exactPayment, exactAnnuity}
 use Rattle.exact.specs.Distance.{ImprovingOver, rateDistance, expectationDistance, annuityDistance, WithinQuarters}
 use Rattle.exact.proofs.LimitedLife.{LimitedLife, later}
@@ -44,7 +45,7 @@ total-within term exact m n near total h =
     total h
 
 -- ---- the expectation; j years of survivorship are j(r + 1) halves
-module _ (b : Basis) (kind : Kind) (age deferment year r : ℕ) (life : LimitedLife b age deferment)
+module _ (b : Basis) (kind : Kind) (age deferment year r : ℕ) (life : LimitedLife b age deferment year)
     (improving : ImprovingOver b kind (age + deferment) (150 - age - deferment) (year + deferment))
     (most : (j : ℕ) → j < 150 - age - deferment → rateDistance b (yearsTo b (yearOn kind j (year + deferment))) ≤ r) where
   pub expectation-within : (a : ℤ) → expectationOf b kind age deferment year ≡ value a →
@@ -58,7 +59,7 @@ module _ (b : Basis) (kind : Kind) (age deferment year r : ℕ) (life : LimitedL
       let lives = total-within (λ k. survivorsOf b kind from (suc k) start) (λ k. exactSurvivors b kind from (suc k) start) (λ k. m (1 + k)) n
       (λ k t l q.
       within-more
-      (survived b kind from start r (suc k) (later life deferment (suc k) (omega (arith, life .age-high)))
+      (survived b kind from start r (suc k) (later life Cohort deferment (suc k) (omega (arith, life .age-high)))
       (λ i less. improving i (omega arith)) (λ i less. most i (omega arith)) t q .near)
       (omega arith))
       (w .0) (w .1) in
@@ -70,11 +71,11 @@ module _ (b : Basis) (kind : Kind) (age deferment year r : ℕ) (life : LimitedL
       one-more = omega arith
 
 -- ---- the annuity, w times the distances
-module _ (b : Basis) (kind : Kind) (age deferment year r : ℕ) (life : LimitedLife b age deferment)
+module _ (b : Basis) (kind : Kind) (age deferment year r : ℕ) (life : LimitedLife b age deferment year)
     (improving : ImprovingOver b kind age (150 - age) year) (most : (j : ℕ) → j < 150 - age → rateDistance b (yearsTo b (yearOn kind j year)) ≤ r)
     (w : ℕ) (once : 1 ≤ w) (worth : (j : ℕ) → j ≤ 130 → Discounted b w j) where
-  from-start : (j : ℕ) → j ≤ 150 - age → LimitedLife b age j
-  from-start j l = record { limits = life .limits; age-low = life .age-low; age-high = omega (arith, life .age-high) }
+  from-start : (j : ℕ) → j ≤ 150 - age → LimitedLife b age j year
+  from-start j l = record { limits = life .limits; age-low = life .age-low; age-high = omega (arith, life .age-high); birth-high = life .birth-high }
 
   payment-within : (j : ℕ) (t : ℤ) → j ≤ 150 - age → paymentAfter b kind age j year ≡ value t → Within t (exactPayment b kind age j year) (j * (w * (r + 2)) + w)
   unfolding paymentAfter exactPayment

@@ -18,7 +18,6 @@ use Rattle.basis.proofs.Places.{age-place, birth-year-place}
 use Rattle.component.specs.Component.{componentOf, terms}
 use Rattle.history.specs.History.{basisWith}
 use Rattle.improvement.specs.Improvement.{additionOf, componentsOf}
-use Rattle.projection.specs.Projection.{heldYear}
 use Rattle.exact.specs.Model.{exactProjected, exactImprovement}
 use Rattle.exact.specs.Distance.{NotBelowZero, Improving}
 use Rattle.exact.specs.WorseRun.{times, worseTables, worseFields, worseRun, PremiseOfTheTaken}
@@ -255,7 +254,6 @@ unfolding componentOf componentsOf additionOf exactProjected exactImprovement
 in-2010 = rw (foundation-is, base-is, addition-is, at-60, born-1950) (record { le = tt })
 
 taken : Improving W 60 2010
-unfolding heldYear
 taken t after upto = by (decLt t 2010)
   where
     by : Dec (t < 2010) → NotBelowZero (exactImprovement W 60 t)

@@ -10,7 +10,7 @@ use Rattle.arithmetic.specs.Fraction.{Fraction, Within}
 use Rattle.basis.specs.Basis.{Basis}
 use Rattle.history.specs.History.{basisWith}
 use Rattle.outcome.specs.Outcome.{value}
-use Rattle.projection.specs.Projection.{heldYear, yearsTo}
+use Rattle.projection.specs.Projection.{yearsTo}
 use Rattle.survivorship.specs.Survivorship.{yearOn}
 use Rattle.enquiry.specs.Enquiry.{improvementEnquiry, factorEnquiry, rateEnquiry, survivorshipEnquiry, expectationEnquiry, annuityEnquiry}
 use Rattle.survivorship.specs.declared.Kind.{Kind}
@@ -20,9 +20,9 @@ use Rattle.exact.specs.Model.{exactImprovement, exactFactor, exactRate, 
 abbrev pub NotBelowZero : Fraction → Type 0
 NotBelowZero q = pos 0 ≤ℤ q .num
 
--- those that enter the exact factor at an age in a year: from B + 1 to the year, at most to 2130, the actual ones among them
+-- those that enter the exact factor at an age in a year: from B + 1 to the year, the actual ones among them
 abbrev pub Improving : Basis → ℕ → ℕ → Type 0
-Improving b age year = (t : ℕ) → b .base < t → t ≤ heldYear year → NotBelowZero (exactImprovement b age t)
+Improving b age year = (t : ℕ) → b .base < t → t ≤ year → NotBelowZero (exactImprovement b age t)
 
 -- those that enter the rates of n years of survivorship
 abbrev pub ImprovingOver : Basis → Kind → ℕ → ℕ → ℕ → Type 0

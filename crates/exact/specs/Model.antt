@@ -22,7 +22,7 @@ unfoldable pub exactFactorAfter : Basis → ℕ → ℕ → Fraction
 exactFactorAfter b age zero = whole (pos U)
 exactFactorAfter b age (suc k) = exactFactorAfter b age k *ᶠ (whole (pos U) -ᶠ exactImprovement b age (b .base + 1 + k)) /ᶠ U
 
--- after 2130 it is held: k is the years from B to the year, at most to 2130
+-- k is the years from B to the year
 unfoldable pub exactFactor : Basis → ℕ → ℕ → Fraction
 exactFactor b age year = exactFactorAfter b age (yearsTo b year)
 

@@ -19,7 +19,8 @@ use Rattle.improvement.specs.Improvement.{improvementOf}
 use Rattle.projection.specs.Projection.{factorFrom, factorOf}
 use Rattle.sweep.specs.Sweep.{factorOn, sweptYear, sweepAfter}
 use Rattle.sweep.specs.Encoding.{decoded}
-use Rattle.sweep.proofs.Direct.{swept-until, sweep-direct, goes-on}
+use Rattle.projection.proofs.Years.{goes-on}
+use Rattle.sweep.proofs.Direct.{swept-until, sweep-direct}
 use Rattle.factor_table.specs.FactorTable.{earlyLength, laterYear, laterAges, laterAt, factorsLength, FactorTable}
 use Rattle.factor_table.specs.Inner.Reading.{laterOf, storedYear, isStored, placeOf, storedFactor}
 use Rattle.factor_table.proofs.LaterPlaces.{ends-in-time}

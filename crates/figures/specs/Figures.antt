@@ -1,6 +1,6 @@
 -- The figures that 01 marks to be proved ("Figures to prove"), as one table: what the definitions that the contracts cite give,
 -- and what 01 states. Those of a component hold where the other component is zero (02, change 3). A second table has what the CMI itself
--- says of the run-off at high ages.
+-- says of the run-off at high ages, and a third 01's own figures of the factor in the years after 2130 (02, change 9).
 use Prim.Native.Nat.{ℕ, _+_}
 use mathlib.Core.Path.{_≡_}
 use mathlib.Core.List.{List, [], _∷_, _++_, map}
@@ -13,6 +13,7 @@ use Rattle.component.specs.PerCent.{termsInPerCent}
 use Rattle.short_form.specs.ShortForm.{longTermOf}
 use Rattle.improvement.specs.Improvement.{improvementOf, improvementNeeded}
 use Rattle.projection.specs.Projection.{factorOf}
+use Rattle.survivorship.specs.Survivorship.{survivorsOf}
 use Rattle.valuation.specs.Valuation.{annuityOf}
 use Rattle.survivorship.specs.declared.Kind.the-variants.{Period, Cohort}
 
@@ -118,6 +119,33 @@ highAges =
     ∷ (shortForm (pos 15_000_000) 100 gives value (pos 10_000_000))
     ∷ []
 
+-- ---- after 2130: 01's figures of the factor, from B 2130 on; and survivors at 148, whose rate of 149 in 2131 is 99,000,000 and no longer 100,000,000
+abbrev from2130 : Basis → Basis
+from2130 b =
+    record {
+      foundation = 2080;
+      base = 2130;
+      addition = b .addition;
+      discount = b .discount;
+      baseRate = λ age. 100_000_000;
+      byAge = b .byAge;
+      byBirthYear = b .byBirthYear;
+      actual = b .actual;
+    }
+
+abbrev pub afterLastCell : List Figure
+afterLastCell =
+    (factorOf (from2130 improving) 60 2131 gives value (pos 990_000_000))
+    ∷ (factorOf (from2130 improving) 60 2132 gives value (pos 980_100_000))
+    ∷ (factorOf (from2130 improving) 60 2133 gives value (pos 970_299_000))
+    ∷ (factorOf (from2130 worsening) 60 2131 gives value (pos 1_500_000_000))
+    ∷ (factorOf (from2130 worsening) 60 2132 gives value (pos 2_250_000_000))
+    ∷ (factorOf (from2130 worsening) 60 2133 gives value (pos 3_375_000_000))
+    ∷ (factorOf (from2130 worsening) 60 2134 gives refused (refusal 10 60 2134))
+    ∷ (survivorsOf (from2130 improving) Cohort 148 2 2130 gives value (pos 810_900_000))
+    ∷ (survivorsOf (from2130 improving) Period 148 2 2130 gives value (pos 810_000_000))
+    ∷ []
+
 -- ---- every row gives what is stated
 abbrev pub Hold : List Figure → Type 0
 Hold table = map (λ f. f .worked) table ≡ map (λ f. f .stated) table
@@ -130,3 +158,7 @@ pub record FiguresHold : Type 0 where
 pub record HighAgesHold : Type 0 where
   pub hold : Hold highAges
   pub number : length highAges ≡ 2
+
+pub record AfterLastCellHold : Type 0 where
+  pub hold : Hold afterLastCell
+  pub number : length afterLastCell ≡ 9

@@ -55,6 +55,20 @@ module _ (b : Basis) (age : ℕ) where
   unfolding factorOf
   ended year n o e h = sym h ∙ ap (λ (m : ℕ). steps (factorStep b age) (pos U) m) e
 
+  -- the steps by the years since B
+  pub steps-of : (k : ℕ) → factorOf b age (b .base + k) ≡ steps (factorStep b age) (pos U) k
+  unfolding factorOf
+  steps-of k = let e : b .base + k - b .base ≡ k = omega arith in rw e refl
+
+  -- each year takes one more
+  pub goes-on : (k : ℕ) →
+      factorOf b age (b .base + suc k) ≡ andThen (factorOf b age (b .base + k)) (λ f. factorFrom age (b .base + k + 1) (improvementOf b age (b .base + k + 1)) f)
+  unfolding steps
+  goes-on k =
+      let e : b .base + 1 + k ≡ b .base + k + 1 = omega arith in
+      rw (steps-of k, steps-of (suc k))
+      (ap (λ (year : ℕ). andThen (steps (factorStep b age) (pos U) k) (λ f. factorFrom age year (improvementOf b age year) f)) e)
+
   factor-small : (year f : ℕ) → factorOf b age year ≡ value (pos f) → f ≤ 4_000_000_000
   unfolding factorOf
   factor-small year f h =

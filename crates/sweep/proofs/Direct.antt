@@ -3,17 +3,15 @@
 use mathlib.Core.Path.{_≡_, _∙_, ap, sym, refl}
 use mathlib.Core.List.{List}
 use mathlib.Core.Bool.{cond}
-use Prim.Native.Nat.{ℕ, zero, suc, _+_, _-_, _≤_, _<_}
+use Prim.Native.Nat.{ℕ, zero, suc, _+_, _≤_, _<_}
 use native.Mathlib.Omega.{arith}
 use native.Mathlib.Decide.{decLt}
-use lib.IntN.{pos}
 use borrow.Author.Tests.{lt-ltb, le-ltb}
-use Rattle.arithmetic.specs.Fraction.{U}
-use Rattle.outcome.specs.Outcome.{andThen, steps}
+use Rattle.outcome.specs.Outcome.{steps}
 use Rattle.basis.specs.Basis.{Basis}
-use Rattle.improvement.specs.Improvement.{improvementOf}
-use Rattle.projection.specs.Projection.{factorFrom, factorStep, factorOf}
-use Rattle.sweep.specs.Sweep.{sweepStart, factorOn, hasNextYear, sweptYear, advancedFactor, sweepStep, sweepAfter}
+use Rattle.projection.specs.Projection.{factorOf}
+use Rattle.projection.proofs.Years.{steps-of, goes-on}
+use Rattle.sweep.specs.Sweep.{sweepStart, hasNextYear, sweptYear, advancedFactor, sweepStep, sweepAfter}
 use Rattle.sweep.specs.Encoding.{stateIn, Encodes}
 use Rattle.sweep.proofs.OneAge.{advanced-early, advanced-late}
 
@@ -31,29 +29,16 @@ unfolding sweptYear
 swept-after age year h = rw (le-ltb year (2110 + age) h) refl
 
 module _ (b : Basis) (age : ℕ) where
-  -- the direct engine's steps, by the years since B
-  steps-of : (k : ℕ) → factorOf b age (b .base + k) ≡ steps (factorStep b age) (pos U) k
-  unfolding factorOf
-  steps-of k = let e : b .base + k - b .base ≡ k = omega arith in rw e refl
-
-  -- it takes a step each year
-  pub goes-on : (k : ℕ) → factorOf b age (b .base + suc k) ≡ andThen (factorOf b age (b .base + k)) (factorOn b age (b .base + k))
-  unfolding steps
-  goes-on k =
-      let e : b .base + 1 + k ≡ b .base + k + 1 = omega arith in
-      rw (steps-of k, steps-of (suc k))
-      (ap (λ (year : ℕ). andThen (steps (factorStep b age) (pos U) k) (λ f. factorFrom age year (improvementOf b age year) f)) e)
-
   pub sweep-direct : b .base ≤ 2110 + age → (k : ℕ) → sweepAfter b k age ≡ factorOf b age (sweptYear age (b .base + k))
   unfolding sweepAfter steps
-  sweep-direct early zero = rw (swept-until age (b .base + 0) (omega arith)) (sym (steps-of 0))
+  sweep-direct early zero = rw (swept-until age (b .base + 0) (omega arith)) (sym (steps-of b age 0))
   sweep-direct early (suc k) = ap (advancedFactor b age (b .base + k)) (sweep-direct early k) ∙ by (decLt (b .base + k) (2110 + age))
     where
       by : Dec (b .base + k < 2110 + age) →
           advancedFactor b age (b .base + k) (factorOf b age (sweptYear age (b .base + k))) ≡ factorOf b age (sweptYear age (b .base + suc k))
       by (yes l) =
           rw (swept-until age (b .base + k) (omega arith), swept-until age (b .base + suc k) (omega arith))
-          (advanced-early b age (b .base + k) _ (lt-ltb (b .base + k) (2110 + age) l) ∙ sym (goes-on k))
+          (advanced-early b age (b .base + k) _ (lt-ltb (b .base + k) (2110 + age) l) ∙ sym (goes-on b age k))
       by (no l) =
           rw (swept-after age (b .base + k) (omega arith), swept-after age (b .base + suc k) (omega arith))
           (advanced-late b age (b .base + k) _ (le-ltb (b .base + k) (2110 + age) (omega arith)))

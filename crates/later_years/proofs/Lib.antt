@@ -1,0 +1,3 @@
+mod Same
+pub mod LaterYears
+pub mod BirthYears

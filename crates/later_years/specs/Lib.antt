@@ -1,0 +1,2 @@
+pub mod LaterYears
+pub mod BirthYears
