@@ -59,6 +59,10 @@ static uint32_t cohort(uint32_t age)
 {
     return parvusek_cohort_annuity(run, sizeof run, history, history_length, age, 0, base_year + 4).refusal.number;
 }
+static uint32_t late_cohort(uint32_t age) /* at 20 to 39 in 2130: every rate but the first is of a later year */
+{
+    return parvusek_cohort_annuity(run, sizeof run, history, history_length, age - 40, 0, 2130).refusal.number;
+}
 static uint32_t grid(uint32_t age)
 {
     static parvusek_point_t points[PARVUSEK_GRID];
@@ -83,6 +87,7 @@ static const struct { const char *name; uint32_t (*refusal)(uint32_t age); } wor
     { "rate, 94 years on", rate_94 },
     { "period annuity, ages 60 to 79", period },
     { "cohort annuity, ages 60 to 79", cohort },
+    { "cohort annuity, 20 to 39 in 2130", late_cohort },
     { "grid, 17 ages by 7 years", grid },
 };
 

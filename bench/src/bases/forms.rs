@@ -78,7 +78,17 @@ mod tests {
     #[test]
     fn drafts_of_both_forms_are_accepted() {
         let mut random = Random::new(1);
-        for kind in [valid::modest, valid::anywhere, valid::extreme, valid::brink, valid::edge, valid::uneven] {
+        let kinds = [
+            valid::modest,
+            valid::anywhere,
+            valid::extreme,
+            valid::brink,
+            valid::edge,
+            valid::uneven,
+            valid::slow,
+            valid::at_limits,
+        ];
+        for kind in kinds {
             let mut met = [0; 2];
             for _ in 0..40 {
                 let draft = kind(&mut random);

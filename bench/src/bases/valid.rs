@@ -1,4 +1,5 @@
-//! Accepted data runs at random, in the old form: of modest size, anywhere in the limits, and at the limits.
+//! Accepted data runs at random, in the old form: of modest size, anywhere in the limits, at the limits, and such whose
+//! refusals come after 2130.
 use super::draft::{Component, Draft};
 use crate::engine::layout::*;
 use crate::random::Random;
@@ -38,9 +39,14 @@ pub fn of_any_size(random: &mut Random, limit: i64) -> i32 {
 
 /// Fields that a real basis could have, so that most enquiries are answered.
 pub fn modest(random: &mut Random) -> Draft {
+    let spread = random.pick(&[1, 1_000, 1_000_000, 30_000_000, 60_000_000]);
+    of_spread(random, spread)
+}
+
+/// The same with improvement rates and an addition no further than this from 0.
+fn of_spread(random: &mut Random, spread: i64) -> Draft {
     let (foundation, base) = years(random);
     let mut draft = Draft::plain(foundation, base);
-    let spread = random.pick(&[1, 1_000, 1_000_000, 30_000_000, 60_000_000]);
     draft.set_addition(random.between(-spread, spread) as i32);
     let greatest = random.between(-10_000_000, 200_000_000) as i32;
     draft.set_discount_rate(random.pick(&[-10_000_000, -1, 0, 1, 30_000_000, 200_000_000]).min(greatest));
@@ -131,10 +137,12 @@ pub fn edge(random: &mut Random) -> Draft {
     draft
 }
 
-/// Factors that double every three years, to exactly 4 U after six, or to a little beside it.
+/// Factors that double every three years, to exactly 4 U after six, or to a little beside it; as often as not these are
+/// years about 2130.
 pub fn fourfold(random: &mut Random) -> Draft {
     let foundation = random.between(1992, 2080) as u16;
-    let mut draft = Draft::plain(foundation, foundation);
+    let late = random.between(2124, 2130) as u16;
+    let mut draft = Draft::plain(foundation, random.pick(&[foundation, late]));
     draft.set_addition(random.pick(&[0, 0, -1, 1]));
     for index in 0..AGES {
         draft.set_base_rate(index, random.between(0, 1_000_000_000) as i32);
@@ -166,6 +174,49 @@ pub fn uneven(random: &mut Random) -> Draft {
     draft
 }
 
+/// As a real basis whose factors hardly move, but for a few ages whose mortality worsens so slowly that they come to 4 U
+/// after 2130: all of them soon after it, all of them long after it, or each in any year.
+pub fn slow(random: &mut Random) -> Draft {
+    let spread = random.pick(&[1, 1_000, 1_000_000]);
+    let mut draft = of_spread(random, spread);
+    let (first, last) = random.pick(&[(2131, 2140), (2201, 2259), (2201, 2259), (2131, 2259)]);
+    for _ in 0..=random.below(12) {
+        let year = random.between(first, last);
+        // whose birth year is then not after 2110
+        let age = random.between(year - i64::from(LAST_BIRTH_YEAR), 149);
+        worsen(&mut draft, age as u32, year as u32);
+    }
+    draft
+}
+
+/// Makes the factor of an age pass 4 U in about this year after 2130; where that is too soon, in the eighth year.
+fn worsen(draft: &mut Draft, age: u32, year: u32) {
+    let years = f64::from(year - short(&draft.run, BASE_YEAR));
+    let growth = 4f64.powf(1.0 / (years - 0.5)) - 1.0;
+    // what the addition does is made up for
+    let rate = (-1e9 * growth - f64::from(signed(&draft.run, CONSTANT_ADDITION))).max(-2e8) as i32;
+    draft.set_component(Component::Age, (age - FIRST_AGE) as usize, [rate; 2], 20, 50);
+}
+
+/// Improvements of exactly ±500,000,000 in every year after 2130, or a unit within it. The base year is mostly about
+/// 2130, so that the factors are neither 0 nor beyond 4 U before it.
+pub fn at_limits(random: &mut Random) -> Draft {
+    let (foundation, base) = years(random);
+    let late = random.between(2120, 2130) as u16;
+    let base = random.pick(&[2130, 2130, late, base]);
+    let mut draft = Draft::plain(foundation, base);
+    let sign = random.pick(&[-1, 1]);
+    draft.set_addition(100_000_000 * sign);
+    draft.set_discount_rate(random.between(-10_000_000, 200_000_000) as i32);
+    (0..AGES).for_each(|index| draft.set_base_rate(index, random.between(0, 1_000_000_000) as i32));
+    components(random, &mut draft, |random| {
+        let long_term = (200_000_000 - i32::from(random.one_in(16))) * sign;
+        let initial = if random.one_in(4) { of_any_size(random, 200_000_000) } else { long_term };
+        ([initial, long_term], random.between(1, 50) as u8, random.between(0, 150) as u8)
+    });
+    draft
+}
+
 fn components(random: &mut Random, draft: &mut Draft, mut terms: impl FnMut(&mut Random) -> ([i32; 2], u8, u8)) {
     for component in [Component::Age, Component::BirthYear] {
         for index in 0..component.entries() {
@@ -178,14 +229,15 @@ fn components(random: &mut Random, draft: &mut Draft, mut terms: impl FnMut(&mut
 #[cfg(test)]
 mod tests {
     use super::*;
-    use crate::bases::histories::MOST_YEARS;
+    use crate::bases::histories::{MOST_YEARS, history_of};
+    use crate::engine::basis::Basis;
     use crate::engine::run::Run;
     use std::ops::RangeInclusive;
 
     #[test]
     fn all_are_accepted_and_every_kind_has_discounts_below_zero() {
         let mut random = Random::new(1);
-        for kind in [modest, anywhere, extreme, brink, uneven] {
+        for kind in [modest, anywhere, extreme, brink, uneven, slow, at_limits] {
             let runs: Vec<Vec<u8>> = (0..200).map(|_| kind(&mut random).run).collect();
             let rates =
                 runs.iter().map(|run| signed(Run::accept(run).expect("within its limits").bytes, DISCOUNT_RATE));
@@ -195,6 +247,41 @@ mod tests {
         for kind in [edge, fourfold] {
             assert!(Run::accept(&kind(&mut random).run).is_ok());
         }
+    }
+
+    /// Each age's refusal in the last year that an answer can need, of many drafts: its number and its year.
+    fn last_refusals(kind: fn(&mut Random) -> Draft) -> Vec<Option<(u32, u64)>> {
+        let mut random = Random::new(1);
+        let mut refusals = Vec::new();
+        for _ in 0..100 {
+            let draft = kind(&mut random);
+            let history = history_of(draft.history_years(), |_, _| 0);
+            let basis = Basis::accept(&draft.run, &history).expect("within its limits");
+            refusals.extend((FIRST_AGE..LAST_AGE).map(|age| {
+                let refused = basis.factor(age, LAST_BIRTH_YEAR + age).err();
+                refused.map(|refusal| (refusal.number, refusal.second))
+            }));
+        }
+        refusals
+    }
+
+    #[test]
+    fn slow_ages_come_to_4_soon_after_2130_and_as_late_as_2259() {
+        let refusals = last_refusals(slow);
+        let among = |years: RangeInclusive<u64>| {
+            refusals.iter().flatten().filter(|(number, year)| *number == 10 && years.contains(year)).count()
+        };
+        assert!(among(2131..=2140) > 20 && among(2141..=2200) > 20 && among(2201..=2250) > 20);
+        assert!(among(2131..=2132) > 0 && among(2251..=2259) > 0);
+        assert!(refusals.iter().filter(|refusal| refusal.is_none()).count() > 100 * (AGES - 10));
+    }
+
+    #[test]
+    fn at_the_limits_nothing_is_beyond_them_after_2130() {
+        let refusals = last_refusals(at_limits);
+        assert!(refusals.iter().flatten().all(|&(number, year)| number == 10 || year <= 2130));
+        let of = |wanted: fn(&Option<(u32, u64)>) -> bool| refusals.iter().filter(|refusal| wanted(refusal)).count();
+        assert!(of(Option::is_none) > 2000 && of(|refusal| refusal.is_some_and(|(_, year)| year > 2130)) > 2000);
     }
 
     #[test]

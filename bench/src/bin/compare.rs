@@ -67,6 +67,10 @@ fn compare_all(settings: &Settings) -> Result<(), String> {
     };
     print!("{tally}");
     println!("compare: {} calls compared in {:.1} s, no difference", tally.calls(), start.elapsed().as_secs_f64());
+    let impossible = tally.impossible();
+    if !impossible.is_empty() {
+        return Err(format!("both engines gave what no basis can lead to: {}", impossible.join(", ")));
+    }
     let missing = tally.missing();
     if settings.comparisons >= 100_000 && settings.base.is_none() && !missing.is_empty() {
         return Err(format!("the inputs never led to: {}", missing.join(", ")));

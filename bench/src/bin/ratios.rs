@@ -54,11 +54,15 @@ const RESULTS: [(usize, &str); 4] =
     [(2, "period expectation"), (3, "cohort expectation"), (4, "period annuity"), (5, "cohort annuity")];
 
 fn result<'a>(lent: Lent<'a>, which: usize, name: &str, age: u32) -> Case<'a> {
-    let question = Question { age, deferment: 0, year: lent.base_year + 4 };
+    result_in(lent, which, &format!("{name}, age {age}"), age, lent.base_year + 4)
+}
+
+fn result_in<'a>(lent: Lent<'a>, which: usize, name: &str, age: u32, year: u32) -> Case<'a> {
+    let question = Question { age, deferment: 0, year };
     let kind = if which.is_multiple_of(2) { Kind::Period } else { Kind::Cohort };
     let ask = if which < 4 { enquiries::expectation } else { enquiries::annuity };
     case(
-        &format!("{name}, age {age}"),
+        name,
         move || {
             let (run, history) = lent.bytes();
             done(ffi::enquiry(which, run, history, black_box(question)))
@@ -140,11 +144,19 @@ fn deferred(index: usize, first_year: u32) -> Record {
     record(age, 65 - age, first_year + 5 * year)
 }
 
-fn grid(lent: Lent) -> Case {
-    let mut proved = records(lent, ages_by_years);
+/// 17 ages from 20 to 52 by 7 years from 2130 back to 2100, whatever the basis: cohorts that are past 2130 in most of
+/// their years.
+fn young(index: usize, _: u32) -> Record {
+    let (year, age) = (index as u32 / 17, index as u32 % 17);
+    record(20 + 2 * age, 0, LAST_YEAR - 5 * year)
+}
+
+/// A grid by its year sweep, by both engines.
+fn grid<'a>(lent: Lent<'a>, name: &str, asked: Asked) -> Case<'a> {
+    let mut proved = records(lent, asked);
     let mut own = proved;
     case(
-        "grid, 17 ages by 7 years",
+        name,
         move || {
             let (run, history) = lent.bytes();
             done(ffi::grid(run, history, black_box(&mut proved)))
@@ -209,7 +221,7 @@ fn shorten<'a>(run: &'a [u8]) -> Case<'a> {
     )
 }
 
-/// How far from the base year a single cell is asked; the benchmark's basis ends 124 years on, in 2130.
+/// How far from the base year a single cell is asked; such questions end 124 years after the benchmark's, in 2130.
 const YEARS_ON: [u32; 3] = [40, 94, 124];
 
 /// The first so many cases are the files' and the single cells'.
@@ -233,8 +245,10 @@ fn cases<'a>(lent: Lent<'a>, file: &'a [u8]) -> Vec<Case<'a>> {
     for age in [20, 65] {
         cases.extend(RESULTS.map(|(which, name)| result(lent, which, name, age)));
     }
+    cases.push(result_in(lent, 5, "cohort annuity, age 20 in 2130", 20, LAST_YEAR));
     cases.push(small_set(lent));
-    cases.push(grid(lent));
+    cases.push(grid(lent, "grid, 17 ages by 7 years", ages_by_years));
+    cases.push(grid(lent, "grid, ages 20 to 52 past 2130", young));
     cases
 }
 
@@ -246,7 +260,7 @@ fn cases_with_history(lent: Lent) -> Vec<Case> {
         cell(lent, "factor", 124, ffi::factor, enquiries::factor),
         result(lent, 4, "period annuity", 65),
         result(lent, 5, "cohort annuity", 65),
-        grid(lent),
+        grid(lent, "grid, 17 ages by 7 years", ages_by_years),
     ]
 }
 
@@ -345,6 +359,7 @@ fn grids(settings: &Settings) {
         two_grids(Lent::new(&most.0, &most.1), "the same, history of 88 years", ages_by_years),
         two_grids(lent, "ages 20 to 138 in one year", one_year),
         two_grids(lent, "ages 28 to 60 deferred to 65", deferred),
+        two_grids(lent, "ages 20 to 52 past 2130", young),
     ];
     title(
         settings,

@@ -74,7 +74,7 @@ impl Lent {
         ]
     }
 
-    fn cells(&self, question: Question) -> [(&'static str, usize); 5] {
+    fn cells(&self, question: Question) -> [(&'static str, usize); 4] {
         let Question { age, year, .. } = question;
         let (age, year) = (u64::from(age), u64::from(year));
         [
@@ -82,8 +82,13 @@ impl Lent {
             ("factor", self.with(parvusek_factor as *const (), &[age, year])),
             ("rate", self.with(parvusek_rate as *const (), &[age, year])),
             ("lifeline_start", self.with(parvusek_lifeline_start as *const (), &[age, year])),
-            ("lifeline_step", self.with(parvusek_lifeline_step as *const (), &[age, year, 999_999_999])),
         ]
+    }
+
+    /// From a year that may be after 2130.
+    fn lifeline_step(&self, (age, year): (u32, u32)) -> (&'static str, usize) {
+        let rest = [u64::from(age), u64::from(year), 999_999_999];
+        ("lifeline_step", self.with(parvusek_lifeline_step as *const (), &rest))
     }
 
     fn values(&self, question: Question) -> [(&'static str, usize); 6] {
@@ -141,6 +146,7 @@ fn main() {
         for _ in 0..20 {
             let question = inputs::question(&mut random, &lent.run);
             lent.cells(question).into_iter().for_each(&mut note);
+            note(lent.lifeline_step(inputs::position(&mut random, &lent.run)));
             lent.values(question).into_iter().for_each(&mut note);
             lent.roll_calls(question).into_iter().for_each(&mut note);
         }

@@ -9,7 +9,7 @@ use crate::engine::form::Form;
 use crate::engine::lifeline::{self, Position};
 use crate::engine::sets::{self, GRID, Record};
 use crate::engine::valuation::Kind;
-use crate::ffi::{self, Answer, Lifeline, Records, Refusal, SignedAnswer, SmallSet};
+use crate::ffi::{self, Answer, Lifeline, Question, Records, Refusal, SignedAnswer, SmallSet};
 use crate::guard::{Edge, Guarded};
 use crate::random::Random;
 use std::fmt::Debug;
@@ -167,6 +167,7 @@ impl Calls {
         let proved = ffi::improvement(run, history, age, year);
         let rust = SignedAnswer::from(enquiries::improvement(run, history, age, year));
         let asked = || format!("age {age} year {year}");
+        self.tally.later.note(Function::Improvement, Question { age, deferment: 0, year }, rust.refusal);
         self.same(Function::Improvement, rust.refusal, &asked, &rust, &proved)
     }
 
@@ -179,6 +180,7 @@ impl Calls {
             (Function::Rate, ffi::rate(run, history, age, year), enquiries::rate(run, history, age, year))
         };
         let rust = Answer::from(rust);
+        self.tally.later.note(function, Question { age, deferment: 0, year }, rust.refusal);
         self.same(function, rust.refusal, &|| format!("age {age} year {year}"), &rust, &proved)
     }
 
@@ -187,12 +189,13 @@ impl Calls {
         let which = random.below(6) as usize;
         let (run, history) = self.lent();
         let question = inputs::question(random, run);
-        let ffi::Question { age, deferment, year } = question;
+        let Question { age, deferment, year } = question;
         let kind = if which.is_multiple_of(2) { Kind::Period } else { Kind::Cohort };
         let ask = [enquiries::survivorship, enquiries::expectation, enquiries::annuity][which / 2];
         let proved = ffi::enquiry(which, run, history, question);
         let rust = Answer::from(ask(run, history, kind, age, deferment, year));
         let function = FUNCTIONS[Function::PeriodSurvivorship as usize + which];
+        self.tally.later.note(function, question, rust.refusal);
         self.same(function, rust.refusal, &|| format!("{question:?}"), &rust, &proved)
     }
 
@@ -203,8 +206,9 @@ impl Calls {
         let rust = SmallSet::from(sets::small_set(run, history, &questions.points.map(sets::Question::from)));
         if rust.refusal.number == 0 {
             let form = self.form(Function::SmallSet);
-            for point in &rust.points {
+            for (point, question) in rust.points.iter().zip(questions.points) {
                 self.tally.outcome(Function::SmallSet, point.refusal.number, form);
+                self.tally.later.note(Function::SmallSet, question, point.refusal);
             }
         }
         self.same(Function::SmallSet, rust.refusal, &|| format!("{questions:?}"), &rust, &proved)
@@ -247,14 +251,11 @@ impl Calls {
 
     pub fn lifeline_step(&mut self, random: &mut Random) -> Compared {
         let (run, history) = self.lent();
-        let age = inputs::age(random);
-        let year = match random.below(4) {
-            0 => 2110u32.wrapping_add(age).wrapping_add(random.below(3) as u32).wrapping_sub(1),
-            _ => inputs::year(random, run),
-        };
+        let (age, year) = inputs::position(random, run);
         let position = Position { age, year, survivors: inputs::survivors(random) };
         let proved = ffi::lifeline_step(run, history, age, year, position.survivors);
         let rust = Lifeline::of_step(position, lifeline::step(run, history, position));
+        self.tally.later.note(Function::LifelineStep, Question { age, deferment: 0, year }, rust.refusal);
         self.same(Function::LifelineStep, rust.refusal, &|| format!("{position:?}"), &rust, &proved)
     }
 }

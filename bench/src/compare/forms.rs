@@ -70,7 +70,7 @@ impl Twins<'_> {
 
     /// The place of too many survivors is the run's length, which is all that may differ.
     fn lifeline(&self, random: &mut Random) -> Counted {
-        let (age, year) = (inputs::age(random), inputs::year(random, self.old));
+        let (age, year) = inputs::position(random, self.old);
         let [old, new] = [self.old, self.new].map(|run| ffi::lifeline_start(run, self.history, age, year));
         let start = alike(Function::LifelineStart, &(age, year), &old, &new)?;
         let survivors = inputs::survivors(random);

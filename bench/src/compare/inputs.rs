@@ -15,13 +15,14 @@ pub struct Basis {
 
 /// A basis of any kind, as it is or damaged in its run, in its history or in both.
 pub fn basis(random: &mut Random) -> Basis {
-    match random.below(16) {
+    match random.below(20) {
         0..=3 => accepted(random, "modest"),
         4 | 5 => accepted(random, "anywhere"),
         6 | 7 => accepted(random, "extreme"),
         8 | 9 => accepted(random, "brink"),
         10 | 11 => accepted(random, "uneven"),
-        12 | 13 => {
+        12..=14 => accepted(random, "refused after 2130"),
+        15 | 16 => {
             let mut basis = any_accepted(random);
             damaged::damage(random, &mut basis.run);
             if random.one_in(4) {
@@ -56,13 +57,15 @@ fn accepted(random: &mut Random, kind: &'static str) -> Basis {
         "anywhere" => valid::anywhere(random),
         "extreme" => valid::extreme(random),
         "uneven" => valid::uneven(random),
+        "refused after 2130" if random.one_in(4) => valid::at_limits(random),
+        "refused after 2130" => valid::slow(random),
         _ if random.one_in(4) => valid::fourfold(random),
         _ if random.one_in(3) => valid::edge(random),
         _ => valid::brink(random),
     };
     let draft = forms::in_either_form(random, draft);
     let mut improvements = match kind {
-        "modest" | "uneven" => histories::modest,
+        "modest" | "uneven" | "refused after 2130" => histories::modest,
         "anywhere" => histories::anywhere,
         "extreme" => histories::extreme,
         _ => histories::brink,
@@ -120,9 +123,40 @@ pub fn deferment(random: &mut Random, age: u32) -> u32 {
     }
 }
 
+/// One in four is about a young life in a late year.
 pub fn question(random: &mut Random, run: &[u8]) -> Question {
+    if random.one_in(4) {
+        return late_question(random, run);
+    }
     let age = age(random);
     Question { age, deferment: deferment(random, age), year: year(random, run) }
+}
+
+/// A cohort that is past 2130 in most of its years, or a deferment to a year after it.
+fn late_question(random: &mut Random, run: &[u8]) -> Question {
+    let base = if run.len() >= 8 { short(run, BASE_YEAR) } else { FIRST_YEAR };
+    let young = random.between(20, 50) as u32;
+    let age = random.pick(&[20, 21, young, young]);
+    let year = random.between(i64::from(base.clamp(2100, LAST_YEAR)), i64::from(LAST_YEAR)) as u32;
+    let left = LAST_AGE - age;
+    let deferment = match random.below(3) {
+        0 => 0,
+        1 => random.below(u64::from(left) + 1) as u32,
+        _ => left - random.below(3) as u32,
+    };
+    Question { age, deferment, year: random.pick(&[year, year, LAST_YEAR]) }
+}
+
+/// The age and the year of a lifeline: as of an enquiry, anywhere after 2130, or about the last birth year.
+pub fn position(random: &mut Random, run: &[u8]) -> (u32, u32) {
+    let age = age(random);
+    let last = LAST_BIRTH_YEAR.wrapping_add(age);
+    let year = match random.below(4) {
+        0 => last.wrapping_add(random.below(3) as u32).wrapping_sub(1),
+        1 if (21..=LAST_AGE).contains(&age) => random.between(i64::from(LAST_YEAR) + 1, i64::from(last)) as u32,
+        _ => year(random, run),
+    };
+    (age, year)
 }
 
 pub fn questions(random: &mut Random, run: &[u8]) -> Questions {
@@ -184,7 +218,9 @@ pub fn fill(random: &mut Random, bytes: &mut [u8]) {
 mod tests {
     use super::*;
     use crate::engine::basis::Basis as Accepted;
+    use crate::engine::enquiries::check_question;
     use crate::engine::projection::Component;
+    use std::collections::BTreeSet;
 
     /// Improvements that are asked, and those of which one rounding and two make something else.
     #[derive(Default, Debug)]
@@ -219,6 +255,31 @@ mod tests {
         counts.differing += u32::from(once != apart);
         counts.only_two_refused += u32::from(once.is_some() && apart.is_none());
         counts.only_one_refused += u32::from(once.is_none() && apart.is_some());
+    }
+
+    /// The last rate, the end of a lifeline, and what is beyond either by a year.
+    #[test]
+    fn positions_come_to_the_last_birth_year_and_beyond() {
+        let (mut random, run) = (Random::new(1), Draft::plain(2006, 2006).run);
+        let met: BTreeSet<(u32, u32)> = (0..20_000).map(|_| position(&mut random, &run)).collect();
+        let wanted =
+            [(20, 2130), (20, 2131), (21, 2131), (149, 2258), (149, 2259), (149, 2260), (150, 2260), (150, 2261)];
+        assert!(wanted.iter().all(|position| met.contains(position)));
+        assert!((2131..=2259).all(|year| met.iter().any(|&(age, other)| other == year && year - age < 2110)));
+    }
+
+    /// A late question is one that 6, 8 and 7 do not refuse, to the last rate of all.
+    #[test]
+    fn late_questions_come_to_years_after_2130() {
+        let mut random = Random::new(2);
+        for base_year in [1992, 2129, 2130] {
+            let run = Draft::plain(1992, base_year).run;
+            let basis = Accepted::accept(&run, &[]).unwrap();
+            let asked: Vec<Question> = (0..2000).map(|_| late_question(&mut random, &run)).collect();
+            assert!(asked.iter().all(|asked| check_question(&basis, asked.age, asked.deferment, asked.year).is_ok()));
+            let last = Question { age: 20, deferment: 130, year: LAST_YEAR };
+            assert!(asked.contains(&last) && asked.contains(&Question { deferment: 0, ..last }));
+        }
     }
 
     #[test]

@@ -3,6 +3,7 @@ pub mod calls;
 pub mod form_report;
 pub mod forms;
 pub mod inputs;
+pub mod later_report;
 pub mod lengths;
 pub mod lent;
 pub mod outputs;

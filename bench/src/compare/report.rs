@@ -1,8 +1,10 @@
 //! What was compared, and the first difference.
 use super::form_report::Forms;
+use super::later_report::Later;
 use super::roll_report::Rolls;
 use crate::engine::form::{FORMS, Form};
 use crate::engine::sets::Record;
+use crate::ffi::{Question, Refusal};
 use std::fmt;
 
 /// The functions of the header, in its order.
@@ -92,6 +94,7 @@ pub struct Tally {
     grids: Grids,
     pub rolls: Rolls,
     pub forms: Forms,
+    pub later: Later,
 }
 
 /// Grids as a whole.
@@ -158,7 +161,10 @@ impl Tally {
         for (count, (_, is_met)) in self.grids.mixed.iter_mut().zip(MIXTURES) {
             *count += u64::from(is_met(records));
         }
-        records.iter().for_each(|record| self.outcome(Function::Grid, record.refusal, form));
+        for &Record { age, deferment, year, refusal: number, first, second, .. } in records {
+            self.outcome(Function::Grid, number, form);
+            self.later.note(Function::Grid, Question { age, deferment, year }, Refusal { number, first, second });
+        }
     }
 
     pub fn calls(&self) -> u64 {
@@ -175,6 +181,7 @@ impl Tally {
         self.grids.add(&other.grids);
         self.rolls.add(&other.rolls);
         self.forms.add(&other.forms);
+        self.later.add(&other.later);
     }
 
     /// Answers and refusals that can be given and that were never met.
@@ -199,7 +206,13 @@ impl Tally {
         missing.extend(self.grids.missing());
         missing.extend(self.rolls.missing());
         missing.extend(self.forms.missing());
+        missing.extend(self.later.missing());
         missing
+    }
+
+    /// Outcomes that no basis can lead to and that were met, by both engines alike.
+    pub fn impossible(&self) -> Vec<String> {
+        self.later.impossible().collect()
     }
 }
 
@@ -262,7 +275,7 @@ impl fmt::Display for Tally {
         let formed: Vec<Function> = FUNCTIONS.into_iter().filter(|function| function.has_form()).collect();
         let new = Form::Mpb2;
         table(f, &format!("of {new}"), &formed, &EVERY_OUTCOME, &self.by_form[new as usize])?;
-        write!(f, "{}{}{}", self.grids, self.rolls, self.forms)
+        write!(f, "{}{}{}{}", self.later, self.grids, self.rolls, self.forms)
     }
 }
 

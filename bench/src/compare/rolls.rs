@@ -8,7 +8,7 @@ use crate::engine::Refusal as EngineRefusal;
 use crate::engine::basis::Basis;
 use crate::engine::layout::LAST_YEAR;
 use crate::engine::roll::{self, COUNT, GREATEST_PENSION, Joiner, LENGTH, LIABILITIES, MEMBERS, NUMBERS, YEAR};
-use crate::ffi::{self, Answer, Refusal};
+use crate::ffi::{self, Answer, Question, Refusal};
 use crate::random::Random;
 
 #[derive(Clone, Copy, Debug)]
@@ -161,6 +161,9 @@ impl Calls {
         };
         self.count_roll_call(call, rust);
         let rust = Answer::from(rust);
+        if let (Call::Join(Joiner { age, .. }), Some(&year)) = (call, before.first()) {
+            self.tally.later.note(Function::RollJoin, Question { age, deferment: 0, year: year as u32 }, rust.refusal);
+        }
         Calls::compared(function(call), &asked, &(rust, true, true), &(proved, kept, found.is_none()))?;
         self.note(walk, call, rust.refusal.number, &before);
         Ok(())

@@ -66,7 +66,7 @@ fn ask(calls: &mut Calls, random: &mut Random) -> Result<(), Difference> {
         calls.damaged_copies(random)?;
         calls.both_forms(random)?;
     }
-    if refused || random.one_in(8) {
+    if refused || random.one_in(4) {
         calls.small_set(random)?;
     }
     if refused || random.one_in(4) {

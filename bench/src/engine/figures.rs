@@ -162,11 +162,3 @@ fn the_factor_belongs_to_the_attained_age() {
     );
     assert_eq!(factor(&draft.run, NONE, 61, 2010), Ok(UNIT));
 }
-
-#[test]
-fn the_factor_is_held_after_2130() {
-    let draft = level(10_000_000);
-    let basis = Basis::accept(&draft.run, NONE).unwrap();
-    assert_eq!(basis.factor(60, 2131), basis.factor(60, 2130));
-    assert_eq!(factor(&draft.run, NONE, 60, 2131), Err(Refusal::year(2131)));
-}

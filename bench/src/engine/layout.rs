@@ -8,7 +8,9 @@ pub const AGES: usize = 131;
 
 pub const FIRST_YEAR: u32 = 1992;
 pub const LAST_FOUNDATION_YEAR: u32 = 2080;
+/// The last year that may be asked about. Cohorts go on, to age 149 in the last year of a rate.
 pub const LAST_YEAR: u32 = 2130;
+pub const LAST_RATE_YEAR: u32 = 2259;
 
 pub const FIRST_BIRTH_YEAR: u32 = 1842;
 pub const LAST_BIRTH_YEAR: u32 = 2110;
@@ -61,6 +63,12 @@ mod tests {
     fn every_age_and_birth_year_has_an_entry() {
         assert_eq!((LAST_AGE - FIRST_AGE + 1) as usize, AGES);
         assert_eq!((LAST_BIRTH_YEAR - FIRST_BIRTH_YEAR + 1) as usize, BIRTH_YEARS);
+    }
+
+    /// One who is 20 in 2130 is 149 in 2259, and born in the last birth year. The rate at 150 is not used.
+    #[test]
+    fn the_last_rate_is_that_of_the_last_birth_year() {
+        assert_eq!((LAST_YEAR - FIRST_AGE, LAST_RATE_YEAR - (LAST_AGE - 1)), (LAST_BIRTH_YEAR, LAST_BIRTH_YEAR));
     }
 
     #[test]

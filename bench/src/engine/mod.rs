@@ -27,6 +27,8 @@ mod forms;
 #[cfg(test)]
 mod histories;
 #[cfg(test)]
+mod later_years;
+#[cfg(test)]
 mod orders;
 #[cfg(test)]
 mod rolls;

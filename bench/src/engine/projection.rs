@@ -113,16 +113,29 @@ impl Basis<'_> {
         if IMPROVEMENTS.contains(&improvement) { Ok(improvement) } else { Err(Refusal::improvement(age, year)) }
     }
 
-    /// The factor at an age of 20 to 150 in a year from the base year on, or the first 9 or 10 on the way to it.
+    /// The improvement in a year after 2130, when every convergence is over: the long-term rates and the addition. The
+    /// limits of the three sum to those of 9.
+    #[inline]
+    pub(super) fn later_improvement(&self, age_component: &Component, age: u32, year: u32) -> i64 {
+        let by_birth_year = self.birth_year_component(year - age).long_term_rate;
+        age_component.long_term_rate + by_birth_year + self.constant_addition
+    }
+
+    /// The factor at an age of 20 to 150 in a year from the base year on, or the first 9 or 10 on the way to it. A year
+    /// after 2130 is one whose birth year is not after 2110.
     pub fn factor(&self, age: u32, year: u32) -> Result<u64, Refusal> {
-        let end = year.min(LAST_YEAR) + 1;
+        let end = year + 1;
         let mut factor = UNIT;
         for year in self.base_year + 1..end.min(self.foundation_year + 1) {
             factor = improved(factor, self.actual_improvement(age, year)).ok_or(Refusal::factor(age, year))?;
         }
         let age_component = self.age_component(age);
-        for year in self.base_year.max(self.foundation_year) + 1..end {
+        for year in self.base_year.max(self.foundation_year) + 1..end.min(LAST_YEAR + 1) {
             let improvement = self.projected_improvement(&age_component, age, year)?;
+            factor = improved(factor, improvement).ok_or(Refusal::factor(age, year))?;
+        }
+        for year in LAST_YEAR + 1..end {
+            let improvement = self.later_improvement(&age_component, age, year);
             factor = improved(factor, improvement).ok_or(Refusal::factor(age, year))?;
         }
         Ok(factor)

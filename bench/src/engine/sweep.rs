@@ -7,6 +7,7 @@ use super::refusal::Refusal;
 use super::sets::{Question, Results};
 use super::units::{UNIT, product};
 use super::valuation::Kind;
+use std::ops::Range;
 
 /// The factors of all ages in the year that the sweep has come to.
 pub struct Sweep<'lent> {
@@ -48,7 +49,8 @@ impl<'lent> Sweep<'lent> {
         self.refusals[index].map_or(Ok(self.factors[index]), Err)
     }
 
-    /// Moves on by a year. An age that is refused stays so while the others go on, and after 2130 all are held.
+    /// Moves on by a year. An age that is refused stays so while the others go on, and one whose birth year would be
+    /// after 2110 stands where it is.
     pub fn step(&mut self) {
         self.year += 1;
         let (basis, year) = (self.basis, self.year);
@@ -60,13 +62,20 @@ impl<'lent> Sweep<'lent> {
             self.improve(|by_age, age| {
                 by_age.rounded_sum(&basis.birth_year_component(year - age), years) + basis.constant_addition
             });
+        } else {
+            self.improve(|by_age, age| basis.later_improvement(by_age, age, year));
         }
     }
 
-    /// Takes this improvement into the factor of each age that is not refused, if 9 and 10 allow it.
+    /// The ages, counted from the first, whose birth year in the sweep's year is not after 2110.
+    fn moving(&self) -> Range<usize> {
+        lacking(self.year)..AGES
+    }
+
+    /// Takes this improvement into the factor of each age that moves and is not refused, if 9 and 10 allow it.
     #[inline]
     fn improve(&mut self, improvement: impl Fn(&Component, u32) -> i64) {
-        for index in 0..AGES {
+        for index in self.moving() {
             if self.refusals[index].is_some() {
                 continue;
             }
@@ -82,9 +91,9 @@ impl<'lent> Sweep<'lent> {
         }
     }
 
-    /// Of U lives at each age, those that live through the sweep's year.
-    fn living(&self) -> [u32; AGES] {
-        std::array::from_fn(|index| match self.refusals[index] {
+    /// Of U lives at each age that moves, those that live through the sweep's year.
+    fn living(&self) -> impl Iterator<Item = u32> {
+        self.moving().map(|index| match self.refusals[index] {
             None => (UNIT - reduced(self.base_rates[index], self.factors[index])) as u32,
             Some(_) => REFUSED,
         })
@@ -94,11 +103,12 @@ impl<'lent> Sweep<'lent> {
 /// In the place of a number of lives, of which there are never more than U.
 const REFUSED: u32 = u32::MAX;
 
-/// What a sweep from the base year to 2130 leaves behind.
+/// What a sweep from the base year to 2259 leaves behind.
 pub struct Swept {
     base_year: u32,
-    /// For each year from the base year and each age: of U lives, those that live through it, or `REFUSED`.
-    living: Vec<[u32; AGES]>,
+    /// For each year from the base year and each age that moves in it: of U lives, those that live through it, or
+    /// `REFUSED`. It is never more than 107 KB.
+    living: Vec<u32>,
     /// Each age's first refusal, which it has in every year from then on.
     refusals: [Option<Refusal>; AGES],
     /// The discounts after 0 to 130 years.
@@ -108,11 +118,11 @@ pub struct Swept {
 impl Swept {
     pub fn new(basis: Basis) -> Self {
         let mut sweep = Sweep::start(basis);
-        let mut living = Vec::with_capacity((LAST_YEAR - basis.base_year + 1) as usize);
-        living.push(sweep.living());
-        while sweep.year < LAST_YEAR {
+        let mut living = Vec::with_capacity(place(basis.base_year, LAST_AGE, LAST_RATE_YEAR) + 1);
+        living.extend(sweep.living());
+        while sweep.year < LAST_RATE_YEAR {
             sweep.step();
-            living.push(sweep.living());
+            living.extend(sweep.living());
         }
         Swept { base_year: basis.base_year, living, refusals: sweep.refusals, discounts: discounts(&basis) }
     }
@@ -166,22 +176,40 @@ impl Swept {
     #[inline]
     fn walk(&self, kind: Kind, age: u32, year: u32, mut show: impl FnMut(u64, u64)) -> Result<(), Refusal> {
         let mut survivors = UNIT;
-        for ((elapsed, age), &discount) in (0..).zip(age..LAST_AGE).zip(&self.discounts[1..]) {
-            survivors = product(survivors, self.living_through(age, kind.year_of_rate(year, elapsed))?);
+        let mut place = place(self.base_year, age, year);
+        for ((age, next_year), &discount) in (age..LAST_AGE).zip(year + 1..).zip(&self.discounts[1..]) {
+            survivors = product(survivors, self.living_at(place, age)?);
             show(survivors, discount);
+            // to the next age, in the same year or in the next
+            place += match kind {
+                Kind::Period => 1,
+                Kind::Cohort => AGES + 1 - lacking(next_year),
+            };
         }
         Ok(())
     }
 
     #[inline]
-    fn living_through(&self, age: u32, year: u32) -> Result<u64, Refusal> {
-        let index = (age - FIRST_AGE) as usize;
-        let living = self.living[(year.min(LAST_YEAR) - self.base_year) as usize][index];
+    fn living_at(&self, place: usize, age: u32) -> Result<u64, Refusal> {
+        let living = self.living[place];
         if living == REFUSED {
-            return Err(self.refusals[index].expect("where this stands the age was refused"));
+            return Err(self.refusals[(age - FIRST_AGE) as usize].expect("where this stands the age was refused"));
         }
         Ok(u64::from(living))
     }
+}
+
+/// How many ages a year lacks, since their birth year would be after 2110: until 2130 none, 2131 one, 2132 two ...
+#[inline]
+fn lacking(year: u32) -> usize {
+    year.saturating_sub(LAST_YEAR) as usize
+}
+
+/// Where an age stands in the years from the base year on.
+fn place(base_year: u32, age: u32, year: u32) -> usize {
+    // those that this year and the later ones before it lack
+    let lacking = lacking(year) * (lacking(year) + 1) / 2;
+    AGES * (year - base_year) as usize + (age - FIRST_AGE) as usize - lacking
 }
 
 fn discounts(basis: &Basis) -> [u64; AGES] {

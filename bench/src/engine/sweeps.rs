@@ -4,7 +4,7 @@ use super::layout::*;
 use super::refusal::Refusal;
 use super::sets::{GRID, Record, direct_grid, grid};
 use super::sweep::Sweep;
-use crate::bases::draft::Component::Age;
+use crate::bases::draft::Component::{Age, BirthYear};
 use crate::bases::histories::history_of;
 use crate::bases::{Draft, histories, valid};
 use crate::compare::inputs;
@@ -15,14 +15,16 @@ const LAST_SWEPT: u32 = 2260;
 
 // ---- factors
 
-/// Compares every age in every year through 2260, and hands back how many ages were refused in the end.
+/// Compares every age in every year through 2260, and hands back how many ages were refused in the end. An age stands
+/// from the year on in which its birth year is 2110.
 fn refused_ages(run: &[u8], history: &[u8]) -> usize {
     let basis = Basis::accept(run, history).unwrap();
     let mut sweep = Sweep::start(basis);
     let ages = FIRST_AGE..=LAST_AGE;
     loop {
         for age in ages.clone() {
-            assert_eq!(sweep.factor(age), basis.factor(age, sweep.year()), "age {age} in {}", sweep.year());
+            let direct = basis.factor(age, sweep.year().min(2110 + age));
+            assert_eq!(sweep.factor(age), direct, "age {age} in {}", sweep.year());
         }
         if sweep.year() == LAST_SWEPT {
             return ages.filter(|&age| sweep.factor(age).is_err()).count();
@@ -42,7 +44,7 @@ fn a_sweep_has_the_direct_factors() {
 #[test]
 fn a_sweep_goes_on_where_an_age_is_refused() {
     let mut random = Random::new(1);
-    for kind in [valid::brink, valid::fourfold, valid::extreme, valid::anywhere] {
+    for kind in [valid::brink, valid::fourfold, valid::extreme, valid::anywhere, valid::slow, valid::at_limits] {
         for _ in 0..5 {
             let draft = kind(&mut random);
             refused_ages(&draft.run, &histories::brink(&mut random, draft.history_years()));
@@ -55,6 +57,46 @@ fn a_sweep_goes_on_where_an_age_is_refused() {
         some_refused += u32::from((1..AGES).contains(&refused));
     }
     assert!(some_refused > 10, "{some_refused} of 20");
+}
+
+/// B 2130, and one per cent a year: 20 does not move at all, 21 for a year, 22 for two, and 149 and 150 to the end.
+#[test]
+fn an_age_stands_where_its_birth_year_would_be_after_2110() {
+    let mut draft = Draft::plain(2006, 2130);
+    draft.set_addition(10_000_000);
+    let mut sweep = Sweep::start(Basis::accept(&draft.run, &[]).unwrap());
+    let factors = |sweep: &Sweep, ages: [u32; 4]| ages.map(|age| sweep.factor(age).unwrap());
+    let [none, one, two, three] = [1_000_000_000, 990_000_000, 980_100_000, 970_299_000];
+    for wanted in [[none; 4], [none, one, one, one], [none, one, two, two], [none, one, two, three]] {
+        assert_eq!(factors(&sweep, [20, 21, 22, 23]), wanted);
+        sweep.step();
+    }
+    while sweep.year() < LAST_SWEPT + 2 {
+        let [before, last_before, ..] = factors(&sweep, [149, 150, 20, 20]);
+        sweep.step();
+        let [after, last_after, ..] = factors(&sweep, [149, 150, 20, 20]);
+        let year = sweep.year();
+        assert_eq!((after < before, last_after < last_before), (year <= 2259, year <= 2260), "in {year}");
+        assert_eq!(factors(&sweep, [20, 21, 22, 23]), [none, one, two, three]);
+    }
+}
+
+/// 1.5 a year from 2130 on is beyond 4 in 2134: 23 stands before it, and from 24 on an age is refused and stays so.
+#[test]
+fn a_refusal_after_2130_stays() {
+    let mut draft = Draft::plain(2006, 2130);
+    draft.set_addition(-100_000_000);
+    (0..AGES).for_each(|index| draft.set_component(Age, index, [0, -200_000_000], 20, 50));
+    (0..BIRTH_YEARS).for_each(|index| draft.set_component(BirthYear, index, [0, -200_000_000], 20, 50));
+    let mut sweep = Sweep::start(Basis::accept(&draft.run, &[]).unwrap());
+    (2130..2133).for_each(|_| sweep.step());
+    assert!((23..=150).all(|age| sweep.factor(age) == Ok(3_375_000_000)));
+    while sweep.year() < LAST_SWEPT {
+        sweep.step();
+        assert!((24..=150).all(|age| sweep.factor(age) == Err(Refusal::factor(age, 2134))));
+        let stood = [20, 21, 22, 23].map(|age| sweep.factor(age));
+        assert_eq!(stood, [1_000_000_000, 1_500_000_000, 2_250_000_000, 3_375_000_000].map(Ok));
+    }
 }
 
 // ---- by hand
@@ -174,7 +216,9 @@ fn compare(random: &mut Random, run: &[u8], history: &[u8]) -> Vec<Record> {
 fn grids_of_every_kind_of_basis() {
     let mut random = Random::new(2);
     let mut met = [0; 12];
-    for kind in [valid::modest, valid::anywhere, valid::extreme, valid::brink, valid::uneven] {
+    let kinds =
+        [valid::modest, valid::anywhere, valid::extreme, valid::brink, valid::uneven, valid::slow, valid::at_limits];
+    for kind in kinds {
         for _ in 0..12 {
             let draft = kind(&mut random);
             let history = histories::modest(&mut random, draft.history_years());
@@ -182,6 +226,33 @@ fn grids_of_every_kind_of_basis() {
         }
     }
     assert!([0, 6, 7, 8, 9, 10].iter().all(|&outcome| met[outcome] > 0), "{met:?}");
+}
+
+/// The records of every age in a year, deferred by sevens and to each of the last ages.
+fn of_every_age(year: u32) -> Vec<Record> {
+    let deferments = |age: u32| (0..=150 - age).filter(move |deferment| deferment % 7 == 0 || age + deferment > 147);
+    (20..=150).flat_map(|age| deferments(age).map(move |deferment| asked(age, deferment, year))).collect()
+}
+
+/// In the last years that may be asked about, on bases of which some ages are refused later.
+#[test]
+fn grids_about_2130() {
+    let mut random = Random::new(4);
+    let mut refused_later = 0;
+    for kind in [valid::modest, valid::slow, valid::at_limits] {
+        let mut draft = kind(&mut random);
+        for (base_year, year) in [(2100, 2129), (2100, 2130), (2130, 2130)] {
+            draft.set_years(2006, base_year);
+            for records in of_every_age(year).chunks_exact_mut(GRID) {
+                let mut direct = records.to_vec();
+                assert_eq!(grid(&draft.run, &[], records), Ok(()));
+                assert_eq!(direct_grid(&draft.run, &[], &mut direct), Ok(()));
+                assert_eq!(records, direct);
+                refused_later += records.iter().filter(|record| record.second > 2130).count();
+            }
+        }
+    }
+    assert!(refused_later > 100, "{refused_later}");
 }
 
 /// Where every record has another age of its way refused in an earlier year, the order of the work decides.

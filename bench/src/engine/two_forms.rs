@@ -46,8 +46,17 @@ impl Twins {
 /// Runs of every kind, with histories of the years that they need.
 fn of_every_kind(seed: u64, each: usize, mut ask: impl FnMut(&mut Random, &Twins)) {
     let mut random = Random::new(seed);
-    let kinds =
-        [valid::modest, valid::anywhere, valid::extreme, valid::brink, valid::edge, valid::fourfold, valid::uneven];
+    let kinds = [
+        valid::modest,
+        valid::anywhere,
+        valid::extreme,
+        valid::brink,
+        valid::edge,
+        valid::fourfold,
+        valid::uneven,
+        valid::slow,
+        valid::at_limits,
+    ];
     for kind in kinds {
         for _ in 0..each {
             let draft = kind(&mut random);
@@ -109,7 +118,7 @@ fn lifelines_answer_alike_but_for_the_place_of_survivors() {
     let mut refused_survivors = 0;
     of_every_kind(3, 12, |random, twins| {
         for _ in 0..40 {
-            let (age, year) = (inputs::age(random), inputs::year(random, &twins.old));
+            let (age, year) = inputs::position(random, &twins.old);
             twins.alike(|run, history| lifeline::start(run, history, age, year));
             let position = Position { age, year, survivors: inputs::survivors(random) };
             let [old, new]: [Result<Step, Refusal>; 2] =

@@ -132,6 +132,17 @@ mod tests {
         assert_ne!(answered_on(&draft, [line]), old);
     }
 
+    /// One per cent of improvement a year from 2130 on: the rates are 99,000,000 at 148 in 2131 and 98,010,000 at 149 in
+    /// 2132, and the period annuity stays in 2130.
+    #[test]
+    fn a_line_that_comes_to_years_after_2130() {
+        let mut draft = tenth();
+        draft.set_years(2006, 2130);
+        draft.set_addition(10_000_000);
+        let wanted = "147 1 2130 2.212801000 2.213692990 2.439000000 2.442323691\nrefused 7 2131 0\n";
+        assert_eq!(answered_on(&draft, [b"147 1 2130\n147 1 2131".as_slice()]), wanted);
+    }
+
     #[test]
     fn every_line_is_counted_and_nothing_is_no_line() {
         assert_eq!(answered([b"".as_slice()]), "");
