@@ -110,7 +110,8 @@ parvusek_refusal_t parvusek_short_form(const uint8_t *run, size_t run_len, int32
 
 /* ---- single cells. Refused: by the basis, 6 (age outside 20 to 150), 7 (year after 2130, or before the first that may
    be asked: B, and for an improvement the earlier of F and B + 1), 9 (an improvement needed is beyond 500,000,000
-   either way), and for a factor and a rate 10 (a factor needed is above 4 U). */
+   either way), and for a factor and a rate 10 (a factor needed is above 4 U). Cells end in 2130; the values below go
+   on. */
 
 /* The rate of improvement; below zero where mortality worsens. A projected one is the exact sum of its two components
    rounded once, ties up, so within half a unit of the exact one, plus the constant addition after F. From B + 1 to F it
@@ -125,7 +126,10 @@ parvusek_answer_t parvusek_rate(const uint8_t *run, size_t run_len, const uint8_
                                 uint32_t age, uint32_t year);
 
 /* ---- values of a life, each period and cohort. Refused: by the basis, 6, 8 (age + deferment above 150), 7 (year after
-   2130 or before B; year + deferment may be after 2130), then 9 and 10 in the order of the work. */
+   2130 or before B; year + deferment may be after 2130), then 9 and 10 in the order of the work.
+   The cohort kind goes on with the life after 2130, to age 149 in 2259 at the latest, and a period expectation may be in
+   such a year. The improvement of each year after 2130 is the long-term rate by age plus that by birth year plus the
+   constant addition: it is never beyond the limits of 9, but 10 may name a year up to 2259. */
 
 /* Of U lives at this age in this year, those left after so many years; survivorship names its number of years as the
    deferment. */
@@ -144,7 +148,7 @@ parvusek_answer_t parvusek_period_annuity(const uint8_t *run, size_t run_len, co
 parvusek_answer_t parvusek_cohort_annuity(const uint8_t *run, size_t run_len, const uint8_t *history,
                                           size_t history_len, uint32_t age, uint32_t deferment, uint32_t year);
 
-/* ---- sets of model points */
+/* ---- sets of model points. The results of a point are those of its four enquiries, after 2130 too */
 
 /* Six points by value. The set is refused by the basis alone, its points then being 0 throughout; a point is refused by
    itself (6, 8, 7, then 9 and 10 in the order of its four results). */
@@ -163,7 +167,8 @@ parvusek_lifeline_t parvusek_lifeline_start(const uint8_t *run, size_t run_len, 
                                             size_t history_len, uint32_t age, uint32_t year);
 /* One year of cohort survivorship, or ended at age 150. Refused: by the basis, 6, 7 (year before B, or year - age after
    2110; a year after 2130 may stand), 5 at the run's length, 4554 or 5060, for survivors above U, then 9 and 10. A step
-   that ends or is refused hands back the age, year and survivors that it was given. */
+   that ends or is refused hands back the age, year and survivors that it was given. One after 2130 takes the rate that
+   the cohort kind takes there; the latest of all is from age 149 in 2259. */
 parvusek_lifeline_t parvusek_lifeline_step(const uint8_t *run, size_t run_len, const uint8_t *history,
                                            size_t history_len, uint32_t age, uint32_t year, uint64_t survivors);
 

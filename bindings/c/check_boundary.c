@@ -90,6 +90,16 @@ void sample_beyond(uint8_t *run) {
     memset(run + 1733, 150, 131);
 }
 
+void sample_later(uint8_t *run, int32_t by_age, int32_t by_birth_year, int32_t addition) {
+    sample_with_addition(run, addition);
+    put2(run + 4, 2080);
+    put2(run + 6, 2130);
+    fill4(run + 1078, 131, by_age);
+    fill4(run + 2940, 269, by_birth_year);
+}
+
+void put_birth_year(uint8_t *run, uint32_t birth_year, int32_t rate) { put4(run + 2940 + 4 * (birth_year - 1842), rate); }
+
 /* ---- version and layouts */
 
 static void check_version(void) {
@@ -338,6 +348,92 @@ static void check_values(void) {
     HOLDS(declined(parvusek_cohort_expectation(run, RUN, NO_HISTORY, 100, 0, 2006), 9, 101, 2007));
 }
 
+/* ---- years after 2130: one in ten dies in 2130, which is B */
+
+static void check_later_values(void) {
+    uint8_t run[RUN];
+    /* 1 per cent by age, by birth year or of the addition: 0.099 die in 2131, so that 0.9 x 0.901 of a cohort are left */
+    for (int part = 0; part < 3; part++) {
+        sample_later(run, part == 0 ? 10000000 : 0, part == 1 ? 10000000 : 0, part == 2 ? 10000000 : 0);
+        HOLDS(is(parvusek_cohort_survivorship(run, RUN, NO_HISTORY, 148, 2, 2130), 810900000));
+        HOLDS(is(parvusek_period_survivorship(run, RUN, NO_HISTORY, 148, 2, 2130), 810000000));
+    }
+
+    /* 2 by age, 1 by birth year and 0.5 of the addition: 0.0965 die in 2131, and 0.0965 x 0.965 = 0.0931225 in 2132 */
+    sample_later(run, 20000000, 10000000, 5000000);
+    HOLDS(is(parvusek_cohort_survivorship(run, RUN, NO_HISTORY, 148, 2, 2130), 813150000));
+    HOLDS(is(parvusek_cohort_expectation(run, RUN, NO_HISTORY, 148, 0, 2130), 2213150000));
+    HOLDS(is(parvusek_period_expectation(run, RUN, NO_HISTORY, 148, 0, 2130), 2210000000));
+    HOLDS(is(parvusek_cohort_annuity(run, RUN, NO_HISTORY, 148, 0, 2130), 2713150000));
+    /* from 148 in 2131: the period kind stays there, 0.9035 x 0.9035, and the cohort goes on, 0.9035 x 0.9068775 */
+    HOLDS(is(parvusek_period_expectation(run, RUN, NO_HISTORY, 147, 1, 2130), 2219812250));
+    HOLDS(is(parvusek_cohort_expectation(run, RUN, NO_HISTORY, 147, 1, 2130), 2222863821));
+    /* from 147 in 2130: 0.9, 0.81 and 0.729 by the rates of 2130, and 0.9, 0.81315 and 0.737427439 */
+    HOLDS(is(parvusek_period_annuity(run, RUN, NO_HISTORY, 147, 1, 2130), 2439000000));
+    HOLDS(is(parvusek_cohort_annuity(run, RUN, NO_HISTORY, 147, 1, 2130), 2450577439));
+
+    /* B 2129, and a factor runs on through 2130: 0.099 die at 148 in 2130, 0.09801 at 149 in 2131 */
+    sample_later(run, 0, 0, 10000000);
+    put2(run + 6, 2129);
+    HOLDS(is(parvusek_cohort_survivorship(run, RUN, NO_HISTORY, 148, 2, 2130), 812692990));
+}
+
+/* each year takes the birth year that has the age then */
+static void check_later_birth_years(void) {
+    uint8_t run[RUN];
+    /* 20 per cent of 1983 alone, 148 in 2131: 0.08 die at 148 from then on, and at 149 from 2132 on */
+    sample_later(run, 0, 0, 0);
+    put_birth_year(run, 1983, 200000000);
+    HOLDS(is(parvusek_cohort_survivorship(run, RUN, NO_HISTORY, 148, 2, 2130), 810000000));
+    HOLDS(is(parvusek_cohort_survivorship(run, RUN, NO_HISTORY, 147, 3, 2130), 761760000));
+    HOLDS(is(parvusek_cohort_survivorship(run, RUN, NO_HISTORY, 146, 4, 2130), 685584000));
+
+    /* the latest rate, that of 149 in 2259: nobody dies before 149, one in two there, 10 per cent fewer of birth year 2110 */
+    sample_later(run, 0, 0, 0);
+    fill4(run + 30, 131, 0);
+    put4(run + 30 + 4 * (149 - 20), 500000000);
+    put_birth_year(run, 2110, 100000000);
+    HOLDS(is(parvusek_cohort_survivorship(run, RUN, NO_HISTORY, 20, 129, 2130), 1000000000));
+    HOLDS(is(parvusek_cohort_survivorship(run, RUN, NO_HISTORY, 20, 130, 2130), 550000000));
+    HOLDS(is(parvusek_cohort_survivorship(run, RUN, NO_HISTORY, 21, 129, 2130), 500000000));
+    HOLDS(is(parvusek_period_expectation(run, RUN, NO_HISTORY, 20, 129, 2130), 1050000000));
+    HOLDS(is(parvusek_period_expectation(run, RUN, NO_HISTORY, 21, 128, 2130), 1000000000));
+}
+
+static void check_later_refusals(void) {
+    uint8_t run[RUN];
+    /* half as much again each year: 1.5, 2.25 and 3.375 in 2133, so that 0.15, 0.225 and 0.3375 die, and 2134 is 10 */
+    sample_later(run, -200000000, -200000000, -100000000);
+    HOLDS(is(parvusek_cohort_survivorship(run, RUN, NO_HISTORY, 60, 4, 2130), 392779688));
+    HOLDS(declined(parvusek_cohort_survivorship(run, RUN, NO_HISTORY, 60, 5, 2130), 10, 64, 2134));
+    HOLDS(declined(parvusek_cohort_expectation(run, RUN, NO_HISTORY, 60, 2, 2130), 10, 64, 2134));
+    HOLDS(declined(parvusek_cohort_annuity(run, RUN, NO_HISTORY, 60, 20, 2130), 10, 64, 2134));
+    HOLDS(is(parvusek_cohort_annuity(run, RUN, NO_HISTORY, 146, 0, 2130), 3650654688));
+    /* deferred to a later year, a period expectation is refused at its first age, in the year that passes 4 */
+    HOLDS(passed(parvusek_period_expectation(run, RUN, NO_HISTORY, 60, 3, 2130).refusal));
+    HOLDS(declined(parvusek_period_expectation(run, RUN, NO_HISTORY, 60, 4, 2130), 10, 64, 2134));
+    HOLDS(declined(parvusek_period_expectation(run, RUN, NO_HISTORY, 60, 7, 2130), 10, 67, 2134));
+    HOLDS(passed(parvusek_period_annuity(run, RUN, NO_HISTORY, 60, 7, 2130).refusal));
+
+    /* a single cell ends in 2130, and so does the year of an enquiry */
+    HOLDS(is_signed(parvusek_improvement(run, RUN, NO_HISTORY, 60, 2130), -500000000));
+    HOLDS(is(parvusek_factor(run, RUN, NO_HISTORY, 60, 2130), 1000000000));
+    HOLDS(refused(parvusek_improvement(run, RUN, NO_HISTORY, 60, 2131).refusal, 7, 2131, 0));
+    HOLDS(declined(parvusek_factor(run, RUN, NO_HISTORY, 60, 2131), 7, 2131, 0));
+    HOLDS(declined(parvusek_rate(run, RUN, NO_HISTORY, 149, 2259), 7, 2259, 0));
+    HOLDS(declined(parvusek_cohort_annuity(run, RUN, NO_HISTORY, 60, 0, 2131), 7, 2131, 0));
+
+    /* no 9 at the limits, which add up to 500,000,000: 0.05 die in 2131 */
+    sample_later(run, 200000000, 200000000, 100000000);
+    HOLDS(is(parvusek_cohort_survivorship(run, RUN, NO_HISTORY, 148, 2, 2130), 855000000));
+
+    /* 0.6 per cent more each year from 2007 on: 1.006 to the power of 231 is below 4, to that of 232, in 2238, above */
+    sample_with_addition(run, -6000000);
+    HOLDS(declined(parvusek_cohort_annuity(run, RUN, NO_HISTORY, 20, 0, 2130), 10, 128, 2238));
+    HOLDS(declined(parvusek_period_expectation(run, RUN, NO_HISTORY, 41, 108, 2130), 10, 149, 2238));
+    HOLDS(passed(parvusek_cohort_annuity(run, RUN, NO_HISTORY, 42, 0, 2130).refusal));
+}
+
 int main(void) {
     check_version();
     check_layouts();
@@ -346,6 +442,9 @@ int main(void) {
     check_short_forms();
     check_cells();
     check_values();
+    check_later_values();
+    check_later_birth_years();
+    check_later_refusals();
     check_forms();
     check_small_sets();
     check_grids();

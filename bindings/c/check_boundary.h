@@ -35,6 +35,11 @@ void sample_with_addition(uint8_t *run, int32_t addition);
 void sample_worsening(uint8_t *run);
 /* the same with an improvement of 587,500,000 in the year after F */
 void sample_beyond(uint8_t *run);
+/* the same with F 2080 and B 2130, so that every improvement taken is of a year after 2130: these long-term rates, the
+   first at every age and the second of every birth year, and this addition */
+void sample_later(uint8_t *run, int32_t by_age, int32_t by_birth_year, int32_t addition);
+/* the long-term rate of one birth year in a run of the old form */
+void put_birth_year(uint8_t *run, uint32_t birth_year, int32_t rate);
 
 /* the checks of check_forms.c */
 void check_forms(void);

@@ -232,6 +232,13 @@ static void check_years(void) {
     HOLDS(joins(run, 7, 65, 1));
     HOLDS(opens(2130, ROLL));
     HOLDS(joins(run, 7, 65, 1));
+
+    /* past 2130: 148 is worth 2.71315, as in check_later_values, and 60 meets a 10 */
+    sample_later(run, 20000000, 10000000, 5000000);
+    HOLDS(joins(run, 8, 148, LIMIT));
+    HOLDS(roll[LIABILITIES + 1] == 27131500);
+    sample_later(run, -200000000, -200000000, -100000000);
+    HOLDS(join_refused(run, RUN, 9, 60, 0, 10, 64, 2134));
 }
 
 /* ---- numbers that no call has made: every call ends and says what the header says of them */

@@ -31,6 +31,15 @@ void check_small_sets(void) {
     set = parvusek_small_set(run, RUN, NO_HISTORY, moving);
     HOLDS(point_is(set.points[5], 2210000000, 2210900000, 2710000000, 2710900000));
 
+    /* past 2130, as in check_later_values: the period annuity alone is by the rates of 2130 */
+    sample_later(run, 20000000, 10000000, 5000000);
+    const parvusek_questions_t later = {{{147, 1, 2130}, {148, 0, 2130}, {149, 1, 2130}, {150, 0, 2130}, {148, 0, 2131}, {20, 131, 2130}}};
+    set = parvusek_small_set(run, RUN, NO_HISTORY, later);
+    HOLDS(point_is(set.points[0], 2219812250, 2222863821, 2439000000, 2450577439));
+    HOLDS(point_is(set.points[1], 2210000000, 2213150000, 2710000000, 2713150000));
+    HOLDS(point_is(set.points[2], 500000000, 500000000, 900000000, 900000000));
+    HOLDS(point_refused(set.points[4], 7, 2131, 0));
+
     run[3] = '2';
     set = parvusek_small_set(run, RUN, NO_HISTORY, asked);
     HOLDS(refused(set.refusal, 4, 3, 0));
@@ -115,13 +124,20 @@ static void check_records_again(void) {
     HOLDS(list[1].refusal == 0 && list[1].first == 0 && list[1].second == 0);
 }
 
-/* a record's four results are those of the four enquiries */
-static int record_as_asked(const uint8_t *run, parvusek_point_t p) {
-    return !p.refusal && is(parvusek_period_expectation(run, RUN, NO_HISTORY, p.age, p.deferment, p.year), p.results[0])
-        && is(parvusek_cohort_expectation(run, RUN, NO_HISTORY, p.age, p.deferment, p.year), p.results[1])
-        && is(parvusek_period_annuity(run, RUN, NO_HISTORY, p.age, p.deferment, p.year), p.results[2])
-        && is(parvusek_cohort_annuity(run, RUN, NO_HISTORY, p.age, p.deferment, p.year), p.results[3]);
+/* a record has the results of the four enquiries, or the first refusal among them */
+static int record_agrees(const uint8_t *run, parvusek_point_t p) {
+    const parvusek_answer_t four[4] = {
+        parvusek_period_expectation(run, RUN, NO_HISTORY, p.age, p.deferment, p.year),
+        parvusek_cohort_expectation(run, RUN, NO_HISTORY, p.age, p.deferment, p.year),
+        parvusek_period_annuity(run, RUN, NO_HISTORY, p.age, p.deferment, p.year),
+        parvusek_cohort_annuity(run, RUN, NO_HISTORY, p.age, p.deferment, p.year)};
+    for (int i = 0; i < 4; i++)
+        if (four[i].refusal.number != 0)
+            return record_refused(p, four[i].refusal.number, four[i].refusal.first, four[i].refusal.second);
+    return record_is(p, four[0].value, four[1].value, four[2].value, four[3].value);
 }
+
+static int record_as_asked(const uint8_t *run, parvusek_point_t p) { return !p.refusal && record_agrees(run, p); }
 
 /* two ages are refused by 10 from a year on, 70 from 2014 (1.2 to the 8th) and 80 from 2016 (1.15 to the 10th), and the
    others go on: a record has the refusal that it meets first on its own way, whatever years and ages stand around it */
@@ -151,6 +167,69 @@ static void check_records_apart(void) {
     }
 }
 
+/* ---- years after 2130, of which the grid keeps every second one */
+
+/* F 2080, B 2125, and every rate another: base rates by age, long-term rates by birth year and, in such steps, by age */
+static void sample_apart(uint8_t *run, int32_t step_by_age) {
+    sample_later(run, 0, 0, 3000000);
+    put2(run + 6, 2125);
+    for (int32_t i = 0; i < 131; i++) {
+        put4(run + 30 + 4 * i, 1000000 * (i + 1));
+        put4(run + 1078 + 4 * i, step_by_age * i);
+    }
+    for (uint32_t i = 0; i < 269; i++) put_birth_year(run, 1842 + i, 20000 * (int32_t)i);
+}
+
+static int point_of(parvusek_point_answer_t p, parvusek_point_t r) {
+    return refused(p.refusal, r.refusal, r.first, r.second) && memcmp(p.results, r.results, sizeof p.results) == 0;
+}
+
+/* how many of a grid's records are refused by 10 in a year after 2130 that is even (0), or odd (1) */
+static int tens(const parvusek_point_t *list, uint64_t odd) {
+    int count = 0;
+    for (size_t i = 0; i < GRID; i++) count += list[i].refusal == 10 && list[i].second > 2130 && list[i].second % 2 == odd;
+    return count;
+}
+
+/* members from age 20 on, most of them deferred past 2130, in even years and odd ones: the grid and small sets answer as
+   the enquiries do, where every rate improves and where those of old ages worsen */
+static void check_later_records(void) {
+    static parvusek_point_t list[LENT];
+    static parvusek_question_t asked[GRID];
+    uint8_t run[RUN];
+    for (uint32_t i = 0; i < GRID; i++) {
+        uint32_t age = 20 + 37 * i % 130;
+        asked[i] = (parvusek_question_t){age, 17 * i % (151 - age), 2125 + i % 6};
+    }
+    for (int32_t step = 30000; step >= -300000; step -= 330000) {
+        sample_apart(run, step);
+        ask(list, asked, GRID);
+        HOLDS(passed(parvusek_grid(run, RUN, NO_HISTORY, list, LENT)));
+        for (size_t i = 0; i < GRID; i++) HOLDS(record_agrees(run, list[i]));
+        for (size_t i = 0; i + 6 <= GRID; i += 6) {
+            parvusek_questions_t six;
+            memcpy(six.points, asked + i, sizeof six.points);
+            parvusek_small_set_t set = parvusek_small_set(run, RUN, NO_HISTORY, six);
+            for (size_t j = 0; j < 6; j++) HOLDS(point_of(set.points[j], list[i + j]));
+        }
+        HOLDS(step > 0 ? tens(list, 0) + tens(list, 1) == 0 : tens(list, 0) > 10 && tens(list, 1) > 10);
+    }
+}
+
+/* the refusals of check_later_refusals: that of the period expectation, at the deferred age, comes first */
+static void check_later_tens(void) {
+    static parvusek_point_t list[LENT];
+    uint8_t run[RUN];
+    const parvusek_question_t asked[4] = {{60, 7, 2130}, {60, 0, 2130}, {146, 0, 2130}, {60, 2, 2130}};
+    sample_later(run, -200000000, -200000000, -100000000);
+    ask(list, asked, 4);
+    HOLDS(passed(parvusek_grid(run, RUN, NO_HISTORY, list, GRID)));
+    HOLDS(record_refused(list[0], 10, 67, 2134));
+    HOLDS(record_refused(list[1], 10, 64, 2134));
+    HOLDS(record_is(list[2], 3595100000, 3150654688, 4095100000, 3650654688));
+    HOLDS(record_refused(list[3], 10, 64, 2134));
+}
+
 static void check_refused_grids(void) {
     static parvusek_point_t list[LENT], before[LENT];
     uint8_t run[RUN];
@@ -174,6 +253,8 @@ void check_grids(void) {
     check_records();
     check_records_again();
     check_records_apart();
+    check_later_records();
+    check_later_tens();
     check_refused_grids();
 }
 
@@ -241,6 +322,34 @@ static void check_steps(void) {
     HOLDS(stands(step(run, l), 150, 2008, 810900000, 0));
 }
 
+/* the survivors of check_later_values, year by year, and the refusals of check_later_refusals */
+static void check_later_steps(void) {
+    uint8_t run[RUN];
+    sample_later(run, 20000000, 10000000, 5000000);
+    parvusek_lifeline_t l = step(run, parvusek_lifeline_start(run, RUN, NO_HISTORY, 148, 2130));
+    HOLDS(stands(l, 149, 2131, 900000000, 0));
+    l = step(run, l);
+    HOLDS(stands(l, 150, 2132, 813150000, 0));
+    HOLDS(stands(step(run, l), 150, 2132, 813150000, 1));
+    HOLDS(stands(parvusek_lifeline_step(run, RUN, NO_HISTORY, 149, 2132, UNIT), 150, 2133, 906877500, 0));
+
+    /* the latest rate of all: one in two, and 10 per cent fewer by birth year 2110 */
+    sample_later(run, 0, 0, 0);
+    put4(run + 30 + 4 * (149 - 20), 500000000);
+    put_birth_year(run, 2110, 100000000);
+    HOLDS(stands(parvusek_lifeline_step(run, RUN, NO_HISTORY, 149, 2258, UNIT), 150, 2259, 500000000, 0));
+    HOLDS(stands(parvusek_lifeline_step(run, RUN, NO_HISTORY, 149, 2259, UNIT), 150, 2260, 550000000, 0));
+    HOLDS(stands(parvusek_lifeline_step(run, RUN, NO_HISTORY, 150, 2260, UNIT), 150, 2260, UNIT, 1));
+    HOLDS(stays(run, RUN, 149, 2260, UNIT, 7, 2260, 0));
+    HOLDS(stays(run, RUN, 150, 2261, UNIT, 7, 2261, 0));
+
+    sample_later(run, -200000000, -200000000, -100000000);
+    HOLDS(stands(parvusek_lifeline_step(run, RUN, NO_HISTORY, 64, 2133, UNIT), 65, 2134, 662500000, 0));
+    HOLDS(stays(run, RUN, 64, 2134, 7, 10, 64, 2134));
+    HOLDS(stays(run, RUN, 64, 2174, 0, 10, 64, 2134));
+    HOLDS(stays(run, RUN, 64, 2175, 0, 7, 2175, 0));
+}
+
 static void check_refused_steps(void) {
     uint8_t run[RUN];
     sample(run);
@@ -289,6 +398,7 @@ static void check_whole_lives(void) {
 void check_lifelines(void) {
     check_starts();
     check_steps();
+    check_later_steps();
     check_refused_steps();
     check_whole_lives();
 }

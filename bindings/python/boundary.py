@@ -146,11 +146,12 @@ def lent(size):
     return (c_uint8 * size)(*[KEPT] * size)
 
 
-def sample(addition=0, discount=0, initial=0, long_term=0, birth_year=0, period=20, remaining=50, base_year=2006):
+def sample(addition=0, discount=0, initial=0, long_term=0, birth_year=0, period=20, remaining=50, base_year=2006,
+           foundation_year=2006):
     """F and B 2006, every base rate 100,000,000; other rates 0, T 20 and P 50 where not said otherwise."""
     def words(count, n):
         return struct.pack("<i", n) * count
-    return (b"MPB1" + struct.pack("<HHii", 2006, base_year, addition, discount) + bytes(14) + words(131, 100_000_000)
+    return (b"MPB1" + struct.pack("<HHii", foundation_year, base_year, addition, discount) + bytes(14) + words(131, 100_000_000)
             + words(131, initial) + words(131, long_term) + bytes([period]) * 131 + bytes([remaining]) * 131
             + words(269, birth_year) + words(269, birth_year) + bytes([20]) * 269 + bytes([50]) * 269)
 
@@ -174,6 +175,11 @@ def worsening():
 def beyond():
     """An improvement of 587,500,000 in the year after F."""
     return sample(initial=200_000_000, long_term=-200_000_000, period=4, remaining=150)
+
+
+def later(long_term=0, birth_year=0, addition=0, base_year=2130):
+    """F 2080 and B 2130: every improvement taken is of a year after 2130, by these rates."""
+    return sample(addition, long_term=long_term, birth_year=birth_year, base_year=base_year, foundation_year=2080)
 
 
 def file_of(data):

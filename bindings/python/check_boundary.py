@@ -14,6 +14,7 @@ from boundary import (FILE, FURTHER, GRID, KEPT, LAYOUTS, ROLL, RUN, UNIT, Engin
                       answers_of_grid, asked_of_grid, beyond, file_of, lent, opened, places, position, same, sample, worsening)
 from check_forms import check_forms
 from check_histories import check_histories
+from check_later_years import check_later_years
 
 
 def check_version(e):
@@ -281,6 +282,7 @@ def main():
     check_bases(engine)
     check_forms(engine)
     check_enquiries(engine)
+    check_later_years(engine)
     check_small_sets(engine)
     check_grids(engine)
     check_lifelines(engine)

@@ -68,6 +68,9 @@ class Basis:
     It has one of two forms, which its length tells: MPB1, with proportions remaining at mid-point of whole
     per cents, and MPB2, with hundredths of a per cent. Everything but `to_old_form` is the same in both.
 
+    Years are asked to 2130. A life is followed beyond: after 2130 each year's improvement is the long-term rate
+    by age plus that by birth year plus the constant addition.
+
     Values are whole units, 1,000,000,000 to one (see `decimal`). An enquiry that is refused raises
     `Refusal`; a number that does not fit the engine's 32 bits raises ValueError.
     """
@@ -217,7 +220,7 @@ class Basis:
         return self._answer(f"{kind.value}_survivorship", age=age, deferment=years, year=year)
 
     def expectation(self, kind: Kind, age: int, deferment: int, year: int) -> int:
-        """Expectation of life at the deferred age in the deferred year."""
+        """Expectation of life at the deferred age in the deferred year, which may be after 2130."""
         return self._answer(f"{kind.value}_expectation", age=age, deferment=deferment, year=year)
 
     def annuity(self, kind: Kind, age: int, deferment: int, year: int) -> int:

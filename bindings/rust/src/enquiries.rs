@@ -1,4 +1,4 @@
-//! The enquiries that a basis answers: single cells, and values of one life.
+//! The enquiries that a basis answers: single cells, which end in 2130, and values of one life, which go on after it.
 
 use crate::ffi;
 use crate::{Basis, Kind, Lifeline, Refusal};
@@ -60,7 +60,7 @@ impl Basis {
         self.value_of(function, age, years, year)
     }
 
-    /// Expectation of life in years, in units, at the deferred age in the deferred year.
+    /// Expectation of life in years, in units, at the deferred age in the deferred year, which may be after 2130.
     ///
     /// ```
     /// # use parvusek::{decimal, Basis, Kind};

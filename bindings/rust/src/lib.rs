@@ -46,7 +46,8 @@ pub use version::{linked_version, Version, VERSION};
 pub enum Kind {
     /// Those of one year, at every age.
     Period,
-    /// Those of the years that it reaches.
+    /// Those of the years that it reaches. After 2130 each year's improvement is the long-term rate by age plus that by
+    /// birth year plus the constant addition.
     Cohort,
 }
 
