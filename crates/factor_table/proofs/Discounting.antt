@@ -15,7 +15,8 @@ use Rattle.valuation.proofs.Discount.{discount-turn}
 use Rattle.sweep.specs.Encoding.{decoded}
 use Rattle.factor_table.specs.Inner.Storing.{KeptBefore}
 use Rattle.factor_table.proofs.LaterPlaces.{ends-in-time}
-use Rattle.factor_table.specs.FactorTable.{earlyYears, earlyLength, laterAt, factorsLength, tableLength, YearsStored, RestIsZero, LaterYearsStored, DiscountsStored, FactorTable}
+use Rattle.factor_table.specs.FactorTable.{earlyYears, earlyLength, laterAt, factorsLength, tableLength}
+use Rattle.factor_table.specs.FactorTable.{YearsStored, RestIsZero, LaterYearsStored, DiscountsStored, FactorTable}
 
 -- the first j discounts are stored, and v is the next one
 pub record Discounted (b : Basis) (start numbers : List ℕ) (j v : ℕ) : Type 0 where

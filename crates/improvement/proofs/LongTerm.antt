@@ -1,6 +1,6 @@
 -- From 2130 on both weights are 0 and no year is actual: the sum of two whole numbers is rounded to itself, and is within ±500,000,000 with
 -- the addition. Assumes nothing.
-use mathlib.Core.Path.{_≡_, _∙_, ap, sym}
+use mathlib.Core.Path.{_≡_, _∙_, ap, sym, refl}
 use Prim.Native.Nat.{ℕ, _+_, _*_, _-_, _≤_, _<_}
 use native.Mathlib.Omega.{arith}
 use lib.IntN.{ℤ, pos, natAbs, _+ℤ_, _*ℤ_}
@@ -16,8 +16,8 @@ use Rattle.basis.specs.declared.Convergence.{Convergence}
 use Rattle.component.specs.Component.{componentOf}
 use Rattle.component.proofs.Parts.{component-proper, component-after}
 use Rattle.outcome.specs.Outcome.{value}
-use Rattle.improvement.specs.Improvement.{componentsOf, projectedOf, improvementOf, improvementNeeded}
-use Rattle.improvement.specs.LongTerm.{LongTermFrom2130}
+use Rattle.improvement.specs.Improvement.{birthTerms, componentsOf, projectedOf, improvementOf, improvementNeeded}
+use Rattle.improvement.specs.LongTerm.{longTermImprovement, LongTermFrom2130}
 use Rattle.improvement.proofs.Cases.{addition-after, after-foundation, needed-usable}
 
 -- parts that are those of two fractions
@@ -40,13 +40,10 @@ sum-long c d n h k l =
     long x limits = sym (component-after (x .initial) (x .long) (x .period) (x .remaining) n (omega (arith, limits .period-high)))
 
 module _ (b : Basis) (limits : Limited b) (age year : ℕ) (low : 20 ≤ age) (high : age ≤ 150) (from : 2130 ≤ year) (upto : year ≤ 2110 + age) where
-  abbrev longTerm : ℤ
-  longTerm = b .byAge age .long +ℤ b .byBirthYear (year - age) .long +ℤ b .addition
-
   birth : ConvergenceLimits (b .byBirthYear (year - age))
   birth = limits .byBirthYear (year - age) (omega arith) (omega arith)
 
-  is-long-term : improvementOf b age year ≡ longTerm
+  is-long-term : improvementOf b age year ≡ longTermImprovement b age year
   unfolding improvementOf projectedOf componentsOf
   is-long-term =
       let n = year - b .foundation in
@@ -55,14 +52,19 @@ module _ (b : Basis) (limits : Limited b) (age year : ℕ) (low : 20 ≤ age) (h
       (ap (λ (z : ℤ). z +ℤ b .addition) (sum-long (b .byAge age) (b .byBirthYear (year - age)) n (limits .byAge age low high) birth (omega arith)))
 
   -- 200,000,000 and 200,000,000 and 100,000,000
-  within-limit : natAbs longTerm ≤ 500_000_000
+  within-limit : natAbs (longTermImprovement b age year) ≤ 500_000_000
   within-limit =
       let L = b .byAge age .long in
       let M = b .byBirthYear (year - age) .long in
       omega (arith, natAbs-add (L +ℤ M) (b .addition), natAbs-add L M, limits .byAge age low high .long, birth .long, limits .addition)
 
-  stands : improvementNeeded age year (improvementOf b age year) ≡ value longTerm
-  stands = rw is-long-term (needed-usable age year longTerm (le-leb (natAbs longTerm) 500_000_000 within-limit))
+  stands : improvementNeeded age year (improvementOf b age year) ≡ value (longTermImprovement b age year)
+  stands = rw is-long-term (needed-usable age year (longTermImprovement b age year) (le-leb (natAbs (longTermImprovement b age year)) 500_000_000 within-limit))
+
+-- the sum of terms that are the basis's
+pub long-of : (b : Basis) (age year : ℕ) {attained birth : Convergence} → attained ≡ b .byAge age → birth ≡ birthTerms b age year →
+    attained .long +ℤ birth .long +ℤ b .addition ≡ longTermImprovement b age year
+long-of b age year e g = rw (e, g) refl
 
 pub long-term-from-2130 : (b : Basis) → LongTermFrom2130 b
 long-term-from-2130 b = record { improvement = is-long-term b; neverBeyond = stands b }

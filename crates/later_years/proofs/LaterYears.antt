@@ -11,11 +11,12 @@ use Rattle.basis.specs.Basis.{Basis, Limited}
 use Rattle.outcome.specs.declared.Refusal.{Refusal}
 use Rattle.outcome.specs.Outcome.{Outcome, value, refused, refusal, andThen, steps}
 use Rattle.improvement.specs.Improvement.{improvementOf, improvementNeeded}
+use Rattle.improvement.specs.LongTerm.{longTermImprovement}
 use Rattle.improvement.proofs.LongTerm.{long-term-from-2130}
 use Rattle.projection.specs.Projection.{factorNext, factorNeeded, factorFrom, factorStep, yearsTo, factorOf}
 use Rattle.projection.proofs.Cases.{year-refused}
 use Rattle.projection.proofs.Years.{goes-on}
-use Rattle.later_years.specs.LaterYears.{longTermImprovement, EachLaterYear}
+use Rattle.later_years.specs.LaterYears.{EachLaterYear}
 use Rattle.later_years.proofs.Same.{refused-at}
 
 module _ (b : Basis) (limits : Limited b) (age : ℕ) (low : 20 ≤ age) (high : age ≤ 150) where

@@ -1,16 +1,12 @@
 -- The years after 2130 (02, change 9: "each later year now takes the long-term rates, age plus birth year, plus the addition"). Survivorship,
 -- expectations, annuities and the lifeline come to them; a single cell is refused there.
 use mathlib.Core.Path.{_≡_}
-use Prim.Native.Nat.{ℕ, _+_, _-_, _≤_, _<_}
-use lib.IntN.{ℤ, _+ℤ_}
+use Prim.Native.Nat.{ℕ, _+_, _≤_, _<_}
 use Rattle.basis.specs.Basis.{Basis, Limited}
 use Rattle.outcome.specs.declared.Refusal.{Refusal}
 use Rattle.outcome.specs.Outcome.{refused, andThen}
+use Rattle.improvement.specs.LongTerm.{longTermImprovement}
 use Rattle.projection.specs.Projection.{factorNext, factorNeeded, factorOf}
-
--- the long-term rates, age plus birth year, plus the addition
-abbrev pub longTermImprovement : Basis → ℕ → ℕ → ℤ
-longTermImprovement b age year = b .byAge age .long +ℤ b .byBirthYear (year - age) .long +ℤ b .addition
 
 pub record EachLaterYear (b : Basis) : Type 0 where
   -- the factor of a year after 2130 comes from that of the year before by this improvement; 10 refuses it, and nothing else does

@@ -20,8 +20,9 @@ returns c =
 returns-2 : tie.Need-returns-2
 returns-2 c =
     let a = c .before .before .before .before .before .args in
+    let early = lt-ltb (a .year) (2110 + a .age) (c .before .if2 .taken) in
     c .next-factor .ensures
-    ∙ sym (advanced-outcome (basisWith (a .run .now) (a .history .now)) (a .age) (a .year) (decoded (a .age) (a .n)) (pos (a .n)) (lt-ltb (a .year) (2110 + a .age) (c .before .if2 .taken))
+    ∙ sym (advanced-outcome (basisWith (a .run .now) (a .history .now)) (a .age) (a .year) (decoded (a .age) (a .n)) (pos (a .n)) early
     (decoded-factor (a .age) (a .n) (omega arith)))
 
 returns-3 : tie.Need-returns-3

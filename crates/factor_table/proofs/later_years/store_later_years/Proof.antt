@@ -53,7 +53,7 @@ loop-again c =
       omega arith,
       search needs,
       later-more (l .loop .inv .2) (s .pre .0 .basis .limits .base-high) (omega arith) (y .store-state .ensures .0) (y .store-state .ensures .1) (search needs)
-      (c .before .before .before .before .step .ensures .1) (c .before .step2 .ensures .1),
+          (c .before .before .before .before .step .ensures .1) (c .before .step2 .ensures .1),
     )
 
 returns : tie.Need-returns Inv-loop μ-loop
