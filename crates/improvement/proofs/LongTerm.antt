@@ -1,6 +1,6 @@
 -- From 2130 on both weights are 0 and no year is actual: the sum of two whole numbers is rounded to itself, and is within ±500,000,000 with
 -- the addition. Assumes nothing.
-use mathlib.Core.Path.{_≡_, _∙_, ap, sym, refl}
+use mathlib.Core.Path.{_≡_, _∙_, ap, sym}
 use Prim.Native.Nat.{ℕ, _+_, _*_, _-_, _≤_, _<_}
 use native.Mathlib.Omega.{arith}
 use lib.IntN.{ℤ, pos, natAbs, _+ℤ_, _*ℤ_}
@@ -16,7 +16,7 @@ use Rattle.basis.specs.declared.Convergence.{Convergence}
 use Rattle.component.specs.Component.{componentOf}
 use Rattle.component.proofs.Parts.{component-proper, component-after}
 use Rattle.outcome.specs.Outcome.{value}
-use Rattle.improvement.specs.Improvement.{birthTerms, componentsOf, projectedOf, improvementOf, improvementNeeded}
+use Rattle.improvement.specs.Improvement.{componentsOf, projectedOf, improvementOf, improvementNeeded}
 use Rattle.improvement.specs.LongTerm.{longTermImprovement, LongTermFrom2130}
 use Rattle.improvement.proofs.Cases.{addition-after, after-foundation, needed-usable}
 
@@ -60,11 +60,6 @@ module _ (b : Basis) (limits : Limited b) (age year : ℕ) (low : 20 ≤ age) (h
 
   stands : improvementNeeded age year (improvementOf b age year) ≡ value (longTermImprovement b age year)
   stands = rw is-long-term (needed-usable age year (longTermImprovement b age year) (le-leb (natAbs (longTermImprovement b age year)) 500_000_000 within-limit))
-
--- the sum of terms that are the basis's
-pub long-of : (b : Basis) (age year : ℕ) {attained birth : Convergence} → attained ≡ b .byAge age → birth ≡ birthTerms b age year →
-    attained .long +ℤ birth .long +ℤ b .addition ≡ longTermImprovement b age year
-long-of b age year e g = rw (e, g) refl
 
 pub long-term-from-2130 : (b : Basis) → LongTermFrom2130 b
 long-term-from-2130 b = record { improvement = is-long-term b; neverBeyond = stands b }

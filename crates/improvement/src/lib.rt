@@ -1,5 +1,5 @@
 // The improvement at an age in a year: the history's in a year that has an actual one, otherwise the sum of two components, rounded
-// once, and the constant addition. From 2130 on that is the long-term rates and the addition, which are then simply added.
+// once, and the constant addition.
 ghost use mathlib.Core.Path.{_≡_};
 ghost use lib.IntN.{_+ℤ_};
 ghost use Rattle.arithmetic.specs.Fraction.{_+ᶠ_, round};
@@ -8,7 +8,6 @@ ghost use Rattle.history.specs.History.{basisWith};
 ghost use Rattle.outcome.specs.Outcome.{refusal, signedMeaning};
 ghost use Rattle.component.specs.Component.{componentOf};
 ghost use Rattle.improvement.specs.Improvement.{additionOf, birthTerms, projectedOf, isActual, firstYear, improvementOf, improvementNeeded, usable};
-ghost use Rattle.improvement.specs.LongTerm.{longTermImprovement};
 ghost use Rattle.improvement.specs.Checked.{ImprovedCell, ProjectedCell};
 use basis::Convergence;
 use outcome::Refusal;
@@ -64,34 +63,11 @@ fn is_actual(run: &[u8], year: u32) -> bool
     basis::fields::base_year(run) < year && year <= basis::fields::foundation_year(run)
 }
 
-// Three rates of 32 bits, added in 64.
-fn rates_added(attained: i32, birth: i32, addition: i32) -> i64
-    ensures { λ r. ⌜ r ≡ attained +ℤ birth +ℤ addition ⌝ }
-{
-    arithmetic::wide(attained) + arithmetic::wide(birth) + arithmetic::wide(addition)
-}
-
-// The long-term rates, age plus birth year, plus the addition: the improvement from 2130 on, when every convergence is over.
-fn long_term_at(run: &[u8], terms: Convergence, age: u32, year: u32) -> i64
-    requires { ⌜ ProjectedCell (now run) age year × (terms ≡ basisOf (now run) .byAge age) ⌝ }
-    ensures { λ r. ⌜ r ≡ longTermImprovement (basisOf (now (run .entry))) age year ⌝ }
-{
-    let birth = birth_terms(run, age, year);
-    rates_added(
-        terms.long,
-        birth.long,
-        basis::fields::constant_addition(run),
-    )
-}
-
 // The improvement at an age, whose terms the caller has read, in a year that has one.
 pub fn improvement_at(run: &[u8], history: &[u8], terms: Convergence, age: u32, year: u32) -> i64
     requires { ⌜ ImprovedCell (now run) (now history) age year × (terms ≡ basisOf (now run) .byAge age) ⌝ }
     ensures { λ r. ⌜ r ≡ improvementOf (basisWith (now (run .entry)) (now (history .entry))) age year ⌝ }
 {
-    if 2130 <= year {
-        return long_term_at(run, terms, age, year);
-    }
     if is_actual(run, year) {
         arithmetic::wide(history::actual::actual_improvement(run, history, age, year))
     } else {
