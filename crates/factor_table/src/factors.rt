@@ -10,7 +10,7 @@ ghost use Rattle.factor_table.specs.Inner.Storing.{StandsAt, KeptBefore}
 ghost use Rattle.factor_table.specs.FactorTable.{earlyYears, tableLength, YearsStored, RestIsZero};
 use crate::EARLY_LENGTH;
 
-// The first year of which not every next one is stored.
+// From this year on only every second one is stored.
 const LATER_FROM: u32 = 2130;
 
 // The numbers of a state from one of them on, put into the table at a place; what stands before it is kept.
