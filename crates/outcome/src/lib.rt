@@ -1,4 +1,6 @@
 // What a check finds and what work comes to: a value or a numbered refusal. Every layer above speaks in these types.
+#![tactic(auto)]
+
 ghost use Rattle.std.specs.Prelude.{◌≡◌};
 ghost use Rattle.outcome.specs.Outcome.{first_of, finding};
 
