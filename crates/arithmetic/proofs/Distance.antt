@@ -10,7 +10,7 @@ use lib.Signed.{◌≤ℤ◌, le_z}
 use Rattle.arithmetic.specs.Round.{round_div}
 use Rattle.arithmetic.specs.Fraction.{Fraction, Within, whole, ◌over◌, round, ◌+ᶠ◌, ◌*ᶠ◌, ◌-ᶠ◌, ◌/ᶠ◌, lesser, lesser_ℤ}
 use Rattle.arithmetic.specs.Rounding.{HalvesAreHalves}
-use Rattle.arithmetic.proofs.Difference.{◌⊖◌, parts, ring, up, dn, ⊖-eq, eq-⊖, ⊖-abs*, abs*-⊖, ⊖-≤, ≤-⊖, parts-≤, nat_abs-add, nat_abs_mul, nat_abs-neg}
+use Rattle.arithmetic.proofs.Difference.{parts, ring, up, dn, ⊖-eq, eq-⊖, ⊖-abs*, abs*-⊖, ⊖-≤, ≤-⊖, parts-≤, nat_abs-add, nat_abs_mul, nat_abs-neg}
 use Rattle.arithmetic.proofs.Rounding.{round-near}
 
 -- ---- whole numbers, wider distances, roundings
