@@ -66,10 +66,10 @@ fn terms_at(
     remaining: usize,
     place: usize,
 ) -> Convergence
-    requires place_in_bounds { initial + 4 * place + 4 ≤ length run.now }
-    requires place_in_bounds_2 { long + 4 * place + 4 ≤ length run.now }
-    requires place_in_bounds_3 { period + place < length run.now }
-    requires form_in_bounds { remaining + width_of (proportion_of (meant form)) * place + width_of (proportion_of (meant form)) ≤ length run.now }
+    requires initial_in_bounds { initial + 4 * place + 4 ≤ length run.now }
+    requires long_in_bounds { long + 4 * place + 4 ≤ length run.now }
+    requires period_in_bounds { period + place < length run.now }
+    requires remaining_in_bounds { remaining + width_of (proportion_of (meant form)) * place + width_of (proportion_of (meant form)) ≤ length run.now }
     requires run_len_bound { length run.now ≤ run_length mpb2 }
     ensures { result ≡ terms_at (meant form) run.now initial long period remaining place }
 {

@@ -58,8 +58,8 @@ pub fn life_values_from(
     year: u32,
 ) -> LifeValues
     requires { LifeFrom run.now history.now table.now age deferment year }
-    ensures result_value { life_expectation result ≡ expectation_of (basis_with run.now history.now) kind age 0 year }
-    ensures result_value_2 { life_annuity result ≡ annuity_of (basis_with run.now history.now) kind age deferment year }
+    ensures expectation { life_expectation result ≡ expectation_of (basis_with run.now history.now) kind age 0 year }
+    ensures annuity { life_annuity result ≡ annuity_of (basis_with run.now history.now) kind age deferment year }
 {
     let last = 150 - age;
     let mut s: u64 = UNIT;
