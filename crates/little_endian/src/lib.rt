@@ -1,4 +1,6 @@
 // Little-endian numbers: read at an offset of a slice of bytes, and their bytes.
+#![tactic(auto)]
+
 ghost use Rattle.std.specs.Prelude.{◌≡◌, ◌+◌, ◌≤◌, ◌<◌, length};
 ghost use Rattle.little_endian.specs.Bytes.{u16_at, u32_at, signed32, i32_at, u16_bytes, u32_bytes, unsigned32, i32_bytes};
 
