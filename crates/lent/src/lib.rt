@@ -1,4 +1,6 @@
 // Lent outputs (01, "Who can cause a refusal"): whether one has room, and what is put into it, part by part.
+#![tactic(auto)]
+
 ghost use Rattle.std.specs.Prelude.{◌≡◌, ◌+◌, ◌≤◌, length, replicate};
 ghost use Rattle.outcome.specs.Outcome.{finding};
 ghost use Rattle.lent.specs.Lent.{count_check, placed};
@@ -25,7 +27,7 @@ pub fn put(part: &[u8], out: &mut [u8], at: usize)
     requires { at + length part.now ≤ length out.old }
     ensures { out.new ≡ placed out.old at part.now }
 {
-    bytes::copy(part, &mut out[at..at + part.len()]);
+    out[at..at + part.len()].copy_from_slice(part);
 }
 
 // Puts one byte there n times.
