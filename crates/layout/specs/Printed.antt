@@ -1,6 +1,6 @@
 -- The offsets and lengths of each form that 01 prints ("The basis file") and 02 gives (change 7), and that a form's limit of P is that
 -- of a basis.
-use Rattle.std.specs.Prelude.{◌*◌, ◌-◌, ◌≡◌}
+use Rattle.std.specs.Prelude.{◌*◌, ◌≡◌}
 use Rattle.layout.specs.Layout.{Form, mpb1, mpb2, hundredths_of, greatest_of, run_length, file_length, fields_end, greatest_proportion}
 use Rattle.layout.specs.Layout.{age_initial_rates_at, age_long_term_rates_at, age_periods_at, age_proportions_at}
 use Rattle.layout.specs.Layout.{birth_year_initial_rates_at, birth_year_long_term_rates_at, birth_year_periods_at, birth_year_proportions_at}

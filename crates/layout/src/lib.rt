@@ -1,5 +1,7 @@
 // The layout of a data run (01, "The basis file"): the kinds of number in it, its two forms, where each field stands, and the
 // limits of each.
+#![tactic(auto)]
+
 pub mod forms;
 pub mod offsets;
 
@@ -7,7 +9,7 @@ ghost use Rattle.std.specs.Prelude.{◌≡◌, ◌+◌, ◌≤◌, length};
 ghost use Rattle.layout.specs.Layout.{width_of, value_at};
 
 // A kind of number in a data run: a byte, 2 bytes, 4 bytes, 4 bytes signed.
-#[derive(Drop)]
+#[derive(Clone, Copy)]
 pub enum Number {
     Byte,
     Half,
@@ -16,7 +18,7 @@ pub enum Number {
 }
 
 // The form of a data run and of its file (02, change 7). They differ in the mark, in how P is written, and in length.
-#[derive(Drop)]
+#[derive(Clone, Copy)]
 pub enum Form {
     Mpb1,
     Mpb2,
