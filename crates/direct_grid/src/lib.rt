@@ -1,5 +1,5 @@
 // The grid point by point, each by the direct engine: for tests and measurements, which hold the sweep against it.
-// It is no part of the engine's archive and of its header; the records come and go by value.
+// It is no part of the engine's archive and of its header; the records come and go by value. direct_grid_c exports it to C.
 ghost use Rattle.std.specs.Prelude.{◌≡◌};
 ghost use Rattle.grid.specs.Grid.{grid_of};
 
@@ -26,8 +26,7 @@ fn answer_all(run: &[u8], history: &[u8], records: [Point; 119]) -> [Point; 119]
     points
 }
 
-#[unsafe(no_mangle)]
-pub extern "C" fn parvusek_direct_grid(run: &[u8], history: &[u8], records: Records) -> Records
+pub fn parvusek_direct_grid(run: &[u8], history: &[u8], records: Records) -> Records
     ensures { result.points ≡ grid_of run.now history.now records.points }
 {
     let asked = records.points;

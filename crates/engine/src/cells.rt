@@ -6,27 +6,19 @@ ghost use Rattle.engine.specs.Enquiry.{answer_of, signed_answer_of};
 use crate::{CAnswer, CSignedAnswer, answers};
 use enquiry::cells;
 
-#[unsafe(no_mangle)]
-pub extern "C" fn parvusek_improvement(
-    run: &[u8],
-    history: &[u8],
-    age: u32,
-    year: u32,
-) -> CSignedAnswer
+pub fn parvusek_improvement(run: &[u8], history: &[u8], age: u32, year: u32) -> CSignedAnswer
     ensures { result ≡ signed_answer_of (improvement_enquiry run.now history.now age year) }
 {
     answers::signed_answer_of(cells::improvement(run, history, age, year))
 }
 
-#[unsafe(no_mangle)]
-pub extern "C" fn parvusek_factor(run: &[u8], history: &[u8], age: u32, year: u32) -> CAnswer
+pub fn parvusek_factor(run: &[u8], history: &[u8], age: u32, year: u32) -> CAnswer
     ensures { result ≡ answer_of (factor_enquiry run.now history.now age year) }
 {
     answers::answer_of(cells::factor(run, history, age, year))
 }
 
-#[unsafe(no_mangle)]
-pub extern "C" fn parvusek_rate(run: &[u8], history: &[u8], age: u32, year: u32) -> CAnswer
+pub fn parvusek_rate(run: &[u8], history: &[u8], age: u32, year: u32) -> CAnswer
     ensures { result ≡ answer_of (rate_enquiry run.now history.now age year) }
 {
     answers::answer_of(cells::rate(run, history, age, year))

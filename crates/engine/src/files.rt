@@ -10,16 +10,14 @@ ghost use Rattle.engine.specs.Enquiry.{refusal_of};
 use crate::answers;
 use outcome::Refusal;
 
-#[unsafe(no_mangle)]
-pub extern "C" fn parvusek_check_basis(run: &[u8]) -> Refusal
+pub fn parvusek_check_basis(run: &[u8]) -> Refusal
     ensures { result ≡ refusal_of (run_check run.now) }
 {
     answers::refusal_of(run_check::check_run(run))
 }
 
 // The data run of a basis file, into the front of `run`.
-#[unsafe(no_mangle)]
-pub extern "C" fn parvusek_read_basis(file: &[u8], run: &mut [u8]) -> Refusal
+pub fn parvusek_read_basis(file: &[u8], run: &mut [u8]) -> Refusal
     ensures value { result ≡ refusal_of (read_check file.now run.old) }
     ensures run_after { run.new ≡ written (read_check file.now run.old) (run_in file.now) run.old }
 {
@@ -27,8 +25,7 @@ pub extern "C" fn parvusek_read_basis(file: &[u8], run: &mut [u8]) -> Refusal
 }
 
 // The basis file of a data run, into the front of `file`.
-#[unsafe(no_mangle)]
-pub extern "C" fn parvusek_write_basis(run: &[u8], file: &mut [u8]) -> Refusal
+pub fn parvusek_write_basis(run: &[u8], file: &mut [u8]) -> Refusal
     ensures value { result ≡ refusal_of (write_check run.now file.old) }
     ensures file_after { file.new ≡ written (write_check run.now file.old) (file_of run.now) file.old }
 {
@@ -36,8 +33,7 @@ pub extern "C" fn parvusek_write_basis(run: &[u8], file: &mut [u8]) -> Refusal
 }
 
 // The MPB1 file of a data run of either form, into the front of `file`.
-#[unsafe(no_mangle)]
-pub extern "C" fn parvusek_write_old_form(run: &[u8], file: &mut [u8]) -> Refusal
+pub fn parvusek_write_old_form(run: &[u8], file: &mut [u8]) -> Refusal
     ensures value { result ≡ refusal_of (write_old_check run.now file.old) }
     ensures file_after { file.new ≡ written (write_old_check run.now file.old) (old_file_of run.now) file.old }
 {
@@ -45,8 +41,7 @@ pub extern "C" fn parvusek_write_old_form(run: &[u8], file: &mut [u8]) -> Refusa
 }
 
 // The short form of a data run with one long-term rate, into the front of `out`.
-#[unsafe(no_mangle)]
-pub extern "C" fn parvusek_short_form(run: &[u8], rate: i32, out: &mut [u8]) -> Refusal
+pub fn parvusek_short_form(run: &[u8], rate: i32, out: &mut [u8]) -> Refusal
     ensures value { result ≡ refusal_of (short_check run.now rate out.old) }
     ensures out_after { out.new ≡ written (short_check run.now rate out.old) (short_form_of run.now rate) out.old }
 {

@@ -1,5 +1,5 @@
 // The engine's surface: what a host calls, from C or any language that can call C, as include/parvusek.h declares it.
-// Every function is total: any slice, any number.
+// Every function is total: any slice, any number. engine_c exports them to C.
 pub mod answers;
 pub mod cells;
 pub mod files;

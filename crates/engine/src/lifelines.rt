@@ -50,20 +50,13 @@ fn lifeline_of_step(s: LifelineStep) -> CLifeline
     }
 }
 
-#[unsafe(no_mangle)]
-pub extern "C" fn parvusek_lifeline_start(
-    run: &[u8],
-    history: &[u8],
-    age: u32,
-    year: u32,
-) -> CLifeline
+pub fn parvusek_lifeline_start(run: &[u8], history: &[u8], age: u32, year: u32) -> CLifeline
     ensures { result ≡ lifeline_of_start (start_at run.now history.now age year) }
 {
     lifeline_of_start(cohort::start_at(run, history, age, year))
 }
 
-#[unsafe(no_mangle)]
-pub extern "C" fn parvusek_lifeline_step(
+pub fn parvusek_lifeline_step(
     run: &[u8],
     history: &[u8],
     age: u32,

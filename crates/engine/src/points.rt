@@ -9,15 +9,13 @@ use grid_record::Point;
 use outcome::Refusal;
 use small_set::{Questions, SmallSet};
 
-#[unsafe(no_mangle)]
-pub extern "C" fn parvusek_small_set(run: &[u8], history: &[u8], questions: Questions) -> SmallSet
+pub fn parvusek_small_set(run: &[u8], history: &[u8], questions: Questions) -> SmallSet
     ensures { result ≡ small_set_of run.now history.now questions }
 {
     small_set::small_set(run, history, questions)
 }
 
-#[unsafe(no_mangle)]
-pub extern "C" fn parvusek_grid(run: &[u8], history: &[u8], points: &mut [Point]) -> Refusal
+pub fn parvusek_grid(run: &[u8], history: &[u8], points: &mut [Point]) -> Refusal
     ensures value { result ≡ refusal_of (grid_check run.now history.now (length points.old)) }
     ensures points_after { points.new ≡ grid_of run.now history.now points.old }
 {

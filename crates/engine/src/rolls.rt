@@ -8,16 +8,14 @@ use crate::{CAnswer, answers};
 use outcome::Refusal;
 use roll::calls;
 
-#[unsafe(no_mangle)]
-pub extern "C" fn parvusek_roll_open(year: u32, roll: &mut [u64]) -> Refusal
+pub fn parvusek_roll_open(year: u32, roll: &mut [u64]) -> Refusal
     ensures value { result ≡ refusal_of (roll_check roll.old) }
     ensures roll_after { roll.new ≡ after_call roll.old (opened_roll year roll.old) }
 {
     answers::refusal_of(calls::open_roll(year, roll))
 }
 
-#[unsafe(no_mangle)]
-pub extern "C" fn parvusek_roll_join(
+pub fn parvusek_roll_join(
     run: &[u8],
     history: &[u8],
     roll: &mut [u64],
@@ -32,16 +30,14 @@ pub extern "C" fn parvusek_roll_join(
     answers::answer_of(calls::join(run, history, roll, number, age, pension))
 }
 
-#[unsafe(no_mangle)]
-pub extern "C" fn parvusek_roll_leave(roll: &mut [u64], number: u32) -> CAnswer
+pub fn parvusek_roll_leave(roll: &mut [u64], number: u32) -> CAnswer
     ensures value { result ≡ answer_of (total_said (left_roll roll.old number)) }
     ensures roll_after { roll.new ≡ after_call roll.old (left_roll roll.old number) }
 {
     answers::answer_of(calls::leave(roll, number))
 }
 
-#[unsafe(no_mangle)]
-pub extern "C" fn parvusek_roll_total(roll: &[u64]) -> CAnswer
+pub fn parvusek_roll_total(roll: &[u64]) -> CAnswer
     ensures { result ≡ answer_of (total_answer roll.now) }
 {
     answers::answer_of(calls::total(roll))

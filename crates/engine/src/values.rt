@@ -9,8 +9,7 @@ use enquiry::values;
 use survivorship::Kind;
 
 // The deferment is the number of years.
-#[unsafe(no_mangle)]
-pub extern "C" fn parvusek_period_survivorship(
+pub fn parvusek_period_survivorship(
     run: &[u8],
     history: &[u8],
     age: u32,
@@ -22,8 +21,7 @@ pub extern "C" fn parvusek_period_survivorship(
     answers::answer_of(values::survivorship(run, history, Kind::Period, age, deferment, year))
 }
 
-#[unsafe(no_mangle)]
-pub extern "C" fn parvusek_cohort_survivorship(
+pub fn parvusek_cohort_survivorship(
     run: &[u8],
     history: &[u8],
     age: u32,
@@ -35,8 +33,7 @@ pub extern "C" fn parvusek_cohort_survivorship(
     answers::answer_of(values::survivorship(run, history, Kind::Cohort, age, deferment, year))
 }
 
-#[unsafe(no_mangle)]
-pub extern "C" fn parvusek_period_expectation(
+pub fn parvusek_period_expectation(
     run: &[u8],
     history: &[u8],
     age: u32,
@@ -48,8 +45,7 @@ pub extern "C" fn parvusek_period_expectation(
     answers::answer_of(values::expectation(run, history, Kind::Period, age, deferment, year))
 }
 
-#[unsafe(no_mangle)]
-pub extern "C" fn parvusek_cohort_expectation(
+pub fn parvusek_cohort_expectation(
     run: &[u8],
     history: &[u8],
     age: u32,
@@ -61,8 +57,7 @@ pub extern "C" fn parvusek_cohort_expectation(
     answers::answer_of(values::expectation(run, history, Kind::Cohort, age, deferment, year))
 }
 
-#[unsafe(no_mangle)]
-pub extern "C" fn parvusek_period_annuity(
+pub fn parvusek_period_annuity(
     run: &[u8],
     history: &[u8],
     age: u32,
@@ -74,8 +69,7 @@ pub extern "C" fn parvusek_period_annuity(
     answers::answer_of(values::annuity(run, history, Kind::Period, age, deferment, year))
 }
 
-#[unsafe(no_mangle)]
-pub extern "C" fn parvusek_cohort_annuity(
+pub fn parvusek_cohort_annuity(
     run: &[u8],
     history: &[u8],
     age: u32,

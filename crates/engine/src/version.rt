@@ -8,8 +8,7 @@ const MINOR: u32 = 8;
 
 const PATCH: u32 = 0;
 
-#[unsafe(no_mangle)]
-pub extern "C" fn parvusek_version() -> u32
+pub fn parvusek_version() -> u32
     ensures { result ≡ version }
 {
     10_000 * MAJOR + 100 * MINOR + PATCH
