@@ -1,4 +1,6 @@
 // P as each form of a data run has it: read in hundredths of a per cent, and written.
+#![tactic(auto)]
+
 ghost use Rattle.std.specs.Prelude.{◌≡◌, ◌+◌, ◌*◌, ◌≤◌, length};
 ghost use Rattle.layout.specs.Layout.{width_of, proportion_of, hundredths_of, run_length, proportion_at, proportion_bytes, greatest_proportion};
 ghost use Rattle.layout.specs.Layout.{mpb1, mpb2};
