@@ -1,4 +1,3 @@
-mod Product
 mod WordSums
 mod Turns
 pub mod Blocks

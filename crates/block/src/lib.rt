@@ -1,4 +1,6 @@
 // One block of a file, its number in 2 bytes, 506 data bytes and its check in 4; and the check of blocks one after the other.
+#![tactic(auto)]
+
 ghost use Rattle.std.specs.Prelude.{◌≡◌, ◌+◌, ◌*◌, ◌%◌, ◌<◌, ◌≤◌, length};
 ghost use Rattle.outcome.specs.Outcome.{finding};
 ghost use Rattle.lent.specs.Lent.{placed};
