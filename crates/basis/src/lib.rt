@@ -1,4 +1,6 @@
 // The basis: what an accepted data run holds.
+#![tactic(auto)]
+
 pub mod fields;
 
 // The terms by which an initial rate of improvement gives way to a long-term rate: I, L, T (years) and P (remaining at
