@@ -1,4 +1,6 @@
 // The check of one field of a data run, or of the data of a history: each of its numbers against the field's limits.
+#![tactic(auto)]
+
 ghost use Rattle.std.specs.Prelude.{◌≡◌, ◌+◌, ◌*◌, ◌≤◌, length};
 ghost use Rattle.outcome.specs.Outcome.{passes, finding};
 ghost use Rattle.layout.specs.Layout.{width_of, value_at};
