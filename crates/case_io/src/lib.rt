@@ -1,9 +1,10 @@
 // What the programs that run the cases of the reference model share: room for a basis and a history, and the lines they print.
+#![tactic(auto)]
+
 ghost use Rattle.std.specs.Prelude.{◌≡◌, ◌≤◌, length, cond};
 ghost use Rattle.reply_text.specs.Reply.{refusal_line, by_value};
 ghost use Rattle.case_io.specs.Lines.{named_line, numbers_line};
 
-use libc::STDOUT_FILENO;
 use outcome::Refusal;
 use reply_text::{ReplyText, digits, reply};
 
@@ -25,12 +26,12 @@ pub fn history_room() -> [u8; 90112]
 }
 
 // ---- lines
-// Each prints a line and answers it by value, so that its bytes are promised.
-fn print(bytes: [u8; 192], length: usize) -> ReplyText
+// Each prints a line and answers it by value, so that its bytes are promised. Whether it could be written nobody asks.
+fn print(rt: &impl Print, bytes: [u8; 192], length: usize) -> ReplyText
     requires { length ≤ 192 }
     ensures { result ≡ record { bytes = bytes; len = length } }
 {
-    io::write_all(STDOUT_FILENO, &bytes[..length]);
+    let _ = rt.write_all(&bytes[..length]);
     ReplyText {
         bytes: bytes,
         len: length,
@@ -38,23 +39,23 @@ fn print(bytes: [u8; 192], length: usize) -> ReplyText
 }
 
 // `refused`, the refusal's number and its places.
-pub fn print_refused(x: Refusal) -> ReplyText
+pub fn print_refused(rt: &impl Print, x: Refusal) -> ReplyText
     ensures { result ≡ by_value (refusal_line x) }
 {
     let mut line = [0u8; 192];
     let end = reply::put_refusal(&mut line, 0, x);
-    print(line, end)
+    print(rt, line, end)
 }
 
 // A number behind a word.
-pub fn print_named(word: &[u8], n: u64) -> ReplyText
+pub fn print_named(rt: &impl Print, word: &[u8], n: u64) -> ReplyText
     requires { length word.now ≤ 7 }
     ensures { result ≡ by_value (named_line word.now n) }
 {
     let mut line = [0u8; 192];
     let at = digits::put_text(&mut line, 0, word);
     let end = digits::put_number(&mut line, at, n, b'\n');
-    print(line, end)
+    print(rt, line, end)
 }
 
 // What follows a number: a space, or byte 10 after the last.
@@ -65,7 +66,7 @@ fn separator(last: bool) -> u8
 }
 
 // Numbers, a space between two.
-pub fn print_numbers(numbers: &[u64]) -> ReplyText
+pub fn print_numbers(rt: &impl Print, numbers: &[u64]) -> ReplyText
     requires { length numbers.now ≤ 4 }
     ensures { result ≡ by_value (numbers_line numbers.now) }
 {
@@ -74,5 +75,5 @@ pub fn print_numbers(numbers: &[u64]) -> ReplyText
     for i in 0..numbers.len() {
         at = digits::put_number(&mut line, at, numbers[i], separator(i + 1 == numbers.len()));
     }
-    print(line, at)
+    print(rt, line, at)
 }

@@ -5,11 +5,14 @@
 // then period and cohort: 3 and 4 survivorship, 5 and 6 expectation, 7 and 8 annuity), age, deferment and year (4 each), where its
 // data run starts in those bytes (4) and its length (4), and the same of its history. A line a case: `value` and the number, or
 // `refused` and the refusal's number and places.
+#![tactic(auto)]
+
 ghost use Rattle.std.specs.Prelude.{◌≡◌, ◌≤◌, length, nat_abs};
 
 use case_io::MOST_CASES;
-use libc::STDIN_FILENO;
 use outcome::{Answer, Refusal, SignedAnswer};
+use reading::read_full;
+use std::io::Read;
 use survivorship::Kind;
 
 // ---- what is lent
@@ -23,9 +26,9 @@ fn room() -> [u8; ROOM]
 }
 
 // Reads the number of bytes that are lent, at most those there is room for.
-fn read_length() -> u32 {
+fn read_length(stdin: &mut impl Read) -> u32 {
     let mut bytes = [0u8; 4];
-    io::read_full(STDIN_FILENO, &mut bytes);
+    read_full(stdin, &mut bytes);
     let length = little_endian::read_u32(&bytes, 0);
     if length < ROOM as u32 {
         length
@@ -47,13 +50,13 @@ fn stretch(bytes: &[u8], start: usize, length: usize) -> &[u8]
 }
 
 // ---- a case
-fn print_answer(a: Answer) {
+fn print_answer(rt: &impl Print, a: Answer) {
     match a {
         Answer::Value(n) => {
-            case_io::print_named(b"value ", n);
+            case_io::print_named(rt, b"value ", n);
         }
         Answer::Refused(r) => {
-            case_io::print_refused(r);
+            case_io::print_refused(rt, r);
         }
     }
 }
@@ -65,19 +68,19 @@ fn magnitude(n: i64) -> u64
     if n < 0 { (-1 - n) as u64 + 1 } else { n as u64 }
 }
 
-fn print_signed(n: i64) {
+fn print_signed(rt: &impl Print, n: i64) {
     if n < 0 {
-        case_io::print_named(b"value -", magnitude(n));
+        case_io::print_named(rt, b"value -", magnitude(n));
     } else {
-        case_io::print_named(b"value ", magnitude(n));
+        case_io::print_named(rt, b"value ", magnitude(n));
     }
 }
 
-fn print_signed_answer(a: SignedAnswer) {
+fn print_signed_answer(rt: &impl Print, a: SignedAnswer) {
     match a {
-        SignedAnswer::Value(n) => print_signed(n),
+        SignedAnswer::Value(n) => print_signed(rt, n),
         SignedAnswer::Refused(r) => {
-            case_io::print_refused(r);
+            case_io::print_refused(rt, r);
         }
     }
 }
@@ -107,18 +110,26 @@ fn answer(run: &[u8], history: &[u8], kind: u8, age: u32, deferment: u32, year: 
     }
 }
 
-fn run_case(run: &[u8], history: &[u8], kind: u8, age: u32, deferment: u32, year: u32) {
+fn run_case(
+    rt: &impl Print,
+    run: &[u8],
+    history: &[u8],
+    kind: u8,
+    age: u32,
+    deferment: u32,
+    year: u32,
+) {
     if kind == 0 {
-        print_signed_answer(enquiry::cells::improvement(run, history, age, year));
+        print_signed_answer(rt, enquiry::cells::improvement(run, history, age, year));
     } else {
-        print_answer(answer(run, history, kind, age, deferment, year));
+        print_answer(rt, answer(run, history, kind, age, deferment, year));
     }
 }
 
 // Reads a case and works it; false at the end of the input.
-fn next_case(lent: &[u8]) -> bool {
+fn next_case(rt: &impl Print, stdin: &mut impl Read, lent: &[u8]) -> bool {
     let mut asked = [0u8; 29];
-    if io::read_full(STDIN_FILENO, &mut asked) < 29 {
+    if read_full(stdin, &mut asked) < 29 {
         return false;
     }
     let age = little_endian::read_u32(&asked, 1);
@@ -130,25 +141,26 @@ fn next_case(lent: &[u8]) -> bool {
     let history_length = little_endian::read_u32(&asked, 25);
     let run = stretch(lent, start as usize, length as usize);
     let history = stretch(lent, history_start as usize, history_length as usize);
-    run_case(run, history, asked[0], age, deferment, year);
+    run_case(rt, run, history, asked[0], age, deferment, year);
     true
 }
 
-fn run_cases(lent: &[u8]) -> u64 {
+fn run_cases(rt: &impl Print, stdin: &mut impl Read, lent: &[u8]) -> u64 {
     let mut cases: u64 = 0;
-    while cases < MOST_CASES && next_case(lent) {
+    while cases < MOST_CASES && next_case(rt, stdin, lent) {
         cases += 1;
     }
     cases
 }
 
-fn work(lent: &mut [u8]) {
-    io::read_full(STDIN_FILENO, lent);
-    case_io::print_named(b"cases ", run_cases(lent));
+fn work(rt: &impl Print, stdin: &mut impl Read, lent: &mut [u8]) {
+    read_full(stdin, lent);
+    case_io::print_named(rt, b"cases ", run_cases(rt, stdin, lent));
 }
 
-fn main() {
+fn main(rt: HostRuntime) {
+    let mut stdin = rt.stdin();
     let mut space = room();
-    let length = io::count(read_length() as isize, &space);
-    work(&mut space[..length]);
+    let length = (read_length(&mut stdin) as usize).min(space.len());
+    work(&rt, &mut stdin, &mut space[..length]);
 }

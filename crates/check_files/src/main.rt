@@ -7,13 +7,16 @@
 // for kind 0, else its data run, cut or extended with zero bytes to the input length and then patched; the output is filled with
 // place % 251. A line a case: the refusal's number and places, zeros where there is none, and the sum of (place + 1) * byte over
 // the output after the call.
+#![tactic(auto)]
+
 ghost use Rattle.std.specs.Prelude.{◌≡◌, ◌<◌, ◌≤◌, length};
 ghost use Rattle.layout.specs.Layout.{mpb1, mpb2, file_length};
 
 use basis_file::{read, write};
 use case_io::MOST_CASES;
-use libc::STDIN_FILENO;
 use outcome::Check;
+use reading::read_full;
+use std::io::Read;
 
 // ---- the input and the output of a case
 fn old_file_room() -> [u8; layout::MPB1_FILE_LENGTH]
@@ -52,18 +55,18 @@ fn lay_base(file: &[u8], kind: u8, input: &mut [u8])
 }
 
 // One patch of standard input.
-fn patch(input: &mut [u8]) {
+fn patch(stdin: &mut impl Read, input: &mut [u8]) {
     let mut read = [0u8; 3];
-    io::read_full(STDIN_FILENO, &mut read);
+    read_full(stdin, &mut read);
     let at = little_endian::read_u16(&read, 0) as usize;
     if at < input.len() {
         input[at] = read[2];
     }
 }
 
-fn patch_all(input: &mut [u8], patches: u32) {
+fn patch_all(stdin: &mut impl Read, input: &mut [u8], patches: u32) {
     for _ in 0..patches {
-        patch(input);
+        patch(stdin, input);
     }
 }
 
@@ -85,19 +88,19 @@ fn sum_of(output: &[u8]) -> u32
 {
     let mut sum: u32 = 0;
     for i in 0..output.len() {
-        sum = std::num::wrapping_add_u32(sum, weighed(i, output[i]));
+        sum = sum.wrapping_add(weighed(i, output[i]));
     }
     sum
 }
 
 // The refusal's number and places, or zeros, and the sum.
-fn print_answer(c: Check, sum: u32) {
+fn print_answer(rt: &impl Print, c: Check, sum: u32) {
     match c {
         Check::Passed => {
-            case_io::print_numbers(&[0, 0, 0, sum as u64]);
+            case_io::print_numbers(rt, &[0, 0, 0, sum as u64]);
         }
         Check::Refused(r) => {
-            case_io::print_numbers(&[r.number as u64, r.first, r.second, sum as u64]);
+            case_io::print_numbers(rt, &[r.number as u64, r.first, r.second, sum as u64]);
         }
     }
 }
@@ -115,53 +118,68 @@ fn answer(kind: u8, rate: i32, input: &[u8], output: &mut [u8]) -> Check {
     short_form::short_form(input, rate, output)
 }
 
-fn work(file: &[u8], header: &[u8], input: &mut [u8], output: &mut [u8])
+fn work(
+    rt: &impl Print,
+    stdin: &mut impl Read,
+    file: &[u8],
+    header: &[u8],
+    input: &mut [u8],
+    output: &mut [u8],
+)
     requires { (length header.now ≡ 12) × (length input.old ≤ 5200) × (length output.old ≤ 5200) }
 {
     let kind = header[0];
     lay_base(file, kind, input);
-    patch_all(input, little_endian::read_u16(header, 10));
+    patch_all(stdin, input, little_endian::read_u16(header, 10));
     fill(output);
     let c = answer(kind, little_endian::read_i32(header, 6), input, output);
-    print_answer(c, sum_of(output));
+    print_answer(rt, c, sum_of(output));
 }
 
-fn run_case(file: &[u8], header: &[u8])
+fn run_case(rt: &impl Print, stdin: &mut impl Read, file: &[u8], header: &[u8])
     requires { length header.now ≡ 12 }
 {
     let mut input = case_io::basis_room();
     let mut output = case_io::basis_room();
-    let given = io::count(little_endian::read_u16(header, 2) as isize, &input);
-    let lent = io::count(little_endian::read_u16(header, 4) as isize, &output);
-    work(file, header, &mut input[..given], &mut output[..lent]);
+    let given = (little_endian::read_u16(header, 2) as usize).min(input.len());
+    let lent = (little_endian::read_u16(header, 4) as usize).min(output.len());
+    work(
+        rt,
+        stdin,
+        file,
+        header,
+        &mut input[..given],
+        &mut output[..lent],
+    );
 }
 
 // Reads a case and works it on its base; false at the end of the input.
-fn next_case(old: &[u8], new: &[u8]) -> bool {
+fn next_case(rt: &impl Print, stdin: &mut impl Read, old: &[u8], new: &[u8]) -> bool {
     let mut header = [0u8; 12];
-    if io::read_full(STDIN_FILENO, &mut header) < 12 {
+    if read_full(stdin, &mut header) < 12 {
         return false;
     }
     if header[1] == 0 {
-        run_case(old, &header);
+        run_case(rt, stdin, old, &header);
     } else {
-        run_case(new, &header);
+        run_case(rt, stdin, new, &header);
     }
     true
 }
 
-fn run_cases(old: &[u8], new: &[u8]) -> u64 {
+fn run_cases(rt: &impl Print, stdin: &mut impl Read, old: &[u8], new: &[u8]) -> u64 {
     let mut cases: u64 = 0;
-    while cases < MOST_CASES && next_case(old, new) {
+    while cases < MOST_CASES && next_case(rt, stdin, old, new) {
         cases += 1;
     }
     cases
 }
 
-fn main() {
+fn main(rt: HostRuntime) {
+    let mut stdin = rt.stdin();
     let mut old = old_file_room();
     let mut new = new_file_room();
-    io::read_full(STDIN_FILENO, &mut old);
-    io::read_full(STDIN_FILENO, &mut new);
-    case_io::print_named(b"cases ", run_cases(&old, &new));
+    read_full(&mut stdin, &mut old);
+    read_full(&mut stdin, &mut new);
+    case_io::print_named(&rt, b"cases ", run_cases(&rt, &mut stdin, &old, &new));
 }

@@ -4,12 +4,15 @@
 // history (4), the data run and the history file. A line a state: the year, and the sum of age × number over the ages from 20
 // to 150, the number being the factor, or for a refusal 4 × U + 10,000 × its number + its year. A refused basis has the
 // line of its refusal alone.
+#![tactic(auto)]
+
 ghost use Rattle.std.specs.Prelude.{◌≡◌, ◌≤◌, length};
 ghost use Rattle.history.specs.History.{Workable};
 
 use case_io::MOST_CASES;
-use libc::STDIN_FILENO;
 use outcome::Check;
+use reading::read_full;
+use std::io::Read;
 
 fn wide(n: u32) -> u64
     ensures { result ≤ 4294967295 }
@@ -37,58 +40,59 @@ fn weighed(state: &[u32]) -> u64
     sum
 }
 
-fn print_state(year: u32, state: &[u32])
+fn print_state(rt: &impl Print, year: u32, state: &[u32])
     requires { length state.now ≡ 131 }
 {
-    case_io::print_numbers(&[year as u64, weighed(state)]);
+    case_io::print_numbers(rt, &[year as u64, weighed(state)]);
 }
 
 // The states of all years, and the step after the last year.
-fn sweep_years(run: &[u8], history: &[u8])
+fn sweep_years(rt: &impl Print, run: &[u8], history: &[u8])
     requires { Workable run.now history.now }
 {
     let mut state = sweep::start();
     let mut year = basis::fields::base_year(run);
     while year <= 2260 {
-        print_state(year, &state);
+        print_state(rt, year, &state);
         sweep::step(run, history, year, &mut state);
         year += 1;
     }
-    print_state(year, &state);
+    print_state(rt, year, &state);
 }
 
-fn sweep_case(run: &[u8], history: &[u8]) {
+fn sweep_case(rt: &impl Print, run: &[u8], history: &[u8]) {
     match history::check::check_run_and_history(run, history) {
-        Check::Passed => sweep_years(run, history),
+        Check::Passed => sweep_years(rt, run, history),
         Check::Refused(r) => {
-            case_io::print_refused(r);
+            case_io::print_refused(rt, r);
         }
     }
 }
 
 // Reads a case and works it; false at the end of the input.
-fn next_case() -> bool {
+fn next_case(rt: &impl Print, stdin: &mut impl Read) -> bool {
     let mut head = [0u8; 8];
-    if io::read_full(STDIN_FILENO, &mut head) < 8 {
+    if read_full(stdin, &mut head) < 8 {
         return false;
     }
     let mut run = case_io::basis_room();
     let mut history = case_io::history_room();
-    let given = io::count(little_endian::read_u32(&head, 0) as isize, &run);
-    let lent = io::count(little_endian::read_u32(&head, 4) as isize, &history);
-    read_case(&mut run[..given], &mut history[..lent]);
+    let given = (little_endian::read_u32(&head, 0) as usize).min(run.len());
+    let lent = (little_endian::read_u32(&head, 4) as usize).min(history.len());
+    read_case(rt, stdin, &mut run[..given], &mut history[..lent]);
     true
 }
 
-fn read_case(run: &mut [u8], history: &mut [u8]) {
-    io::read_full(STDIN_FILENO, run);
-    io::read_full(STDIN_FILENO, history);
-    sweep_case(run, history);
+fn read_case(rt: &impl Print, stdin: &mut impl Read, run: &mut [u8], history: &mut [u8]) {
+    read_full(stdin, run);
+    read_full(stdin, history);
+    sweep_case(rt, run, history);
 }
 
-fn main() {
+fn main(rt: HostRuntime) {
+    let mut stdin = rt.stdin();
     let mut cases: u64 = 0;
-    while cases < MOST_CASES && next_case() {
+    while cases < MOST_CASES && next_case(&rt, &mut stdin) {
         cases += 1;
     }
 }

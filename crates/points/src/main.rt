@@ -1,18 +1,22 @@
 // The points program: answers the lines of standard input by the basis in basis.bin and the history in history.bin, on
 // standard output. It moves bytes; what they mean is enquiry_lines' to say.
-ghost use Rattle.std.specs.Prelude.{◌≡◌, ◌+◌, ◌*◌, ◌≤◌, length};
+#![tactic(auto)]
+
+ghost use Rattle.std.specs.Prelude.{◌≡◌, ◌+◌, ◌*◌, ◌≤◌, length, take};
 ghost use Rattle.layout.specs.Layout.{mpb2, run_length, file_length};
 ghost use Rattle.history.specs.History.{Workable};
 ghost use Rattle.factor_table.specs.FactorTable.{table_length};
-ghost use Rattle.io.specs.Counts.{IsPrefixLen};
 ghost use Rattle.enquiry_lines.specs.State.{empty_after, reply_room, Ready};
 ghost use Rattle.points.specs.Blocks.{ReadyForBlocks};
 
 use basis_file::read::length_needed;
 use enquiry_lines::{Pending, lines, open_basis};
 use factor_table::TABLE_LENGTH;
-use libc::{ENOENT, STDIN_FILENO, STDOUT_FILENO};
 use outcome::Check;
+use reading::read_full;
+use std::fs::File;
+use std::io::{Error, ErrorKind, Read};
+use std::rt::Files;
 
 // What a block leaves: the unfinished line, whether it was the last block, and whether it was read and its replies were
 // written.
@@ -67,50 +71,66 @@ fn table_room() -> [u32; TABLE_LENGTH]
     [0; TABLE_LENGTH]
 }
 
-// Whether a file has been read to its end. A read that fails is told on standard error.
-fn is_read(fd: i32, told: &[u8]) -> bool {
-    let mut more = [0u8; 1];
-    let got = libc::read(fd, &mut more);
-    if got < 0 {
-        os::fail(told);
-    }
-    got == 0
+// Writes a line to standard error: what failed, and why.
+fn tell(rt: &impl Eprint, told: &str, error: Error) {
+    let _ = eprintln!(rt; "{told}: {error}");
 }
 
-// How many bytes of a file stand at the start of `file`. A missing file has none. One that is there and cannot be opened or
-// read fills the room, which is longer than any such file may be, so that its length is refused.
-fn read_named(name: &[u8], told: &[u8], file: &mut [u8]) -> usize
-    ensures { IsPrefixLen result file.new }
-{
-    let fd = os::open_read(name);
-    if fd < 0 {
-        if os::errno() == ENOENT {
-            return 0;
+// Whether a file has been read to its end. A read that fails is told on standard error.
+fn is_read(rt: &impl Eprint, file: &mut impl Read, told: &str) -> bool {
+    let mut more = [0u8; 1];
+    match file.read(&mut more) {
+        Ok(got) => got == 0,
+        Err(error) => {
+            tell(rt, told, error);
+            false
         }
-        os::fail(told);
-        return file.len();
     }
-    let n = io::read_full(fd, file);
-    let is_whole = is_read(fd, told);
-    libc::close(fd);
-    if is_whole {
+}
+
+// How many bytes of a file stand at the start of `room`. A missing file has none. One that is there and cannot be opened or
+// read fills the room, which is longer than any such file may be, so that its length is refused.
+fn read_named(rt: &(impl Files + Eprint), name: &str, told: &str, room: &mut [u8]) -> usize
+    ensures within { result ≤ length room.new }
+    ensures in_front { result ≡ length (take result room.new) }
+{
+    let mut file = match File::open(rt, name) {
+        Ok(file) => file,
+        Err(error) => {
+            if error.kind() == ErrorKind::NotFound {
+                return 0;
+            }
+            tell(rt, told, error);
+            return room.len();
+        }
+    };
+    let n = read_full(&mut file, room);
+    if is_read(rt, &mut file, told) {
         return n;
     }
-    file.len()
+    room.len()
 }
 
 // Writes a part of the output; where that fails, standard error says that the output is not whole.
-fn write_out(part: &[u8]) -> bool {
-    let is_written = io::write_all(STDOUT_FILENO, part);
-    if !is_written {
-        os::fail(b"points: the output is not whole; standard output");
+fn write_out(rt: &(impl Print + Eprint), part: &[u8]) -> bool {
+    match rt.write_all(part) {
+        Ok(()) => true,
+        Err(error) => {
+            tell(
+                rt,
+                "points: the output is not whole; standard output",
+                error,
+            );
+            false
+        }
     }
-    is_written
 }
 
 // Reads a block and answers the lines that end in it; `blocks` more can follow. The last block is empty, or one that cannot
 // be read or whose replies are not taken: then no further line is answered, and standard error says so.
 fn answer_block(
+    rt: &(impl Print + Eprint),
+    input: &mut impl Read,
     run: &[u8],
     history: &[u8],
     table: &[u32],
@@ -122,19 +142,20 @@ fn answer_block(
     requires { ReadyForBlocks run.now history.now table.now s (blocks + 1) part.old out.old }
     ensures { ReadyForBlocks run.now history.now table.now result.pending blocks part.new out.new }
 {
-    let got = libc::read(STDIN_FILENO, part);
-    if got < 0 {
-        os::fail(b"points: the input is not whole; standard input");
-        return Turn {
-            pending: s,
-            is_last: true,
-            is_whole: false,
-        };
-    }
-    let n = io::count(got, part);
+    let n = match input.read(part) {
+        Ok(n) => n,
+        Err(error) => {
+            tell(rt, "points: the input is not whole; standard input", error);
+            return Turn {
+                pending: s,
+                is_last: true,
+                is_whole: false,
+            };
+        }
+    };
     let f = lines::feed(run, history, table, s, &part[..n], out, 0);
     let at = f.at;
-    let is_written = write_out(&out[..at]);
+    let is_written = write_out(rt, &out[..at]);
     let pending = f.pending;
     Turn {
         pending: pending,
@@ -144,7 +165,15 @@ fn answer_block(
 }
 
 // Nothing says that the input ends, so the blocks are counted down from a number that no run uses up.
-fn answer_blocks(run: &[u8], history: &[u8], table: &[u32], part: &mut [u8], out: &mut [u8]) -> Turn
+fn answer_blocks(
+    rt: &(impl Print + Eprint),
+    input: &mut impl Read,
+    run: &[u8],
+    history: &[u8],
+    table: &[u32],
+    part: &mut [u8],
+    out: &mut [u8],
+) -> Turn
     requires { ReadyForBlocks run.now history.now table.now (empty_after 0) 1000000000000000 part.old out.old }
     ensures { Ready run.now history.now table.now result.pending 1024 out.new 0 }
 {
@@ -153,7 +182,7 @@ fn answer_blocks(run: &[u8], history: &[u8], table: &[u32], part: &mut [u8], out
     let mut blocks: u64 = 1_000_000_000_000_000;
     while 0 < blocks {
         blocks -= 1;
-        let t = answer_block(run, history, table, pending, part, out, blocks);
+        let t = answer_block(rt, input, run, history, table, pending, part, out, blocks);
         let next = t.pending;
         pending = next;
         is_whole = t.is_whole;
@@ -170,29 +199,37 @@ fn answer_blocks(run: &[u8], history: &[u8], table: &[u32], part: &mut [u8], out
 
 // All of standard input: its blocks, then a last line that lacks its byte 10. The basis stays the same, so that the factors
 // of all ages and years are worked out once, before the first line.
-fn answer_input(run: &[u8], history: &[u8], table: &mut [u32], part: &mut [u8], out: &mut [u8])
+fn answer_input(
+    rt: &(impl Print + Eprint),
+    input: &mut impl Read,
+    run: &[u8],
+    history: &[u8],
+    table: &mut [u32],
+    part: &mut [u8],
+    out: &mut [u8],
+)
     requires workable { Workable run.now history.now × (length table.old ≡ table_length) }
     requires part_len_bound { (length part.old ≤ 1024) × (reply_room * 1024 ≤ length out.old) }
 {
     factor_table::fill_table(run, history, table);
-    let t = answer_blocks(run, history, table, part, out);
+    let t = answer_blocks(rt, input, run, history, table, part, out);
     if !t.is_whole {
         return;
     }
     let at = lines::finish(run, history, table, t.pending, out, 0);
-    write_out(&out[..at]);
+    write_out(rt, &out[..at]);
 }
 
-fn main() {
+fn main(rt: HostRuntime) {
     let mut file = file_room();
     let mut history = history_room();
     let mut run = run_room();
     let mut out = reply_room();
-    let n = read_named(b"basis.bin", b"points: basis.bin", &mut file);
-    let m = read_named(b"history.bin", b"points: history.bin", &mut history);
+    let n = read_named(&rt, "basis.bin", "points: basis.bin", &mut file);
+    let m = read_named(&rt, "history.bin", "points: history.bin", &mut history);
     let o = open_basis::open_files(&file[..n], &history[..m], &mut run, &mut out);
     let at = o.at;
-    let is_written = write_out(&out[..at]);
+    let is_written = write_out(&rt, &out[..at]);
     let check = o.check;
     let Check::Passed = check else {
         return;
@@ -202,6 +239,8 @@ fn main() {
         let mut table = table_room();
         let length = length_needed(&file[..n]);
         answer_input(
+            &rt,
+            &mut rt.stdin(),
             &run[..length],
             &history[..m],
             &mut table,
