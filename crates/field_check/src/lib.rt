@@ -10,7 +10,7 @@ use layout::{Number, value_at, width_of};
 use outcome::{Check, Refusal};
 
 // Numbers of one kind, one after the other, with the limits of each and the number of the refusal of one outside them.
-#[derive(Drop)]
+#[derive(Clone, Copy)]
 pub struct Field {
     pub number: u32,
     pub kind: Number,
