@@ -1,4 +1,6 @@
 // Whether a data run may be used (01, refusals 1, 4 and 5): its length, then every field of one table of fields.
+#![tactic(auto)]
+
 mod rows;
 
 ghost use Rattle.std.specs.Prelude.{◌≡◌, ◌≤◌, length};
