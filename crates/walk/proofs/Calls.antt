@@ -11,7 +11,7 @@ use mathlib.Core.Path.{◌≡◌, refl, sym, ap, subst}
 use Prim.Native.Nat.{ℕ, zero, suc}
 use mathlib.Core.List.{List, [], ◌∷◌}
 use seplogic.Ra.Ura.{Ura}
-use mir.Syntax.{Name, Place, Opd as Operand, Body, seq, call}
+use mir.Syntax.{Callee, Place, Opd as Operand, Body, seq, call}
 use mir.Val.{Val, vstruct}
 use base.Logic.{SProp, ent, sep, emp, via, id⊢, comm∗, assoc∗, assoc', mono_l, mono_r, emp∗}
 use base.Fml.{Fml, ftrue, fsep, flft}
@@ -42,13 +42,13 @@ use Rattle.walk.proofs.Locals.{swap}
 -- what parameter i owns
 abbrev pub own_at : (Rs : List RattleType) → Denots Rs → Valss Rs → ℕ → Fml
 own_at [] a vss i = ftrue
-own_at (R ∷ Rs) a vss zero = R.own a.0 vss.0
+own_at (R ∷ Rs) a vss zero = R.own_val a.0 vss.0
 own_at (R ∷ Rs) a vss (suc i) = own_at Rs a.1 vss.1 i
 
 -- what they own, before P
 abbrev pub before : (Rs : List RattleType) → Denots Rs → Valss Rs → Fml → Fml
 before [] a vss P = P
-before (R ∷ Rs) a vss P = fsep (R.own a.0 vss.0) (before Rs a.1 vss.1 P)
+before (R ∷ Rs) a vss P = fsep (R.own_val a.0 vss.0) (before Rs a.1 vss.1 P)
 
 module _ {M : Type 1} {𝓤 : Ura M} (𝓛 : Logic 𝓤) where
   open 𝓛 use {A}
@@ -78,11 +78,11 @@ module _ {M : Type 1} {𝓤 : Ura M} (𝓛 : Logic 𝓤) where
       → ent 𝓤 (sem 𝓛 (owns Rs a vss)) (sep 𝓤 (sem 𝓛 (own_at Rs a vss i)) (sem 𝓛 (owns Rs a vss)))
   copied [] cs a vss i = emp∗ 𝓤 (emp 𝓤)
   copied (R ∷ Rs) cs a vss zero =
-      let P : SProp 𝓤 = sem 𝓛 (R.own a.0 vss.0) in
+      let P : SProp 𝓤 = sem 𝓛 (R.own_val a.0 vss.0) in
       let Q : SProp 𝓤 = sem 𝓛 (owns Rs a.1 vss.1) in
       via 𝓤 (sep 𝓤 (sep 𝓤 P P) Q) (mono_l 𝓤 Q (cs.0.twice a.0 vss.0)) (assoc∗ 𝓤 P P Q)
   copied (R ∷ Rs) cs a vss (suc i) =
-      let P : SProp 𝓤 = sem 𝓛 (R.own a.0 vss.0) in
+      let P : SProp 𝓤 = sem 𝓛 (R.own_val a.0 vss.0) in
       let Q : SProp 𝓤 = sem 𝓛 (owns Rs a.1 vss.1) in
       let O : SProp 𝓤 = sem 𝓛 (own_at Rs a.1 vss.1 i) in
       via 𝓤 (sep 𝓤 P (sep 𝓤 O Q)) (mono_r 𝓤 P (copied Rs cs.1 a.1 vss.1 i)) (swap 𝓛 P O Q)
@@ -91,7 +91,7 @@ module _ {M : Type 1} {𝓤 : Ura M} (𝓛 : Logic 𝓤) where
       → ent 𝓤 (sem 𝓛 (before Rs a vss P)) (sep 𝓤 (sem 𝓛 (owns Rs a vss)) (sem 𝓛 P))
   apart [] a vss P = emp∗ 𝓤 (sem 𝓛 P)
   apart (R ∷ Rs) a vss P =
-      let O : SProp 𝓤 = sem 𝓛 (R.own a.0 vss.0) in
+      let O : SProp 𝓤 = sem 𝓛 (R.own_val a.0 vss.0) in
       via 𝓤 (sep 𝓤 O (sep 𝓤 (sem 𝓛 (owns Rs a.1 vss.1)) (sem 𝓛 P))) (mono_r 𝓤 O (apart Rs a.1 vss.1 P))
       (assoc' 𝓤 O (sem 𝓛 (owns Rs a.1 vss.1)) (sem 𝓛 P))
 
@@ -116,7 +116,7 @@ module _ {M : Type 1} {𝓤 : Ura M} {𝓛 : Logic 𝓤} {K : Type 0} {Γ : List
     parted t s {P} = step (λ x. use1 𝓛 (‵ (owned 𝓛 s) ⊛ ‵ P) (apart 𝓛 s.types s.given s.values P) $ split t $ x)
 
   -- the context after the call: what it ensures, the last values, the result, the tokens
-  pub calls-met : {E : Env 𝓤 H} {C : Calls 𝓤 H} {f : Name} {xs : List Operand} {Λ : Loops 𝓤 H} {q : Post 𝓤 H} {d : Place} {rest : Body}
+  pub calls-met : {E : Env 𝓤 H} {C : Calls 𝓤 H} {f : Callee} {xs : List Operand} {Λ : Loops 𝓤 H} {q : Post 𝓤 H} {d : Place} {rest : Body}
       → K → FmC 𝓤 H 𝓛.laws C
       → (T : Ended) (c : Clauses 𝓤 T) → Triple 𝓤 (C f) (triple_of 𝓛 T.signature (closing 𝓛 T c))
       → (y : (triple_of 𝓛 T.signature (closing 𝓛 T c)).Ghost) → ent 𝓤 (emp 𝓤) ((c y.0.0 y.0.3).requires y.1)
@@ -140,11 +140,11 @@ module _ {M : Type 1} {𝓤 : Ura M} {𝓛 : Logic 𝓤} {K : Type 0} {Γ : List
       (via 𝓤 _ (emp∗ 𝓤 (mean 𝓛 (Alive ⊛ ‵ Own)))
       (via 𝓤 _ (comm∗ 𝓤 (emp 𝓤) (mean 𝓛 (Alive ⊛ ‵ Own))) (mono_r 𝓤 (mean 𝓛 (Alive ⊛ ‵ Own)) asked))) $
       calls_at t fm (triple_of 𝓛 T.signature (closing 𝓛 T c)) met y os (λ u.
-      use1 𝓛 (later (some (λ (r : R.Denot). (Alive ⊛ ‵ (R.own r (u ∷ [])))
+      use1 𝓛 (later (some (λ (r : R.Denot). (Alive ⊛ ‵ (R.own_val r (u ∷ [])))
       ⊛ some (λ (ws : Lasts T y.0.0 y.0.3). ‵ (lasts T y.0.0 y.0.3 ws) ⊛ Says r ws)))) (id⊢ 𝓤 _) $
       await t tt $ pick t (λ r. split t $ split t $ recast 𝓛 Tokens (sym (tokens-are 𝓛 n y.0.0 y.0.1)) $
       move t (2 ∷ []) $ pick t (λ ws. split t $ move t (3 ∷ []) $
       peeks t R (Is R) (shows 𝓛 R) r (u ∷ []) (λ is.
       subst (λ (w : Val). Is R r (w ∷ [])
-      → Seq K 𝓛 (‵ (R.own r (w ∷ [])) ∷ ‵ (lasts T y.0.0 y.0.3 ws) ∷ Says r ws ∷ Tokens ∷ Γ) (lands C Λ E d w rest q))
+      → Seq K 𝓛 (‵ (R.own_val r (w ∷ [])) ∷ ‵ (lasts T y.0.0 y.0.3 ws) ∷ Says r ws ∷ Tokens ∷ Γ) (lands C Λ E d w rest q))
       (sym (ap only (tells r (u ∷ []) is))) (λ is'. move t (2 ∷ 1 ∷ []) $ k r is' ws) is))))

@@ -15,7 +15,7 @@ use contract.Lifetimes.{Lfts, Within, lft_at}
 use denote.RattleType.{RattleType}
 use denote.Laws.{Is, Ises, Spells, Tells, Tellss, Lawful, Lawfuls}
 use denote.Plain.{UInt, uint_vals, uint_Tells, uint_Lawful}
-use denote.Slice.{shr_slice_vals, shr_slice_Tells, shr_slice_Lawful, mut_slice_Tells, mut_slice_Lawful}
+use denote.Slice.{shr_slice_vals, mut_slice_vals, shr_slice_Tells, shr_slice_Lawful, mut_slice_Tells, mut_slice_Lawful}
 use denote.Signature.{Slot, plain, mut_slice_of, shr_slice_of, types_at}
 use denote.Triple.End.{all}
 use denote.Triple.Walked.{Stay, Stays, stay_none, stay_none_slice, stay_slice, gave_slice, Goes, AllGo, Goes-none, Goes-none_slice, Goes-slice, Goes-gave_slice}
@@ -60,8 +60,8 @@ module _ {n : ℕ} where
     spells [] = tt
     spells (row F same vals tells typed ∷ ps) = (vals κs, spells ps)
     spells (lent j ok R ∷ ps) = (shr_slice_vals, spells ps)
-    spells (lends j ok R ∷ ps) = (shr_slice_vals, spells ps)
-    spells (gives j ok R ∷ ps) = (shr_slice_vals, spells ps)
+    spells (lends j ok R ∷ ps) = (mut_slice_vals, spells ps)
+    spells (gives j ok R ∷ ps) = (mut_slice_vals, spells ps)
 
     pub all_told : (ps : List (Param n)) → Tellss (types_at (slots ps) κs) (Ises (types_at (slots ps) κs)) (spells ps)
     all_told [] = tt

@@ -5,7 +5,7 @@ pub use mathlib.Core.List.{List, [], ◌∷◌, ◌++◌}
 pub use lib.Dec.{lit<, T as Holds, ltb, ltb→lt, nltb→le}
 pub use lib.ListN.{length, replicate, length-replicate, get_or, set, length-set}
 pub use seplogic.Ra.Ura.{Ura}
-pub use seplogic.Ra.TreeShare.{full_share}
+pub use base.Fraction.{full_share}
 pub use mir.Syntax.{Ty, Fn, local, value_local, memory_slot, named, erased, imm, mut, w8, w64, ty_int, ty_unit, ty_ref, w32, ty_bool, ty_ptr}
 pub use mir.Val.{Val, vunit, vint, WT, has_ty, vptr}
 pub use base.Logic.{SProp, ent, emp, via, fst∗, assoc∗, id⊢}
@@ -14,11 +14,11 @@ pub use prog.Memory.{Memory}
 pub use prog.Routine.{Routine}
 pub use prog.Wp.{Heap, Env, Calls, Loops, Wp, at_return, WpFn, Tables, Out, after_seq, after_block}
 unfoldable pub use prog.Wp.{after_turn}
-pub use ghost.Atoms.{Atoms, sem}
+pub use ghost.Atoms.{Atoms}
 pub use contract.Monad.{Fun, fact, fact_i}
 pub use contract.Lifetimes.{Lfts, Shares}
-unfoldable pub use contract.Running.{given_of, tables, tables_of}
-pub use types.Kit.{Given, Item, ‵, raw, ◌⊛◌, ⋆, put, some, later, at_ret, ◌$◌, ◌∵◌, !, qed, by, move, keep, drop, use1, use3, split, split3, join, group, pick}
+unfoldable pub use contract.Running.{tables, tables_of}
+pub use types.Kit.{Item, ‵, raw, ◌⊛◌, ⋆, put, some, later, at_ret, ◌$◌, ◌∵◌, !, qed, by, move, keep, drop, use1, use3, split, split3, join, group, pick}
 pub use types.Kit.{rewrite, fsplit, fjoin, feq_l, suffices, frame, await, done, runs, prop, any_q, Sq, feq_i}
 pub use types.Tokens.{lft_new, lft_end, lent_back}
 pub use types.Part.{agg, rep, whole, sub, look_in}
