@@ -1,5 +1,7 @@
 // The component of an improvement: how an initial rate gives way to a long-term rate over the years since F. It is given exactly, by
 // its whole part and its remainder over its divisor.
+#![tactic(auto)]
+
 ghost use Rattle.std.specs.Prelude.{◌≡◌, ◌*◌, ◌≤◌, pos, nat_abs, ◌-ℤ◌, ◌*ℤ◌};
 ghost use Rattle.basis.specs.Basis.{ConvergenceLimits};
 ghost use Rattle.arithmetic.specs.MixedNumbers.{mixed_of};
