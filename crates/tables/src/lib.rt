@@ -1,5 +1,8 @@
 // The nine tables of a data run, each handed back as that stretch of the lent run itself.
+#![tactic(auto)]
+
 ghost use Rattle.std.specs.Prelude.{◌≡◌, ◌+◌};
+ghost use Rattle.layout.specs.Meaning.{meant};
 ghost use Rattle.tables.specs.Tables.{stretch_of, table_start, table_of};
 
 use layout::Form;
@@ -62,8 +65,8 @@ fn stretch_of(form: Form, table: Table) -> Stretch
 // A table of an accepted run; of a refused run a stretch of length 0. The first promise is the stretch's contents, the
 // second that it lies in the caller's own run, at the table's offset.
 pub fn table_of(run: &[u8], table: Table) -> &[u8]
-    ensures result_value { result.now ≡ table_of run.now table }
-    ensures ref_ptr_value { result.ref_ptr ≡ (run.entry.ref_ptr.0, table_start run.now table + run.entry.ref_ptr.1) }
+    ensures contents { result.now ≡ table_of run.now table }
+    ensures place { result.ref_ptr ≡ (run.entry.ref_ptr.0, table_start run.now table + run.entry.ref_ptr.1) }
 {
     let c = run_check::check_run(run);
     if let Check::Refused(_) = c {
@@ -74,5 +77,3 @@ pub fn table_of(run: &[u8], table: Table) -> &[u8]
     let end = start + s.1;
     &run[start..end]
 }
-
-ghost use Rattle.layout.specs.Meaning.{meant};
