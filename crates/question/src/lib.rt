@@ -1,4 +1,6 @@
 // What an enquiry asks: its own checks, 6, 8 and 7.
+#![tactic(auto)]
+
 ghost use Rattle.std.specs.Prelude.{◌≡◌};
 ghost use Rattle.outcome.specs.Outcome.{finding};
 ghost use Rattle.basis.specs.Basis.{basis_of, Accepted, rated_from};
