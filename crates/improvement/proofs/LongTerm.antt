@@ -1,7 +1,7 @@
 -- From 2130 on both weights are 0 and no year is actual: the sum of two whole numbers is rounded to itself, and is within ±500,000,000 with
 -- the addition. Assumes nothing.
 use mathlib.Core.Path.{◌≡◌, ◌∙◌, ap, sym}
-use Prim.Native.Nat.{ℕ, ◌+◌, ◌*◌, ◌-◌, ◌≤◌, ◌<◌}
+use Prim.Native.Nat.{ℕ, ◌+◌, ◌-◌, ◌≤◌, ◌<◌}
 use native.Mathlib.Omega.{arith}
 use lib.IntN.{ℤ, pos, nat_abs, ◌+ℤ◌, ◌*ℤ◌}
 use borrow.Author.Tests.{le-leb}

@@ -1,5 +1,7 @@
 // The improvement at an age in a year: the history's in a year that has an actual one, otherwise the sum of two components, rounded
 // once, and the constant addition.
+#![tactic(auto)]
+
 ghost use Rattle.std.specs.Prelude.{◌≡◌, ◌+ℤ◌};
 ghost use Rattle.arithmetic.specs.Fraction.{◌+ᶠ◌, round};
 ghost use Rattle.basis.specs.Basis.{basis_of, Accepted, ConvergenceLimits};
