@@ -1,4 +1,6 @@
 // Reading for the points program: a line of bytes as an enquiry.
+#![tactic(auto)]
+
 use question::Question;
 
 pub mod parse;

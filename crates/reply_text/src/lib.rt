@@ -1,4 +1,6 @@
 // Printing for the points program: numbers, results and refusals as text, and a reply as a line of bytes.
+#![tactic(auto)]
+
 pub mod digits;
 pub mod reply;
 

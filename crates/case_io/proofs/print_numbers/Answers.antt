@@ -2,19 +2,17 @@
 use mathlib.Core.Path.{◌≡◌, refl, ap, ◌∙◌}
 use mathlib.Core.Bool.{Bool, true, false, cond}
 use mathlib.Core.List.{List, [], ◌∷◌, ◌++◌, append_assoc}
-use Prim.Native.Nat.{ℕ, suc, ◌+◌, ◌*◌, ◌-◌, ◌≤◌}
+use Prim.Native.Nat.{ℕ, suc, ◌+◌}
 use native.Mathlib.Omega.{arith}
 use lib.Dec.{eqb}
 use lib.ListN.{length, get_or, replicate}
-use borrow.Author.Rules.{rules}
 use Rattle.reply_text.specs.Ascii.{ascii}
 use Rattle.reply_text.specs.Decimal.{digits_of}
 use Rattle.reply_text.specs.Put.{Put}
 use Rattle.reply_text.proofs.Puts.{nothing, then, being, in-zeros}
 use Rattle.reply_text.specs.Reply.{by_value}
 use Rattle.case_io.specs.Lines.{first_numbers, numbers_line}
-use Rattle.case_io.proofs.print_numbers.Statement.{statement}
-use Rattle.case_io.proofs.print_numbers.Tie as tie
+use Rattle.case_io.proofs.print_numbers.Goals as goal
 
 -- ---- one number more
 one_byte : (last : Bool) → cond last 10 32 ∷ [] ≡ cond last (ascii "\n") (ascii " ")
@@ -37,28 +35,13 @@ turn v i s e p q =
     rw next (being (joined ∙ ap (λ x. first_numbers v i ++ number ++ x) ended) refl (then p q))
 
 -- ---- the function
-abbrev invariant-loop : tie.invariant-loop
-invariant-loop numbers line₀ at₀ i₀ i-end line at i =
-    (length line ≡ 192) × (i-end ≡ length numbers) × (i ≤ i-end) × (at ≤ 21 * i) × Put (replicate 192 0) 0 (first_numbers numbers i) line at
+pub loop-i-init : goal.loop-i-init
+loop-i-init g c = (refl, refl, omega arith, omega arith, none _)
 
-abbrev decreases-loop : tie.decreases-loop
-decreases-loop numbers line₀ at₀ i₀ i-end line at i = i-end - i
+pub loop-i-preserved : goal.loop-i-preserved
+loop-i-preserved g c =
+    (omega arith, omega arith, omega arith, omega arith, turn _ _ _ c.separator.ensures c.loop-i.invariant.4 c.put_number-at.ensures.put)
 
-loop-holds : tie.Need-loop-init invariant-loop decreases-loop
-loop-holds c = (refl, refl, omega arith, omega arith, none _)
-
-loop-again : tie.Need-loop-preserved invariant-loop decreases-loop
-loop-again c =
-    let p = c.before in
-    let l = p.before.before.before.before.before.loop in
-    (omega arith, omega arith, omega arith, omega arith, turn _ _ _ p.before.separator.ensures l.invariant.4 p.put-number.ensures.0)
-
-returns : tie.Need-returns invariant-loop decreases-loop
+pub returns : goal.returns
 unfolding by_value numbers_line
-returns c = let l = c.before.before.loop in c.print.ensures ∙ in-zeros 192 (being (ap (first_numbers _) (omega arith)) refl l.invariant.4)
-
-pub print-numbers-spec : {M : Type 1} → statement M
-print-numbers-spec =
-    tie.close
-    (tie.spec invariant-loop decreases-loop loop-holds (search rules) (search rules) (search rules) (search rules) (search rules)
-    (search rules) (search rules) (search rules) loop-again (search rules) returns)
+returns g c = c.print.ensures ∙ in-zeros 192 (being (ap (first_numbers _) (omega arith)) refl c.loop-i.invariant.4)
