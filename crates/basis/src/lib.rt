@@ -5,7 +5,7 @@ pub mod fields;
 
 // The terms by which an initial rate of improvement gives way to a long-term rate: I, L, T (years) and P (remaining at
 // mid-point, in hundredths of a per cent).
-#[derive(Drop)]
+#[derive(Clone, Copy)]
 pub struct Convergence {
     pub initial: i32,
     pub long: i32,
