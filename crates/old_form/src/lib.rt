@@ -1,4 +1,6 @@
 // A basis of either form written in the old one, MPB1 (02, change 7).
+#![tactic(auto)]
+
 mod fields;
 mod whole;
 
