@@ -1,5 +1,7 @@
 // The short form of a data run, in the run's own form: one long-term rate S in place of its long-term rates, a default period by age, 20 by
 // birth year, and every proportion 50 per cent (01, "Short form"; 02, change 8).
+#![tactic(auto)]
+
 mod parts;
 mod periods;
 mod rates;
