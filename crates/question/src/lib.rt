@@ -10,7 +10,7 @@ use outcome::{Check, Refusal};
 
 // A question: an age, a deferment and a year, whatever they hold.
 #[repr(C)]
-#[derive(Drop)]
+#[derive(Clone, Copy)]
 pub struct Question {
     pub age: u32,
     pub deferment: u32,
