@@ -1,4 +1,6 @@
 // Survivorship: of U lives at an age, those who are left after some years.
+#![tactic(auto)]
+
 ghost use Rattle.std.specs.Prelude.{◌≡◌, ◌+◌, ◌≤◌, pos};
 ghost use Rattle.history.specs.Checked.{Cell, Life};
 ghost use Rattle.history.specs.History.{basis_with};
@@ -10,7 +12,7 @@ use arithmetic::UNIT;
 use outcome::Answer;
 
 // How a life passes through the rates: the period kind stays in one year, the cohort kind moves with the age.
-#[derive(Drop)]
+#[derive(Clone, Copy)]
 pub enum Kind {
     Period,
     Cohort,
