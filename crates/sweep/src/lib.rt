@@ -1,5 +1,7 @@
 // The year sweep (02, changes 5 and 9): the factors of all ages, advanced one year per step.
 // The state is lent: 131 numbers of 4 bytes, one for each age from 20 to 150, each a factor or a refusal.
+#![tactic(auto)]
+
 ghost use Rattle.std.specs.Prelude.{◌≡◌, ◌+◌, ◌≤◌, ◌<◌, pos, ltb, length};
 ghost use Rattle.outcome.specs.Outcome.{meaning};
 ghost use Rattle.history.specs.Checked.{Cell};

@@ -5,15 +5,11 @@ use native.Mathlib.Omega.{arith}
 use lib.ListN.{get_or-replicate}
 use Rattle.sweep.specs.Encoding.{decoded}
 use Rattle.sweep.proofs.Numbers.{decoded-factor}
-use Rattle.sweep.proofs.start.Statement.{statement}
-use Rattle.sweep.proofs.start.Tie as tie
+use Rattle.sweep.proofs.start.Goals as goal
 
-returns : tie.Need-returns
+pub returns : goal.returns
 returns c =
     record {
       size = refl;
       each = λ i l. ap (decoded (20 + i)) (get_or-replicate {0} {A = ℕ} 131 i _ 0 l) ∙ decoded-factor (20 + i) _ (omega arith);
     }
-
-pub start_spec : {M : Type 1} → statement M
-start_spec = tie.close (tie.spec returns)
