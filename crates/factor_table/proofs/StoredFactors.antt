@@ -3,10 +3,9 @@
 use mathlib.Core.Path.{◌≡◌, ◌∙◌, ap, sym, subst, refl}
 use mathlib.Core.Bool.{true, false}
 use mathlib.Core.List.{List}
-use Prim.Native.Nat.{ℕ, suc, ◌+◌, ◌*◌, ◌-◌, ◌/◌, ◌%◌, ◌≤◌, ◌<◌}
+use Prim.Native.Nat.{ℕ, suc, ◌+◌, ◌*◌, ◌-◌, ◌%◌, ◌≤◌, ◌<◌}
 use native.Mathlib.Decide.{dec_lt}
 use native.Mathlib.Omega.{arith}
-use lib.Dec.{eqb}
 use lib.ListN.{get_or}
 use borrow.Author.Tests.{lt-ltb, le-ltb, eqb-true, eqb-false}
 use Rattle.basis.specs.Basis.{Basis, basis_of}
@@ -17,11 +16,11 @@ use Rattle.outcome.specs.declared.Refusal.{Refusal}
 use Rattle.outcome.specs.Outcome.{value, refused, and_then}
 use Rattle.improvement.specs.Improvement.{improvement_of}
 use Rattle.projection.specs.Projection.{factor_from, factor_of}
-use Rattle.sweep.specs.Sweep.{factor_on, swept_year, sweep_after}
+use Rattle.sweep.specs.Sweep.{factor_on, sweep_after}
 use Rattle.sweep.specs.Encoding.{decoded}
 use Rattle.projection.proofs.Years.{goes_on}
 use Rattle.sweep.proofs.Direct.{swept-until, sweep-direct}
-use Rattle.factor_table.specs.FactorTable.{early_length, later_year, later_ages, later_at, factors_length, FactorTable}
+use Rattle.factor_table.specs.FactorTable.{early_length, later_year, later_at, FactorTable}
 use Rattle.factor_table.specs.Inner.Reading.{later_of, stored_year, is_stored, place_of, stored_factor}
 use Rattle.factor_table.proofs.LaterPlaces.{ends-in-time}
 

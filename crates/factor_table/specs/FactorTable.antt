@@ -1,6 +1,6 @@
 -- What is worked out once for all records of the grid (02, changes 5 and 9): the states of the sweep from B on, and the discounts. From 2130 on
 -- every second year is stored, and of it the ages that have a birth year up to 2110; a year between is one step from the year before it.
-use Rattle.std.specs.Prelude.{◌≡◌, List, ℕ, ◌+◌, ◌*◌, ◌-◌, ◌≤◌, ◌<◌, ℤ, pos, length, get_or}
+use Rattle.std.specs.Prelude.{◌≡◌, List, ℕ, ◌+◌, ◌*◌, ◌-◌, ◌≤◌, ◌<◌, pos, length, get_or}
 use Rattle.basis.specs.Basis.{Basis}
 use Rattle.history.specs.History.{basis_with, Workable}
 use Rattle.sweep.specs.Sweep.{sweep_after}

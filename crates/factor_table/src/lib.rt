@@ -1,6 +1,8 @@
 // What is worked out once for all records of the grid: every age's factor in every year, by the sweep, and the discounts.
 // It is lent: 22,565 numbers of 4 bytes. 131 for each year from B to 2129, 0 where there are fewer than 138 of these; behind them
 // 131 for 2130, 129 for 2132 and so on to 1 for 2260; and last 131 discounts.
+#![tactic(auto)]
+
 pub mod discounts;
 pub mod factors;
 pub mod later_years;
