@@ -1,4 +1,6 @@
 // One record of the grid on an accepted data run and its history.
+#![tactic(auto)]
+
 ghost use Rattle.std.specs.Prelude.{◌≡◌};
 ghost use Rattle.history.specs.History.{basis_with, Workable};
 ghost use Rattle.grid_record.specs.Record.{record_of, answered_of};
@@ -8,7 +10,7 @@ use question::Question;
 
 // A record of the grid: a question and its answer in 64 bytes, the refusal's places last.
 #[repr(C)]
-#[derive(Drop)]
+#[derive(Clone, Copy)]
 pub struct Point {
     pub age: u32,
     pub deferment: u32,

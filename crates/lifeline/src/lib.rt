@@ -1,4 +1,6 @@
 // A lifeline (the paper's word): the survivors of one cohort, year by year, each year checked anew.
+#![tactic(auto)]
+
 pub mod cohort;
 
 use outcome::{Check, Refusal};
@@ -12,7 +14,7 @@ pub enum Status {
 }
 
 // What a lifeline holds beside its data run.
-#[derive(Drop)]
+#[derive(Clone, Copy)]
 pub struct Position {
     pub age: u32,
     pub year: u32,

@@ -1,4 +1,6 @@
 // A model point: a question about one life, and its four results on an accepted data run and its history.
+#![tactic(auto)]
+
 ghost use Rattle.std.specs.Prelude.{◌≡◌, ◌+◌, ◌≤◌};
 ghost use Rattle.history.specs.Checked.{Life};
 ghost use Rattle.history.specs.History.{basis_with, Workable};

@@ -1,4 +1,6 @@
 // The small set: six model points on one basis, by value. Any bytes and any questions are answered or refused.
+#![tactic(auto)]
+
 ghost use Rattle.std.specs.Prelude.{◌≡◌, map};
 ghost use Rattle.history.specs.History.{basis_with, Workable};
 ghost use Rattle.model_points.specs.Point.{point_of};
