@@ -1,0 +1,20 @@
+-- The checks decide first; what they let pass is all that the work asks for.
+use mathlib.Core.Path.{◌∙◌, sym}
+use Rattle.outcome.proofs.Outcome.{found, checked-passed, checked_refused}
+use Rattle.enquiry.specs.Enquiry.{survivorship_enquiry}
+use Rattle.enquiry.proofs.Passed.{valuation-passed}
+use Rattle.enquiry.proofs.values.survivorship.Goals as goal
+
+pub survivors_at-requires : goal.survivors_at-requires
+survivors_at-requires c =
+    let a = c.args in
+    valuation-passed a.run.now a.history.now a.age a.deferment a.year (found c.check_valuation.ensures c.in-Passed.is)
+
+pub returns-in-Passed : goal.returns-in-Passed
+unfolding survivorship_enquiry
+returns-in-Passed c =
+    c.survivors_at.ensures ∙ sym (checked-passed _ _ (found c.check_valuation.ensures c.in-Passed.is))
+
+pub returns-in-Refused : goal.returns-in-Refused
+unfolding survivorship_enquiry
+returns-in-Refused c = sym (checked_refused _ _ _ (found c.check_valuation.ensures c.in-Refused.is))
