@@ -1,20 +1,20 @@
 -- An improvement takes the terms of its own birth year; factors, rates, survivors and sums take improvements of birth years that are no later. Assumes
 -- nothing.
-use mathlib.Core.Path.{◌≡◌, ◌∙◌, ap, refl}
-use Prim.Native.Nat.{ℕ, zero, suc, ◌+◌, ◌-◌, ◌/◌, ◌≤◌, ◌<◌}
+use mathlib.Core.Path.{◌≡◌, ap, refl}
+use Prim.Native.Nat.{ℕ, zero, suc, ◌+◌, ◌-◌, ◌/◌, ◌≤◌}
 use native.Mathlib.Omega.{arith}
 use lib.IntN.{ℤ, pos, ◌+ℤ◌}
 use borrow.Author.Tests.{le-leb}
 use Rattle.arithmetic.specs.Fraction.{U}
 use Rattle.basis.specs.Basis.{Basis, accumulation_of}
 use Rattle.basis.specs.declared.Convergence.{Convergence}
-use Rattle.outcome.specs.Outcome.{Outcome, value, and_then}
+use Rattle.outcome.specs.Outcome.{value, and_then}
 use Rattle.improvement.specs.Improvement.{addition_of, components_of, projected_of, improvement_of}
 use Rattle.projection.specs.Projection.{factor_from, factor_step, years_to, factor_of, rate_from, rate_of}
 use Rattle.survivorship.specs.declared.Kind.{Kind}
 use Rattle.survivorship.specs.Survivorship.{year_on, survivors_next, survivors_after_year, survivors_step, survivors_of}
 use Rattle.survivorship.proofs.Survivors.{year-early}
-use Rattle.valuation.specs.Valuation.{curtate_of, expectation_of, discount_next, discount_after, payment, payment_after, annuity_of}
+use Rattle.valuation.specs.Valuation.{curtate_of, expectation_of, discount_next, discount_after, payment_after, annuity_of}
 use Rattle.later_years.specs.BirthYears.{other_after_2110, NoneAfter2110}
 use Rattle.later_years.proofs.Same.{steps-same, sum_same}
 

@@ -9,8 +9,8 @@ use lib.Signed.{le_z}
 use Rattle.arithmetic.specs.Fraction.{U}
 use Rattle.basis.specs.Basis.{Basis, Limited}
 use Rattle.outcome.specs.declared.Refusal.{Refusal}
-use Rattle.outcome.specs.Outcome.{Outcome, value, refused, refusal, and_then, steps}
-use Rattle.improvement.specs.Improvement.{improvement_of, improvement_needed}
+use Rattle.outcome.specs.Outcome.{Outcome, value, refused, refusal, and_then}
+use Rattle.improvement.specs.Improvement.{improvement_of}
 use Rattle.improvement.specs.LongTerm.{long_term_improvement}
 use Rattle.improvement.proofs.LongTerm.{long-term-from-2130}
 use Rattle.projection.specs.Projection.{factor_next, factor_needed, factor_from, factor_step, years_to, factor_of}
