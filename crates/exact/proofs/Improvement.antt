@@ -7,7 +7,7 @@ use native.Mathlib.Nat.{mul-le-mul_right, mul-pos}
 use lib.IntN.{ℤ, pos, nat_abs, ◌-ℤ◌, ◌*ℤ◌}
 use lib.Signed.{◌≤ℤ◌}
 use Rattle.arithmetic.specs.Fraction.{Fraction, Within, whole, U}
-use Rattle.arithmetic.proofs.Difference.{◌⊖◌, parts, ring, up, dn, ⊖-eq, ⊖-abs, abs-⊖, ≤-⊖}
+use Rattle.arithmetic.proofs.Difference.{parts, ring, up, dn, ⊖-eq, ⊖-abs, abs-⊖, ≤-⊖}
 use Rattle.arithmetic.proofs.Rounding.{round-natural}
 use Rattle.arithmetic.proofs.Distance.{within-whole, within_more, within-round, within-sum}
 use Rattle.arithmetic.proofs.UnitRange.{InUnit}

@@ -1,6 +1,6 @@
 -- Survivorship 2d ≤ n(r + 1): each year multiplies by U less a rate within r halves of the exact one. Assumes nothing.
 use mathlib.Core.Path.{◌≡◌}
-use Prim.Native.Nat.{ℕ, suc, ◌+◌, ◌-◌, ◌≤◌, ◌<◌}
+use Prim.Native.Nat.{ℕ, suc, ◌+◌, ◌≤◌, ◌<◌}
 use native.Mathlib.Omega.{arith}
 use lib.IntN.{ℤ, pos, nat_abs, ◌-ℤ◌}
 use Rattle.arithmetic.specs.Fraction.{U}
