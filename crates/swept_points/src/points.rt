@@ -13,25 +13,33 @@ use crate::life_values;
 use crate::life_values::LifeValues;
 use grid_record::Point;
 use model_points::PointAnswer;
-use outcome::{Answer, Check};
+use outcome::{Answer, Check, Refusal};
 use question::Question;
 use survivorship::Kind;
 
-fn life_expectation(p: LifeValues) -> Answer
-    ensures { meaning result ≡ life_expectation p }
+fn life_expectation(p: &LifeValues) -> Answer
+    ensures { meaning result ≡ life_expectation p.now }
 {
     match p {
-        LifeValues::Values(expectation, _) => Answer::Value(expectation),
-        LifeValues::Refused(r) => Answer::Refused(r),
+        LifeValues::Values(expectation, _) => Answer::Value(*expectation),
+        LifeValues::Refused(r) => Answer::Refused(Refusal {
+            number: r.number,
+            first: r.first,
+            second: r.second,
+        }),
     }
 }
 
-fn life_annuity(p: LifeValues) -> Answer
-    ensures { meaning result ≡ life_annuity p }
+fn life_annuity(p: &LifeValues) -> Answer
+    ensures { meaning result ≡ life_annuity p.now }
 {
     match p {
-        LifeValues::Values(_, annuity) => Answer::Value(annuity),
-        LifeValues::Refused(r) => Answer::Refused(r),
+        LifeValues::Values(_, annuity) => Answer::Value(*annuity),
+        LifeValues::Refused(r) => Answer::Refused(Refusal {
+            number: r.number,
+            first: r.first,
+            second: r.second,
+        }),
     }
 }
 
@@ -43,10 +51,10 @@ fn expectation(
     table: &[u32],
     kind: Kind,
     q: Question,
-    known: LifeValues,
+    known: &LifeValues,
 ) -> Answer
     requires { Life run.now history.now q.age q.deferment q.year × FactorTable (basis_with run.now history.now) table.now
-        × (life_expectation known ≡ expectation_of (basis_with run.now history.now) kind q.age 0 q.year) }
+        × (life_expectation known.now ≡ expectation_of (basis_with run.now history.now) kind q.age 0 q.year) }
     ensures { meaning result ≡ expectation_of (basis_with run.now history.now) kind q.age q.deferment q.year }
 {
     if q.deferment == 0 {
@@ -54,7 +62,7 @@ fn expectation(
     }
     let age = q.age + q.deferment;
     let year = q.year + q.deferment;
-    life_expectation(life_values::life_values_from(run, history, table, kind, age, 0, year))
+    life_expectation(&life_values::life_values_from(run, history, table, kind, age, 0, year))
 }
 
 // The results of a question that has been checked.
@@ -84,10 +92,10 @@ fn swept_results(run: &[u8], history: &[u8], table: &[u32], q: Question) -> Poin
         year,
     );
     model_points::four_results(
-        expectation(run, history, table, Kind::Period, q, period),
-        expectation(run, history, table, Kind::Cohort, q, cohort),
-        life_annuity(period),
-        life_annuity(cohort),
+        expectation(run, history, table, Kind::Period, q, &period),
+        expectation(run, history, table, Kind::Cohort, q, &cohort),
+        life_annuity(&period),
+        life_annuity(&cohort),
     )
 }
 
