@@ -25,6 +25,19 @@ pub struct SmallSet {
     pub points: [PointAnswer; 6],
 }
 
+// No refusal.
+const NONE: Refusal = Refusal {
+    number: 0,
+    first: 0,
+    second: 0,
+};
+
+// A point that carries 0 in every result, refusal and place.
+const BLANK: PointAnswer = PointAnswer {
+    results: [0; 4],
+    refusal: NONE,
+};
+
 // The six answers on an accepted data run and its history.
 fn six(run: &[u8], history: &[u8], questions: [Question; 6]) -> [PointAnswer; 6]
     requires { Workable run.now history.now }
@@ -44,26 +57,17 @@ fn six(run: &[u8], history: &[u8], questions: [Question; 6]) -> [PointAnswer; 6]
 pub fn small_set(run: &[u8], history: &[u8], questions: Questions) -> SmallSet
     ensures { result ≡ small_set_of run.now history.now questions }
 {
-    let none = Refusal {
-        number: 0,
-        first: 0,
-        second: 0,
-    };
     match history::check::check_run_and_history(run, history) {
         Check::Passed => {
             let asked = questions.points;
             let points = six(run, history, asked);
             SmallSet {
-                refusal: none,
+                refusal: NONE,
                 points,
             }
         }
         Check::Refused(refusal) => {
-            let blank = PointAnswer {
-                results: [0; 4],
-                refusal: none,
-            };
-            let points = [blank; 6];
+            let points = [BLANK; 6];
             SmallSet { refusal, points }
         }
     }

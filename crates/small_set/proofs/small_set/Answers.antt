@@ -1,0 +1,19 @@
+-- The check of the run and its history decides; an accepted one is what the six answers ask for.
+use Rattle.outcome.proofs.Outcome.{found}
+use Rattle.history.proofs.Acceptance.{accepted-workable}
+use Rattle.small_set.specs.SmallSet.{small_set_of}
+use Rattle.small_set.proofs.small_set.Goals as goal
+
+pub six-points-requires : goal.six-points-requires
+six-points-requires c =
+    let a = c.args in
+    accepted-workable a.run.now a.history.now (found c.check_run_and_history.ensures c.in-Passed.is)
+
+pub returns-in-Passed : goal.returns-in-Passed
+unfolding small_set_of
+returns-in-Passed c =
+    simp (found c.check_run_and_history.ensures c.in-Passed.is, c.six-points.ensures)
+
+pub returns-in-Refused : goal.returns-in-Refused
+unfolding small_set_of
+returns-in-Refused c = simp (found c.check_run_and_history.ensures c.in-Refused.is)
