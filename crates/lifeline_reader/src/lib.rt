@@ -1,5 +1,7 @@
 // The lifeline reader (the paper's words): a small struct that holds the lent data run itself. Its start and its step have the
 // work done by the numbers, and hold the same run again; the history is lent to each of them.
+#![tactic(auto)]
+
 ghost use Rattle.std.specs.Prelude.{◌≡◌};
 ghost use Rattle.outcome.specs.Outcome.{finding};
 ghost use Rattle.lifeline.specs.Said.{status_meaning};

@@ -1,2 +1,0 @@
-mod After
-mod Made
