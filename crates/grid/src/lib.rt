@@ -1,4 +1,6 @@
 // The grid: a lent list of 119 point records whose results are filled in place.
+#![tactic(auto)]
+
 ghost use Rattle.std.specs.Prelude.{◌≡◌, ◌≤◌, ◌<◌, length};
 ghost use Rattle.outcome.specs.Outcome.{finding};
 ghost use Rattle.history.specs.History.{basis_with};
