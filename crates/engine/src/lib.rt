@@ -1,5 +1,7 @@
 // The engine's surface: what a host calls, from C or any language that can call C, as include/parvusek.h declares it.
 // Every function is total: any slice, any number. engine_c exports them to C.
+#![tactic(auto)]
+
 pub mod answers;
 pub mod cells;
 pub mod files;
