@@ -1,5 +1,7 @@
 // The grid point by point, each by the direct engine: for tests and measurements, which hold the sweep against it.
 // It is no part of the engine's archive and of its header; the records come and go by value. direct_grid_c exports it to C.
+#![tactic(auto)]
+
 ghost use Rattle.std.specs.Prelude.{◌≡◌};
 ghost use Rattle.grid.specs.Grid.{grid_of};
 
