@@ -1,5 +1,7 @@
 // The points program's text: the opening line by the basis file, and the input answered line by line as it comes in
 // parts.
+#![tactic(auto)]
+
 use outcome::Check;
 
 pub mod lines;

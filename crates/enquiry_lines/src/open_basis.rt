@@ -9,7 +9,7 @@ ghost use Rattle.enquiry_lines.specs.State.{reply_room};
 
 use crate::Opening;
 use basis_file::read;
-use outcome::Check;
+use outcome::{Check, Refusal};
 use reply_text::reply;
 
 // The file's data run, put into the front of `run` where neither the file nor the history is refused. There is room for
@@ -47,7 +47,12 @@ pub fn open_files(file: &[u8], history: &[u8], run: &mut [u8], out: &mut [u8]) -
             }
         }
         Check::Refused(x) => {
-            let at = reply::put_refusal(out, 0, x);
+            let told = Refusal {
+                number: x.number,
+                first: x.first,
+                second: x.second,
+            };
+            let at = reply::put_refusal(out, 0, told);
             Opening {
                 check: Check::Refused(x),
                 at: at,
