@@ -1,5 +1,5 @@
-mod Parting
+pub mod Parting
 pub mod State
 pub mod Opened
 mod SoFar
-mod Printed
+pub mod Printed
