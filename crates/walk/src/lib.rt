@@ -1,3 +1,3 @@
-// Steps of the program logic that the kit lacks, for the proofs by hand of code over structs that hold references and over
-// slices of structs. No code: the laws are in proofs/.
+// Steps of the program logic that the kit lacks, for proofs by hand of code over structs that hold references and over
+// slices of structs. No proof of this repository needs them today. No code: the laws are in proofs/.
 #![tactic(auto)]
