@@ -4,6 +4,7 @@ import contextlib
 import csv
 import io
 import os
+import signal
 import subprocess
 import sys
 import tempfile
@@ -30,11 +31,20 @@ class Command(unittest.TestCase):
         return status, said.getvalue(), wrong.getvalue()
 
     def start(self, *arguments: object, **more: Any) -> "subprocess.Popen[bytes]":
-        """The command as a process of its own, with pipes for what is not said otherwise."""
+        """The command as a process of its own, with pipes for what is not said otherwise. Signals stop it also where the
+        tests themselves ignore them, as in the background of a shell or under nohup."""
         environment = dict(os.environ, PYTHONPATH=str(REPOSITORY / "bindings" / "python"))
         pipes: dict[str, Any] = dict.fromkeys(("stdin", "stdout", "stderr"), subprocess.PIPE)
+        given = more.pop("preexec_fn", None)
+
+        def before() -> None:
+            for number in (signal.SIGINT, signal.SIGTERM, signal.SIGHUP):
+                signal.signal(number, signal.SIG_DFL)
+            if given is not None:
+                given()
+
         process = subprocess.Popen([sys.executable, "-m", "parvusek", *map(str, arguments)],
-                                   env=environment, **{**pipes, **more})
+                                   env=environment, preexec_fn=before, **{**pipes, **more})
         self.addCleanup(self._ended, process)
         return process
 
