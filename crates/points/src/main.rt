@@ -2,12 +2,16 @@
 // standard output. It moves bytes; what they mean is enquiry_lines' to say.
 #![tactic(auto)]
 
-ghost use Rattle.std.specs.Prelude.{◌≡◌, ◌+◌, ◌*◌, ◌≤◌, length, take};
+ghost use Rattle.std.specs.Prelude.{◌≡◌, ◌+◌, ◌*◌, ◌≤◌, ◌<◌, List, ℕ, IfSome, length, take};
+ghost use Rattle.std.specs.Bool.{IsTrue, OnTrue, OnFalse};
+ghost use Rattle.std.specs.Io.KnownBytes.{Appends};
 ghost use Rattle.layout.specs.Layout.{mpb2, run_length, file_length};
-ghost use Rattle.history.specs.History.{Workable};
+ghost use Rattle.history.specs.History.{Workable, basis_with};
 ghost use Rattle.factor_table.specs.FactorTable.{table_length};
+ghost use Rattle.enquiry_lines.specs.Lines.{lines_of, replies};
+ghost use Rattle.enquiry_lines.specs.Output.{output_of};
 ghost use Rattle.enquiry_lines.specs.State.{empty_after, reply_room, Ready};
-ghost use Rattle.points.specs.Blocks.{ReadyForBlocks};
+ghost use Rattle.points.specs.Blocks.{ReadyForBlocks, BlockAnswered, BlocksAnswered};
 
 use basis_file::read::length_needed;
 use enquiry_lines::{Pending, lines, open_basis};
@@ -15,7 +19,7 @@ use factor_table::TABLE_LENGTH;
 use outcome::Check;
 use reading::read_full;
 use std::fs::File;
-use std::io::{Error, ErrorKind, Read};
+use std::io::{Error, ErrorKind, Read, Write};
 use std::rt::Files;
 
 // What a block leaves: the unfinished line, whether it was the last block, and whether it was read and its replies were
@@ -112,8 +116,10 @@ fn read_named(rt: &(impl Files + Eprint), name: &str, told: &str, room: &mut [u8
 }
 
 // Writes a part of the output; where that fails, standard error says that the output is not whole.
-fn write_out(rt: &(impl Print + Eprint), part: &[u8]) -> bool {
-    match rt.write_all(part) {
+fn write_out<W: Write>(rt: &impl Eprint, output: &mut W, part: &[u8]) -> bool
+    ensures { OnTrue result (Appends (W.contents output.old) (W.contents output.new) part.now) }
+{
+    match output.write_all(part) {
         Ok(()) => true,
         Err(error) => {
             tell(
@@ -128,9 +134,10 @@ fn write_out(rt: &(impl Print + Eprint), part: &[u8]) -> bool {
 
 // Reads a block and answers the lines that end in it; `blocks` more can follow. The last block is empty, or one that cannot
 // be read or whose replies are not taken: then no further line is answered, and standard error says so.
-fn answer_block(
-    rt: &(impl Print + Eprint),
-    input: &mut impl Read,
+fn answer_block<I: Read, W: Write>(
+    rt: &impl Eprint,
+    input: &mut I,
+    output: &mut W,
     run: &[u8],
     history: &[u8],
     table: &[u32],
@@ -140,7 +147,10 @@ fn answer_block(
     blocks: u64,
 ) -> Turn
     requires { ReadyForBlocks run.now history.now table.now s (blocks + 1) part.old out.old }
-    ensures { ReadyForBlocks run.now history.now table.now result.pending blocks part.new out.new }
+    ensures ready { ReadyForBlocks run.now history.now table.now result.pending blocks part.new out.new }
+    ensures whole { OnFalse result.is_last (IsTrue result.is_whole) }
+    ensures answered { OnTrue result.is_whole (BlockAnswered (basis_with run.now history.now) s part.old
+        (I.remaining input.old) (I.remaining input.new) (W.contents output.old) (W.contents output.new) result) }
 {
     let n = match input.read(part) {
         Ok(n) => n,
@@ -155,7 +165,7 @@ fn answer_block(
     };
     let f = lines::feed(run, history, table, s, &part[..n], out, 0);
     let at = f.at;
-    let is_written = write_out(rt, &out[..at]);
+    let is_written = write_out(rt, output, &out[..at]);
     let pending = f.pending;
     Turn {
         pending: pending,
@@ -165,9 +175,10 @@ fn answer_block(
 }
 
 // Nothing says that the input ends, so the blocks are counted down from a number that no run uses up.
-fn answer_blocks(
-    rt: &(impl Print + Eprint),
-    input: &mut impl Read,
+fn answer_blocks<I: Read, W: Write>(
+    rt: &impl Eprint,
+    input: &mut I,
+    output: &mut W,
     run: &[u8],
     history: &[u8],
     table: &[u32],
@@ -175,14 +186,18 @@ fn answer_blocks(
     out: &mut [u8],
 ) -> Turn
     requires { ReadyForBlocks run.now history.now table.now (empty_after 0) 1000000000000000 part.old out.old }
-    ensures { Ready run.now history.now table.now result.pending 1024 out.new 0 }
+    ensures ready { Ready run.now history.now table.now result.pending 1024 out.new 0 }
+    ensures answered { OnTrue result.is_whole (BlocksAnswered (basis_with run.now history.now) part.old
+        (I.remaining input.old) (I.remaining input.new) (W.contents output.old) (W.contents output.new) result.pending) }
 {
     let mut pending = lines::begin();
     let mut is_whole = true;
     let mut blocks: u64 = 1_000_000_000_000_000;
     while 0 < blocks {
         blocks -= 1;
-        let t = answer_block(rt, input, run, history, table, pending, part, out, blocks);
+        let t = answer_block(
+            rt, input, output, run, history, table, pending, part, out, blocks,
+        );
         let next = t.pending;
         pending = next;
         is_whole = t.is_whole;
@@ -198,54 +213,80 @@ fn answer_blocks(
 }
 
 // All of standard input: its blocks, then a last line that lacks its byte 10. The basis stays the same, so that the factors
-// of all ages and years are worked out once, before the first line.
-fn answer_input(
-    rt: &(impl Print + Eprint),
-    input: &mut impl Read,
+// of all ages and years are worked out once, before the first line. Whether all of it was read and answered.
+fn answer_input<I: Read, W: Write>(
+    rt: &impl Eprint,
+    input: &mut I,
+    output: &mut W,
     run: &[u8],
     history: &[u8],
     table: &mut [u32],
     part: &mut [u8],
     out: &mut [u8],
-)
+) -> bool
     requires workable { Workable run.now history.now × (length table.old ≡ table_length) }
     requires part_len_bound { (length part.old ≤ 1024) × (reply_room * 1024 ≤ length out.old) }
+    ensures { OnTrue result (0 < length part.old → IfSome (I.remaining input.old) (λ text. length text < 1000000000000000 →
+        Appends (W.contents output.old) (W.contents output.new) (replies (basis_with run.now history.now) 1 (lines_of text)))) }
 {
     factor_table::fill_table(run, history, table);
-    let t = answer_blocks(rt, input, run, history, table, part, out);
+    let t = answer_blocks(rt, input, output, run, history, table, part, out);
     if !t.is_whole {
-        return;
+        return false;
     }
     let at = lines::finish(run, history, table, t.pending, out, 0);
-    write_out(rt, &out[..at]);
+    write_out(rt, output, &out[..at])
+}
+
+// What the program writes on the bytes of its two files and its input; a missing file has none. Whether it could read and write
+// all of it.
+fn answer<I: Read, W: Write>(
+    rt: &impl Eprint,
+    input: &mut I,
+    output: &mut W,
+    file: &[u8],
+    history: &[u8],
+) -> bool
+    ensures { OnTrue result (IfSome (I.remaining input.old) (λ text. length text < 1000000000000000 →
+        Appends (W.contents output.old) (W.contents output.new) (output_of file.now history.now text))) }
+{
+    let mut run = run_room();
+    let mut out = reply_room();
+    let o = open_basis::open_files(file, history, &mut run, &mut out);
+    let at = o.at;
+    let is_written = write_out(rt, output, &out[..at]);
+    let check = o.check;
+    let Check::Passed = check else {
+        return is_written;
+    };
+    if !is_written {
+        return false;
+    }
+    let mut part = block_room();
+    let mut table = table_room();
+    let length = length_needed(file);
+    answer_input(
+        rt,
+        input,
+        output,
+        &run[..length],
+        history,
+        &mut table,
+        &mut part,
+        &mut out,
+    )
 }
 
 fn main(rt: HostRuntime) {
     let mut file = file_room();
     let mut history = history_room();
-    let mut run = run_room();
-    let mut out = reply_room();
     let n = read_named(&rt, "basis.bin", "points: basis.bin", &mut file);
     let m = read_named(&rt, "history.bin", "points: history.bin", &mut history);
-    let o = open_basis::open_files(&file[..n], &history[..m], &mut run, &mut out);
-    let at = o.at;
-    let is_written = write_out(&rt, &out[..at]);
-    let check = o.check;
-    let Check::Passed = check else {
-        return;
-    };
-    if is_written {
-        let mut part = block_room();
-        let mut table = table_room();
-        let length = length_needed(&file[..n]);
-        answer_input(
-            &rt,
-            &mut rt.stdin(),
-            &run[..length],
-            &history[..m],
-            &mut table,
-            &mut part,
-            &mut out,
-        );
-    }
+    answer(
+        &rt,
+        &mut rt.stdin(),
+        &mut rt.stdout(),
+        &file[..n],
+        &history[..m],
+    );
 }
