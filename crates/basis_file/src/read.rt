@@ -10,7 +10,7 @@ ghost use Rattle.basis_file.specs.File.{run_in, outer_check, read_check};
 
 use layout::Form;
 use layout::forms::{blocks_in, file_length, form_of_file, run_length};
-use outcome::{Check, Refusal};
+use outcome::{Reason, Refusal};
 
 // How long the data run of a file is, which is the old form's for a file of any other length.
 pub fn length_needed(file: &[u8]) -> usize
@@ -20,16 +20,12 @@ pub fn length_needed(file: &[u8]) -> usize
 }
 
 // The length, then the blocks.
-fn check_outer(file: &[u8]) -> Check
+fn check_outer(file: &[u8]) -> Result<(), Refusal>
     ensures { finding result ≡ outer_check file.now }
 {
     let form = form_of_file(file.len());
     if file.len() != file_length(form) {
-        return Check::Refused(Refusal {
-            number: 1,
-            first: 0,
-            second: 0,
-        });
+        return Err(Reason::Length.at(0, 0));
     }
     block::check_blocks(file, blocks_in(form))
 }
@@ -49,29 +45,26 @@ fn join_parts(file: &[u8], n: usize, run: &mut [u8])
 
 // The data run of a file whose blocks are right, into the front of `run`. It is joined in `joined` first, since the check goes
 // over one stretch, and a refused file leaves the output alone.
-fn read_blocks(file: &[u8], form: Form, joined: &mut [u8], run: &mut [u8]) -> Check
+fn read_blocks(file: &[u8], form: Form, joined: &mut [u8], run: &mut [u8]) -> Result<(), Refusal>
     requires { (length file.now ≡ file_length (meant form)) × (length joined.old ≡ run_length (meant form)) × (run_length (meant form) ≤ length run.old) }
     ensures result_value { finding result ≡ run_check (parts_of (blocks_in (meant form)) file.now) }
     ensures run_after { run.new ≡ written (finding result) (parts_of (blocks_in (meant form)) file.now) run.old }
 {
     join_parts(file, blocks_in(form), joined);
     let c = run_check::check_run(joined);
-    if let Check::Passed = c {
+    if let Ok(()) = c {
         lent::put(joined, run, 0);
     }
     c
 }
 
 // The data run of an accepted file, into the front of `run`.
-pub fn read_file(file: &[u8], run: &mut [u8]) -> Check
+pub fn read_file(file: &[u8], run: &mut [u8]) -> Result<(), Refusal>
     ensures result_value { finding result ≡ read_check file.now run.old }
     ensures run_after { run.new ≡ written (finding result) (run_in file.now) run.old }
 {
     let needed = length_needed(file);
-    let outer = outcome::first_of(lent::check_room(needed, run.len()), check_outer(file));
-    if let Check::Refused(_) = outer {
-        return outer;
-    }
+    outcome::first_of(lent::check_room(needed, run.len()), check_outer(file))?;
     let mut room = [0u8; layout::MPB2_RUN_LENGTH];
     read_blocks(file, form_of_file(file.len()), &mut room[..needed], run)
 }

@@ -6,7 +6,7 @@ ghost use Rattle.block.specs.Blocks.{blocks_of};
 ghost use Rattle.basis_file.specs.File.{file_of, write_check};
 
 use layout::forms::{blocks_in, file_length, form_of_run};
-use outcome::Check;
+use outcome::Refusal;
 
 // n blocks, in the front of `file`.
 fn write_blocks(run: &[u8], n: usize, file: &mut [u8])
@@ -22,7 +22,7 @@ fn write_blocks(run: &[u8], n: usize, file: &mut [u8])
 }
 
 // The file of an accepted data run in its own form, into the front of `file`.
-pub fn write_file(run: &[u8], file: &mut [u8]) -> Check
+pub fn write_file(run: &[u8], file: &mut [u8]) -> Result<(), Refusal>
     ensures result_value { finding result ≡ write_check run.now file.old }
     ensures file_after { file.new ≡ written (finding result) (file_of run.now) file.old }
 {
@@ -32,7 +32,7 @@ pub fn write_file(run: &[u8], file: &mut [u8]) -> Check
         lent::check_room(needed, file.len()),
         run_check::check_run(run),
     );
-    if let Check::Passed = c {
+    if let Ok(()) = c {
         write_blocks(run, blocks_in(form), file);
     }
     c

@@ -7,7 +7,7 @@ ghost use Rattle.lent.specs.Lent.{placed};
 ghost use Rattle.block.specs.Block.{check_of, block_check, block_of};
 ghost use Rattle.block.specs.Blocks.{blocks_check};
 
-use outcome::{Check, Refusal};
+use outcome::{Reason, Refusal};
 
 // A product modulo 4,294,967,296.
 fn wrapping_product(a: u32, b: u32) -> u32
@@ -34,42 +34,31 @@ fn check_of(block: &[u8]) -> u32
 }
 
 // Whether a block has its check, and then whether its number is its place.
-fn check_block(block: &[u8], place: usize) -> Check
+fn check_block(block: &[u8], place: usize) -> Result<(), Refusal>
     requires { length block.now ≡ 512 }
     ensures { finding result ≡ block_check place block.now }
 {
     if little_endian::read_u32(block, 508) != check_of(block) {
-        return Check::Refused(Refusal {
-            number: 2,
-            first: place as u64,
-            second: 0,
-        });
+        return Err(Reason::BlockCheck.at(place as u64, 0));
     }
     if (little_endian::read_u16(block, 0) as usize) != place {
-        return Check::Refused(Refusal {
-            number: 3,
-            first: place as u64,
-            second: 0,
-        });
+        return Err(Reason::BlockNumber.at(place as u64, 0));
     }
-    Check::Passed
+    Ok(())
 }
 
 // The blocks of a file, ascending from 0.
-pub fn check_blocks(file: &[u8], n: usize) -> Check
+pub fn check_blocks(file: &[u8], n: usize) -> Result<(), Refusal>
     requires { length file.now ≡ 512 * n }
     ensures { finding result ≡ blocks_check 0 n file.now }
 {
     let mut b: usize = 0;
     while b < n {
         let from = 512 * b;
-        let r = check_block(&file[from..from + 512], b);
-        if let Check::Refused(_) = r {
-            return r;
-        }
+        check_block(&file[from..from + 512], b)?;
         b += 1;
     }
-    Check::Passed
+    Ok(())
 }
 
 // Puts the block of 506 data bytes into an output: its number, the data, and the check of what then stands there.

@@ -10,7 +10,7 @@
 ghost use Rattle.std.specs.Prelude.{◌≡◌, ◌≤◌, length, nat_abs};
 
 use case_io::MOST_CASES;
-use outcome::{Answer, Refusal, SignedAnswer};
+use outcome::Refusal;
 use reading::read_full;
 use std::io::Read;
 use survivorship::Kind;
@@ -50,12 +50,12 @@ fn stretch(bytes: &[u8], start: usize, length: usize) -> &[u8]
 }
 
 // ---- a case
-fn print_answer(rt: &impl Print, a: Answer) {
+fn print_answer(rt: &impl Print, a: Result<u64, Refusal>) {
     match a {
-        Answer::Value(n) => {
+        Ok(n) => {
             case_io::print_named(rt, b"value ", n);
         }
-        Answer::Refused(r) => {
+        Err(r) => {
             case_io::print_refused(rt, r);
         }
     }
@@ -76,10 +76,10 @@ fn print_signed(rt: &impl Print, n: i64) {
     }
 }
 
-fn print_signed_answer(rt: &impl Print, a: SignedAnswer) {
+fn print_signed_answer(rt: &impl Print, a: Result<i64, Refusal>) {
     match a {
-        SignedAnswer::Value(n) => print_signed(rt, n),
-        SignedAnswer::Refused(r) => {
+        Ok(n) => print_signed(rt, n),
+        Err(r) => {
             case_io::print_refused(rt, r);
         }
     }
@@ -95,14 +95,14 @@ fn kind_of(kind: u8) -> Kind {
 }
 
 // A kind that is not there is answered by a refusal that no rule has.
-fn answer(run: &[u8], history: &[u8], kind: u8, age: u32, deferment: u32, year: u32) -> Answer {
+fn answer(run: &[u8], history: &[u8], kind: u8, age: u32, deferment: u32, year: u32) -> Result<u64, Refusal> {
     match kind {
         1 => enquiry::cells::factor(run, history, age, year),
         2 => enquiry::cells::rate(run, history, age, year),
         3 | 4 => enquiry::values::survivorship(run, history, kind_of(kind), age, deferment, year),
         5 | 6 => enquiry::values::expectation(run, history, kind_of(kind), age, deferment, year),
         7 | 8 => enquiry::values::annuity(run, history, kind_of(kind), age, deferment, year),
-        _ => Answer::Refused(Refusal {
+        _ => Err(Refusal {
             number: 0,
             first: 0,
             second: 0,

@@ -14,7 +14,7 @@ ghost use Rattle.layout.specs.Layout.{mpb1, mpb2, file_length};
 
 use basis_file::{read, write};
 use case_io::MOST_CASES;
-use outcome::Check;
+use outcome::Refusal;
 use reading::read_full;
 use std::io::Read;
 
@@ -94,18 +94,18 @@ fn sum_of(output: &[u8]) -> u32
 }
 
 // The refusal's number and places, or zeros, and the sum.
-fn print_answer(rt: &impl Print, c: Check, sum: u32) {
+fn print_answer(rt: &impl Print, c: Result<(), Refusal>, sum: u32) {
     match c {
-        Check::Passed => {
+        Ok(()) => {
             case_io::print_numbers(rt, &[0, 0, 0, sum as u64]);
         }
-        Check::Refused(r) => {
+        Err(r) => {
             case_io::print_numbers(rt, &[r.number as u64, r.first, r.second, sum as u64]);
         }
     }
 }
 
-fn answer(kind: u8, rate: i32, input: &[u8], output: &mut [u8]) -> Check {
+fn answer(kind: u8, rate: i32, input: &[u8], output: &mut [u8]) -> Result<(), Refusal> {
     if kind == 0 {
         return read::read_file(input, output);
     }

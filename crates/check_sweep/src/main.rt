@@ -10,7 +10,6 @@ ghost use Rattle.std.specs.Prelude.{◌≡◌, ◌≤◌, length};
 ghost use Rattle.history.specs.History.{Workable};
 
 use case_io::MOST_CASES;
-use outcome::Check;
 use reading::read_full;
 use std::io::Read;
 
@@ -62,8 +61,8 @@ fn sweep_years(rt: &impl Print, run: &[u8], history: &[u8])
 
 fn sweep_case(rt: &impl Print, run: &[u8], history: &[u8]) {
     match history::check::check_run_and_history(run, history) {
-        Check::Passed => sweep_years(rt, run, history),
-        Check::Refused(r) => {
+        Ok(()) => sweep_years(rt, run, history),
+        Err(r) => {
             case_io::print_refused(rt, r);
         }
     }

@@ -4,7 +4,7 @@ ghost use Rattle.outcome.specs.Outcome.{finding, meaning, signed_meaning};
 ghost use Rattle.engine.specs.Enquiry.{refusal_of, answer_of, signed_answer_of};
 
 use crate::{CAnswer, CSignedAnswer};
-use outcome::{Answer, Check, Refusal, SignedAnswer};
+use outcome::Refusal;
 
 pub const NO_REFUSAL: Refusal = Refusal {
     number: 0,
@@ -12,35 +12,35 @@ pub const NO_REFUSAL: Refusal = Refusal {
     second: 0,
 };
 
-pub(crate) fn refusal_of(check: Check) -> Refusal
+pub(crate) fn refusal_of(check: Result<(), Refusal>) -> Refusal
     ensures { result ≡ refusal_of (finding check) }
 {
     match check {
-        Check::Passed => NO_REFUSAL,
-        Check::Refused(r) => r,
+        Ok(()) => NO_REFUSAL,
+        Err(r) => r,
     }
 }
 
-pub(crate) fn answer_of(answer: Answer) -> CAnswer
+pub(crate) fn answer_of(answer: Result<u64, Refusal>) -> CAnswer
     ensures { result ≡ answer_of (meaning answer) }
 {
     match answer {
-        Answer::Value(n) => CAnswer {
+        Ok(n) => CAnswer {
             refusal: NO_REFUSAL,
             value: n,
         },
-        Answer::Refused(refusal) => CAnswer { refusal, value: 0 },
+        Err(refusal) => CAnswer { refusal, value: 0 },
     }
 }
 
-pub(crate) fn signed_answer_of(answer: SignedAnswer) -> CSignedAnswer
+pub(crate) fn signed_answer_of(answer: Result<i64, Refusal>) -> CSignedAnswer
     ensures { result ≡ signed_answer_of (signed_meaning answer) }
 {
     match answer {
-        SignedAnswer::Value(i) => CSignedAnswer {
+        Ok(i) => CSignedAnswer {
             refusal: NO_REFUSAL,
             value: i,
         },
-        SignedAnswer::Refused(refusal) => CSignedAnswer { refusal, value: 0 },
+        Err(refusal) => CSignedAnswer { refusal, value: 0 },
     }
 }

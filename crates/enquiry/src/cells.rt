@@ -7,64 +7,52 @@ ghost use Rattle.improvement.specs.Improvement.{first_year};
 ghost use Rattle.question.specs.Question.{cell_check};
 ghost use Rattle.enquiry.specs.Enquiry.{improvement_enquiry, factor_enquiry, rate_enquiry};
 
-use outcome::{Answer, Check, SignedAnswer};
+use outcome::Refusal;
 
 // The data run and its history afresh, the age, and the year from the first that has an improvement.
-fn check_from_first(run: &[u8], history: &[u8], age: u32, year: u32) -> Check
+fn check_from_first(run: &[u8], history: &[u8], age: u32, year: u32) -> Result<(), Refusal>
     ensures { finding result
         ≡ first_of (run_and_history_check run.now history.now) (cell_check (first_year (basis_with run.now history.now)) age year) }
 {
-    match history::check::check_run_and_history(run, history) {
-        Check::Passed => question::check_cell(improvement::first_year(run), age, year),
-        Check::Refused(r) => Check::Refused(r),
-    }
+    history::check::check_run_and_history(run, history)?;
+    question::check_cell(improvement::first_year(run), age, year)
 }
 
 // The same with the year from B on.
-fn check_from_base(run: &[u8], history: &[u8], age: u32, year: u32) -> Check
+fn check_from_base(run: &[u8], history: &[u8], age: u32, year: u32) -> Result<(), Refusal>
     ensures { finding result
         ≡ first_of (run_and_history_check run.now history.now) (cell_check (basis_with run.now history.now).base age year) }
 {
-    match history::check::check_run_and_history(run, history) {
-        Check::Passed => question::check_cell(basis::fields::base_year(run), age, year),
-        Check::Refused(r) => Check::Refused(r),
-    }
+    history::check::check_run_and_history(run, history)?;
+    question::check_cell(basis::fields::base_year(run), age, year)
 }
 
 // The same with the year from the first that has a rate.
-fn check_from_rated(run: &[u8], history: &[u8], age: u32, year: u32) -> Check
+fn check_from_rated(run: &[u8], history: &[u8], age: u32, year: u32) -> Result<(), Refusal>
     ensures { finding result
         ≡ first_of (run_and_history_check run.now history.now) (cell_check (rated_from (basis_with run.now history.now)) age year) }
 {
-    match history::check::check_run_and_history(run, history) {
-        Check::Passed => question::check_cell(basis::fields::rated_from(run), age, year),
-        Check::Refused(r) => Check::Refused(r),
-    }
+    history::check::check_run_and_history(run, history)?;
+    question::check_cell(basis::fields::rated_from(run), age, year)
 }
 
-pub fn improvement(run: &[u8], history: &[u8], age: u32, year: u32) -> SignedAnswer
+pub fn improvement(run: &[u8], history: &[u8], age: u32, year: u32) -> Result<i64, Refusal>
     ensures { signed_meaning result ≡ improvement_enquiry run.now history.now age year }
 {
-    match check_from_first(run, history, age, year) {
-        Check::Passed => improvement::improvement_needed(run, history, age, year),
-        Check::Refused(r) => SignedAnswer::Refused(r),
-    }
+    check_from_first(run, history, age, year)?;
+    improvement::improvement_needed(run, history, age, year)
 }
 
-pub fn factor(run: &[u8], history: &[u8], age: u32, year: u32) -> Answer
+pub fn factor(run: &[u8], history: &[u8], age: u32, year: u32) -> Result<u64, Refusal>
     ensures { meaning result ≡ factor_enquiry run.now history.now age year }
 {
-    match check_from_base(run, history, age, year) {
-        Check::Passed => projection::factor::factor_at(run, history, age, year),
-        Check::Refused(r) => Answer::Refused(r),
-    }
+    check_from_base(run, history, age, year)?;
+    projection::factor::factor_at(run, history, age, year)
 }
 
-pub fn rate(run: &[u8], history: &[u8], age: u32, year: u32) -> Answer
+pub fn rate(run: &[u8], history: &[u8], age: u32, year: u32) -> Result<u64, Refusal>
     ensures { meaning result ≡ rate_enquiry run.now history.now age year }
 {
-    match check_from_rated(run, history, age, year) {
-        Check::Passed => projection::rate::rate_at(run, history, age, year),
-        Check::Refused(r) => Answer::Refused(r),
-    }
+    check_from_rated(run, history, age, year)?;
+    projection::rate::rate_at(run, history, age, year)
 }

@@ -3,17 +3,15 @@ ghost use Rattle.std.specs.Prelude.{◌≡◌};
 ghost use Rattle.outcome.specs.Outcome.{meaning, finding};
 ghost use Rattle.enquiry.specs.Enquiry.{valuation_check, survivorship_enquiry, expectation_enquiry, annuity_enquiry};
 
-use outcome::{Answer, Check};
+use outcome::Refusal;
 use survivorship::Kind;
 
 // The data run and its history afresh, then the question.
-pub fn check_valuation(run: &[u8], history: &[u8], age: u32, deferment: u32, year: u32) -> Check
+pub fn check_valuation(run: &[u8], history: &[u8], age: u32, deferment: u32, year: u32) -> Result<(), Refusal>
     ensures { finding result ≡ valuation_check run.now history.now age deferment year }
 {
-    match history::check::check_run_and_history(run, history) {
-        Check::Passed => question::check_question(run, age, deferment, year),
-        Check::Refused(r) => Check::Refused(r),
-    }
+    history::check::check_run_and_history(run, history)?;
+    question::check_question(run, age, deferment, year)
 }
 
 pub fn survivorship(
@@ -23,13 +21,11 @@ pub fn survivorship(
     age: u32,
     deferment: u32,
     year: u32,
-) -> Answer
+) -> Result<u64, Refusal>
     ensures { meaning result ≡ survivorship_enquiry run.now history.now kind age deferment year }
 {
-    match check_valuation(run, history, age, deferment, year) {
-        Check::Passed => survivorship::survivors_at(run, history, kind, age, deferment, year),
-        Check::Refused(r) => Answer::Refused(r),
-    }
+    check_valuation(run, history, age, deferment, year)?;
+    survivorship::survivors_at(run, history, kind, age, deferment, year)
 }
 
 pub fn expectation(
@@ -39,15 +35,13 @@ pub fn expectation(
     age: u32,
     deferment: u32,
     year: u32,
-) -> Answer
+) -> Result<u64, Refusal>
     ensures { meaning result ≡ expectation_enquiry run.now history.now kind age deferment year }
 {
-    match check_valuation(run, history, age, deferment, year) {
-        Check::Passed => valuation::expectation::expectation_at(
+    check_valuation(run, history, age, deferment, year)?;
+    valuation::expectation::expectation_at(
             run, history, kind, age, deferment, year,
-        ),
-        Check::Refused(r) => Answer::Refused(r),
-    }
+        )
 }
 
 pub fn annuity(
@@ -57,11 +51,9 @@ pub fn annuity(
     age: u32,
     deferment: u32,
     year: u32,
-) -> Answer
+) -> Result<u64, Refusal>
     ensures { meaning result ≡ annuity_enquiry run.now history.now kind age deferment year }
 {
-    match check_valuation(run, history, age, deferment, year) {
-        Check::Passed => valuation::annuity::annuity_at(run, history, kind, age, deferment, year),
-        Check::Refused(r) => Answer::Refused(r),
-    }
+    check_valuation(run, history, age, deferment, year)?;
+    valuation::annuity::annuity_at(run, history, kind, age, deferment, year)
 }

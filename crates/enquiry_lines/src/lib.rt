@@ -2,7 +2,7 @@
 // parts.
 #![tactic(auto)]
 
-use outcome::Check;
+use outcome::Refusal;
 
 pub mod lines;
 pub mod open_basis;
@@ -27,6 +27,6 @@ pub struct Fed {
 // What the basis file leaves: its check, and the place behind the opening line.
 #[derive(Drop)]
 pub struct Opening {
-    pub check: Check,
+    pub check: Result<(), Refusal>,
     pub at: usize,
 }

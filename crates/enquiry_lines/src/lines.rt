@@ -10,7 +10,7 @@ ghost use Rattle.enquiry_lines.specs.State.{kept, empty_after, reply_room, Ready
 
 use crate::{Fed, Pending};
 use enquiry_text::{Line, parse};
-use outcome::Refusal;
+use outcome::Reason;
 use reply_text::reply;
 
 // The reply to a line by its number from 1.
@@ -35,11 +35,7 @@ fn put_line(
             reply::put_reply(out, at, q, a)
         }
         Line::Malformed => {
-            let x = Refusal {
-                number: 12,
-                first: number,
-                second: 0,
-            };
+            let x = Reason::Line.at(number, 0);
             reply::put_refusal(out, at, x)
         }
     }

@@ -9,24 +9,21 @@ ghost use Rattle.enquiry_lines.specs.State.{reply_room};
 
 use crate::Opening;
 use basis_file::read;
-use outcome::{Check, Refusal};
+use outcome::Refusal;
 use reply_text::reply;
 
 // The file's data run, put into the front of `run` where neither the file nor the history is refused. There is room for
 // either form. It is read into an array of its own first, since the history is checked against it.
-fn read_files(file: &[u8], history: &[u8], run: &mut [u8]) -> Check
+fn read_files(file: &[u8], history: &[u8], run: &mut [u8]) -> Result<(), Refusal>
     requires { run_length mpb2 ≤ length run.old }
     ensures result_value { finding result ≡ files_check file.now history.now }
     ensures run_after { run.new ≡ written (finding result) (run_in file.now) run.old }
 {
     let mut room = [0u8; layout::MPB2_RUN_LENGTH];
-    let c = read::read_file(file, &mut room);
-    if let Check::Refused(_) = c {
-        return c;
-    }
+    read::read_file(file, &mut room)?;
     let read = &room[..read::length_needed(file)];
     let h = history::check::check_history(read, history);
-    if let Check::Passed = h {
+    if let Ok(()) = h {
         lent::put(read, run, 0);
     }
     h
@@ -39,14 +36,14 @@ pub fn open_files(file: &[u8], history: &[u8], run: &mut [u8], out: &mut [u8]) -
     ensures { Opened file.now history.now run.old out.old run.new out.new result }
 {
     match read_files(file, history, run) {
-        Check::Passed => {
+        Ok(()) => {
             let at = reply::put_header(out, 0);
             Opening {
-                check: Check::Passed,
+                check: Ok(()),
                 at: at,
             }
         }
-        Check::Refused(x) => {
+        Err(x) => {
             let told = Refusal {
                 number: x.number,
                 first: x.first,
@@ -54,7 +51,7 @@ pub fn open_files(file: &[u8], history: &[u8], run: &mut [u8], out: &mut [u8]) -
             };
             let at = reply::put_refusal(out, 0, told);
             Opening {
-                check: Check::Refused(x),
+                check: Err(x),
                 at: at,
             }
         }

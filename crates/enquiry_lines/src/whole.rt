@@ -8,7 +8,6 @@ ghost use Rattle.enquiry_lines.specs.State.{empty_after, reply_room, Ready, Answ
 use crate::{Fed, lines, open_basis};
 use basis_file::read;
 use factor_table::TABLE_LENGTH;
-use outcome::Check;
 
 fn least(a: usize, b: usize) -> usize
     ensures { (result ≤ a) × (result ≤ b) }
@@ -57,7 +56,7 @@ pub fn output(file: &[u8], history: &[u8], text: &[u8], lengths: &[usize], out: 
     let o = open_basis::open_files(file, history, &mut room, out);
     let at = o.at;
     let check = o.check;
-    let Check::Passed = check else {
+    let Ok(()) = check else {
         return at;
     };
     let run = &room[..read::length_needed(file)];

@@ -9,7 +9,7 @@ ghost use Rattle.factor_table.specs.Inner.Reading.{is_stored, place_of, stored_f
 ghost use Rattle.factor_table.specs.FactorTable.{factors_length, table_length, FactorTable};
 
 use crate::EARLY_LENGTH;
-use outcome::Answer;
+use outcome::Refusal;
 
 // Is a year itself stored, and not the one before it?
 fn is_stored(year: u32) -> bool
@@ -32,7 +32,7 @@ fn place(run: &[u8], age: u32, year: u32) -> usize
 }
 
 // What stands there.
-fn stored(run: &[u8], numbers: &[u32], age: u32, year: u32) -> Answer
+fn stored(run: &[u8], numbers: &[u32], age: u32, year: u32) -> Result<u64, Refusal>
     requires { Accepted run.now × (20 ≤ age) × (age ≤ 150) × ((basis_of run.now).base ≤ year) × (year ≤ 2110 + age)
         × (length numbers.now ≡ table_length) }
     ensures { meaning result ≡ stored_factor (basis_of run.now) numbers.now age year }
@@ -42,7 +42,7 @@ fn stored(run: &[u8], numbers: &[u32], age: u32, year: u32) -> Answer
 }
 
 // The factor at an age in a year from B on.
-pub fn factor(run: &[u8], history: &[u8], numbers: &[u32], age: u32, year: u32) -> Answer
+pub fn factor(run: &[u8], history: &[u8], numbers: &[u32], age: u32, year: u32) -> Result<u64, Refusal>
     requires { Cell run.now history.now age year × FactorTable (basis_with run.now history.now) numbers.now }
     ensures { meaning result ≡ factor_of (basis_with run.now history.now) age year }
 {
@@ -51,10 +51,10 @@ pub fn factor(run: &[u8], history: &[u8], numbers: &[u32], age: u32, year: u32) 
         return last;
     }
     match last {
-        Answer::Value(f) => {
+        Ok(f) => {
             let terms = basis::fields::age_terms(run, age);
             projection::factor::factor_in(run, history, terms, age, year, f)
         }
-        Answer::Refused(r) => Answer::Refused(r),
+        Err(r) => Err(r),
     }
 }

@@ -7,7 +7,7 @@ ghost use Rattle.layout.specs.Layout.{width_of, value_at};
 ghost use Rattle.field_check.specs.Field.{between, field_check};
 
 use layout::{Number, value_at, width_of};
-use outcome::{Check, Refusal};
+use outcome::Refusal;
 
 // Numbers of one kind, one after the other, with the limits of each and the number of the refusal of one outside them.
 #[derive(Clone, Copy)]
@@ -57,7 +57,7 @@ pub fn all_within(run: &[u8], f: Field) -> bool
 }
 
 // The first number of a field that is outside its limits.
-pub fn check_field(run: &[u8], f: Field) -> Check
+pub fn check_field(run: &[u8], f: Field) -> Result<(), Refusal>
     requires { f.offset + f.count * width_of f.kind ≤ length run.now }
     ensures { finding result ≡ field_check run.now f }
 {
@@ -73,12 +73,12 @@ pub fn check_field(run: &[u8], f: Field) -> Check
             at += width;
             left -= 1;
         } else {
-            return Check::Refused(Refusal {
+            return Err(Refusal {
                 number: number,
                 first: at as u64,
                 second: 0,
             });
         }
     }
-    Check::Passed
+    Ok(())
 }

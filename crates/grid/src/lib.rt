@@ -9,23 +9,21 @@ ghost use Rattle.grid.specs.Grid.{grid_check, grid_start, grid_start_meaning, an
 
 use factor_table::TABLE_LENGTH;
 use grid_record::Point;
-use outcome::Check;
+use outcome::Refusal;
 
 // What the grid's checks let it do: their answer, and how many records are answered.
 #[derive(Drop)]
 pub struct GridStart {
-    pub check: Check,
+    pub check: Result<(), Refusal>,
     pub records: usize,
 }
 
 // 11 before the basis and its history are looked at.
-fn check_grid(run: &[u8], history: &[u8], count: usize) -> Check
+fn check_grid(run: &[u8], history: &[u8], count: usize) -> Result<(), Refusal>
     ensures { finding result ≡ grid_check run.now history.now count }
 {
-    match lent::check_room(119, count) {
-        Check::Passed => history::check::check_run_and_history(run, history),
-        Check::Refused(r) => Check::Refused(r),
-    }
+    lent::check_room(119, count)?;
+    history::check::check_run_and_history(run, history)
 }
 
 // The run and its history are checked here, once for the whole list.
@@ -33,12 +31,12 @@ pub fn start_grid(run: &[u8], history: &[u8], count: usize) -> GridStart
     ensures { grid_start_meaning result ≡ grid_start (grid_check run.now history.now count) }
 {
     match check_grid(run, history, count) {
-        Check::Passed => GridStart {
-            check: Check::Passed,
+        Ok(()) => GridStart {
+            check: Ok(()),
             records: 119,
         },
-        Check::Refused(r) => GridStart {
-            check: Check::Refused(r),
+        Err(r) => GridStart {
+            check: Err(r),
             records: 0,
         },
     }
@@ -71,7 +69,7 @@ fn fill_records(run: &[u8], history: &[u8], table: &[u32], n: usize, points: &mu
 }
 
 // Each record's results or its own refusal, in its place.
-pub fn fill(run: &[u8], history: &[u8], points: &mut [Point]) -> Check
+pub fn fill(run: &[u8], history: &[u8], points: &mut [Point]) -> Result<(), Refusal>
     ensures result_value { finding result ≡ grid_check run.now history.now (length points.old) }
     ensures points_after { points.new ≡ grid_of run.now history.now points.old }
 {

@@ -10,7 +10,7 @@ ghost use Rattle.history.specs.Inner.Part.{part_check};
 
 use field_check::Field;
 use layout::Number;
-use outcome::{Check, Refusal};
+use outcome::{Reason, Refusal};
 
 const LEAST_IMPROVEMENT: i64 = -500_000_000;
 
@@ -69,17 +69,16 @@ fn years_needed(run: &[u8]) -> usize
 }
 
 // A field in the data of a block, with the place of its refusal counted in the joined data.
-fn check_part(history: &[u8], b: usize, f: Field) -> Check
+fn check_part(history: &[u8], b: usize, f: Field) -> Result<(), Refusal>
     requires { (b < 176) × (512 * b + 512 ≤ length history.now) × (f.offset + f.count * width_of f.kind ≤ 506) }
     ensures { finding result ≡ part_check history.now b f }
 {
     let from = 512 * b + 2;
     match field_check::check_field(&history[from..from + 506], f) {
-        Check::Passed => Check::Passed,
-        Check::Refused(r) => Check::Refused(Refusal {
-            number: r.number,
+        Ok(()) => Ok(()),
+        Err(r) => Err(Refusal {
             first: (506 * b) as u64 + r.first,
-            second: r.second,
+            ..r
         }),
     }
 }
@@ -96,12 +95,12 @@ fn part_within(history: &[u8], b: usize, f: Field) -> bool
 // Every 4, then every 5. The years go backwards, so that the first refusal of each kind is the one that is left. As in the
 // check of a run the fields stand in the calls, so that the compiler knows their limits, and what is outside its limits is
 // sought only in a year that has some.
-fn check_fields(history: &[u8], years: usize) -> Check
+fn check_fields(history: &[u8], years: usize) -> Result<(), Refusal>
     requires { (length history.now ≡ 1024 * years) × (years ≤ 88) }
     ensures { finding result ≡ fields_check (parts_of (2 * years) history.now) (history_fields years) }
 {
-    let mut fours = Check::Passed;
-    let mut fives = Check::Passed;
+    let mut fours = Ok(());
+    let mut fives = Ok(());
     let mut k = years;
     while 0 < k {
         k -= 1;
@@ -128,31 +127,22 @@ fn check_fields(history: &[u8], years: usize) -> Check
 }
 
 // The length (13), the blocks, then the fields.
-pub fn check_history(run: &[u8], history: &[u8]) -> Check
+pub fn check_history(run: &[u8], history: &[u8]) -> Result<(), Refusal>
     requires { Accepted run.now }
     ensures { finding result ≡ history_check (basis_of run.now) history.now }
 {
     let years = years_needed(run);
     if history.len() != 1024 * years {
-        return Check::Refused(Refusal {
-            number: 13,
-            first: (1024 * years) as u64,
-            second: 0,
-        });
+        return Err(Reason::HistoryLength.at((1024 * years) as u64, 0));
     }
-    let blocks = block::check_blocks(history, 2 * years);
-    if let Check::Refused(_) = blocks {
-        return blocks;
-    }
+    block::check_blocks(history, 2 * years)?;
     check_fields(history, years)
 }
 
 // The data run afresh, then its history.
-pub fn check_run_and_history(run: &[u8], history: &[u8]) -> Check
+pub fn check_run_and_history(run: &[u8], history: &[u8]) -> Result<(), Refusal>
     ensures { finding result ≡ run_and_history_check run.now history.now }
 {
-    match run_check::check_run(run) {
-        Check::Passed => check_history(run, history),
-        Check::Refused(r) => Check::Refused(r),
-    }
+    run_check::check_run(run)?;
+    check_history(run, history)
 }

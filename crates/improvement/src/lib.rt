@@ -12,7 +12,7 @@ ghost use Rattle.improvement.specs.Improvement.{addition_of, birth_terms, projec
 ghost use Rattle.improvement.specs.Checked.{ImprovedCell, ProjectedCell};
 
 use basis::Convergence;
-use outcome::{Refusal, SignedAnswer};
+use outcome::{Reason, Refusal};
 
 // The constant addition of a year.
 fn addition_in(run: &[u8], year: u32) -> i32
@@ -101,22 +101,18 @@ pub fn is_usable(improvement: i64) -> bool
 pub fn beyond_limits(age: u32, year: u32) -> Refusal
     ensures { result ≡ refusal 9 age year }
 {
-    Refusal {
-        number: 9,
-        first: age as u64,
-        second: year as u64,
-    }
+    Reason::Improvement.at(age as u64, year as u64)
 }
 
 // The improvement at an age in a year that has one, with refusal 9.
-pub fn improvement_needed(run: &[u8], history: &[u8], age: u32, year: u32) -> SignedAnswer
+pub fn improvement_needed(run: &[u8], history: &[u8], age: u32, year: u32) -> Result<i64, Refusal>
     requires { ImprovedCell run.now history.now age year }
     ensures { signed_meaning result ≡ improvement_needed age year (improvement_of (basis_with run.now history.now) age year) }
 {
     let improvement = improvement_at(run, history, basis::fields::age_terms(run, age), age, year);
     if is_usable(improvement) {
-        SignedAnswer::Value(improvement)
+        Ok(improvement)
     } else {
-        SignedAnswer::Refused(beyond_limits(age, year))
+        Err(beyond_limits(age, year))
     }
 }

@@ -5,20 +5,17 @@ ghost use Rattle.std.specs.Prelude.{◌≡◌, ◌+◌, ◌≤◌, length, repli
 ghost use Rattle.outcome.specs.Outcome.{finding};
 ghost use Rattle.lent.specs.Lent.{count_check, placed};
 
-use outcome::{Check, Refusal};
+use outcome::{Reason, Refusal};
 
 // Whether as many elements are lent as are needed: the first check of every call that fills a lent output.
-pub fn check_room(needed: usize, lent: usize) -> Check
+#[tactic(auto, unfolding(crate::specs::Lent::count_check))]
+pub fn check_room(needed: usize, lent: usize) -> Result<(), Refusal>
     ensures { finding result ≡ count_check needed lent }
 {
     if needed <= lent {
-        Check::Passed
+        Ok(())
     } else {
-        Check::Refused(Refusal {
-            number: 11,
-            first: needed as u64,
-            second: 0,
-        })
+        Err(Reason::Room.at(needed as u64, 0))
     }
 }
 
@@ -35,9 +32,5 @@ pub fn put_repeated(byte: u8, n: usize, out: &mut [u8], at: usize)
     requires { at + n ≤ length out.old }
     ensures { out.new ≡ placed out.old at (replicate n byte) }
 {
-    let mut i: usize = 0;
-    while i < n {
-        out[at + i] = byte;
-        i += 1;
-    }
+    out[at..at + n].fill(byte);
 }

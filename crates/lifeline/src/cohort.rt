@@ -11,28 +11,28 @@ ghost use Rattle.lifeline.specs.Lifeline.{start_at, last_year_at, step_year_chec
 
 use crate::{LifelineStart, LifelineStep, Position, Status};
 use arithmetic::UNIT;
-use outcome::{Answer, Check, Refusal};
+use outcome::{Reason, Refusal};
 
 // U at an age and year, checked as an enquiry with deferment 0.
 pub fn start_at(run: &[u8], history: &[u8], age: u32, year: u32) -> LifelineStart
     ensures { start_meaning result ≡ start_at run.now history.now age year }
 {
     match enquiry::values::check_valuation(run, history, age, 0, year) {
-        Check::Passed => LifelineStart {
+        Ok(()) => LifelineStart {
             position: Position {
                 age: age,
                 year: year,
                 survivors: UNIT,
             },
-            check: Check::Passed,
+            check: Ok(()),
         },
-        Check::Refused(r) => LifelineStart {
+        Err(r) => LifelineStart {
             position: Position {
                 age: 0,
                 year: 0,
                 survivors: 0,
             },
-            check: Check::Refused(r),
+            check: Err(r),
         },
     }
 }
@@ -45,37 +45,29 @@ fn is_step_year(first: u32, age: u32, year: u32) -> bool
 }
 
 // 7: any other year.
-fn check_step_year(first: u32, age: u32, year: u32) -> Check
+fn check_step_year(first: u32, age: u32, year: u32) -> Result<(), Refusal>
     ensures { finding result ≡ step_year_check first age year }
 {
     if is_step_year(first, age, year) {
-        Check::Passed
+        Ok(())
     } else {
-        Check::Refused(Refusal {
-            number: 7,
-            first: year as u64,
-            second: 0,
-        })
+        Err(Reason::Year.at(year as u64, 0))
     }
 }
 
 // 5: survivors above U, with the length of the run for a place.
-fn check_survivors(run: &[u8], survivors: u64) -> Check
+fn check_survivors(run: &[u8], survivors: u64) -> Result<(), Refusal>
     ensures { finding result ≡ survivors_check (length run.now) survivors }
 {
     if survivors <= UNIT {
-        Check::Passed
+        Ok(())
     } else {
-        Check::Refused(Refusal {
-            number: 5,
-            first: run.len() as u64,
-            second: 0,
-        })
+        Err(Reason::Limits.at(run.len() as u64, 0))
     }
 }
 
 // The age, the year, then the survivors.
-fn check_position(run: &[u8], position: Position) -> Check
+fn check_position(run: &[u8], position: Position) -> Result<(), Refusal>
     requires { Accepted run.now }
     ensures { finding result ≡ position_check (length run.now) (rated_from (basis_of run.now)) position }
 {
@@ -87,13 +79,11 @@ fn check_position(run: &[u8], position: Position) -> Check
 }
 
 // All that a step checks before it advances: the data run and its history afresh, then these.
-fn check_step(run: &[u8], history: &[u8], position: Position) -> Check
+fn check_step(run: &[u8], history: &[u8], position: Position) -> Result<(), Refusal>
     ensures { finding result ≡ step_check run.now history.now position }
 {
-    match history::check::check_run_and_history(run, history) {
-        Check::Passed => check_position(run, position),
-        Check::Refused(r) => Check::Refused(r),
-    }
+    history::check::check_run_and_history(run, history)?;
+    check_position(run, position)
 }
 
 // One year of cohort survivorship; where its rate is refused, the position is unchanged.
@@ -106,7 +96,7 @@ fn year_later(run: &[u8], history: &[u8], position: Position) -> LifelineStep
     let age = position.age;
     let year = position.year;
     match survivorship::survivors_after_year(run, history, age, year, position.survivors) {
-        Answer::Value(s) => LifelineStep {
+        Ok(s) => LifelineStep {
             position: Position {
                 age: age + 1,
                 year: year + 1,
@@ -114,7 +104,7 @@ fn year_later(run: &[u8], history: &[u8], position: Position) -> LifelineStep
             },
             status: Status::Advanced,
         },
-        Answer::Refused(r) => LifelineStep {
+        Err(r) => LifelineStep {
             position,
             status: Status::Refused(r),
         },
@@ -126,7 +116,7 @@ pub fn step_at(run: &[u8], history: &[u8], position: Position) -> LifelineStep
     ensures { step_meaning result ≡ step_at run.now history.now position }
 {
     match check_step(run, history, position) {
-        Check::Passed => {
+        Ok(()) => {
             if position.age == 150 {
                 LifelineStep {
                     position,
@@ -136,7 +126,7 @@ pub fn step_at(run: &[u8], history: &[u8], position: Position) -> LifelineStep
                 year_later(run, history, position)
             }
         }
-        Check::Refused(x) => LifelineStep {
+        Err(x) => LifelineStep {
             position,
             status: Status::Refused(x),
         },

@@ -3,7 +3,7 @@
 
 pub mod cohort;
 
-use outcome::{Check, Refusal};
+use outcome::Refusal;
 
 // What a step did.
 #[derive(Drop)]
@@ -25,7 +25,7 @@ pub struct Position {
 #[derive(Drop)]
 pub struct LifelineStart {
     pub position: Position,
-    pub check: Check,
+    pub check: Result<(), Refusal>,
 }
 
 // Its position after a step, and what the step did.

@@ -9,7 +9,7 @@ ghost use Rattle.lifeline.specs.Lifeline.{start_at, position_after};
 ghost use Rattle.lifeline_reader.specs.Reader.{line_started, step_of, line_stepped};
 
 use lifeline::{Position, Status, cohort};
-use outcome::Check;
+use outcome::Refusal;
 
 // A lifeline over the run that it was lent.
 #[derive(Drop)]
@@ -24,7 +24,7 @@ pub struct Lifeline<'a> {
 #[derive(Drop)]
 pub struct Started<'a> {
     pub line: Lifeline<'a>,
-    pub check: Check,
+    pub check: Result<(), Refusal>,
 }
 
 // A lifeline after a step, and what the step did.

@@ -7,7 +7,7 @@ ghost use Rattle.history.specs.History.{basis_with, Workable};
 ghost use Rattle.outcome.specs.Outcome.{meaning, refused};
 ghost use Rattle.model_points.specs.Point.{four_results_of, results_of, point_answer_of, point_of};
 
-use outcome::{Answer, Check, Refusal};
+use outcome::Refusal;
 use question::Question;
 use survivorship::Kind;
 
@@ -30,18 +30,18 @@ pub fn refused_point(refusal: Refusal) -> PointAnswer
 }
 
 // The four results in their order: the first refusal of the four decides.
-pub fn four_results(first: Answer, second: Answer, third: Answer, fourth: Answer) -> PointAnswer
+pub fn four_results(first: Result<u64, Refusal>, second: Result<u64, Refusal>, third: Result<u64, Refusal>, fourth: Result<u64, Refusal>) -> PointAnswer
     ensures { result ≡ point_answer_of (four_results_of (meaning first) (meaning second) (meaning third) (meaning fourth)) }
 {
     match first {
-        Answer::Refused(r) => refused_point(r),
-        Answer::Value(i) => match second {
-            Answer::Refused(r) => refused_point(r),
-            Answer::Value(j) => match third {
-                Answer::Refused(r) => refused_point(r),
-                Answer::Value(k) => match fourth {
-                    Answer::Refused(r) => refused_point(r),
-                    Answer::Value(l) => PointAnswer {
+        Err(r) => refused_point(r),
+        Ok(i) => match second {
+            Err(r) => refused_point(r),
+            Ok(j) => match third {
+                Err(r) => refused_point(r),
+                Ok(k) => match fourth {
+                    Err(r) => refused_point(r),
+                    Ok(l) => PointAnswer {
                         results: [i, j, k, l],
                         refusal: Refusal {
                             number: 0,
@@ -73,7 +73,7 @@ pub fn direct_point(run: &[u8], history: &[u8], q: Question) -> PointAnswer
     ensures { result ≡ point_of (basis_with run.now history.now) q }
 {
     match question::check_question(run, q.age, q.deferment, q.year) {
-        Check::Passed => direct_results(run, history, q.age, q.deferment, q.year),
-        Check::Refused(r) => refused_point(r),
+        Ok(()) => direct_results(run, history, q.age, q.deferment, q.year),
+        Err(r) => refused_point(r),
     }
 }

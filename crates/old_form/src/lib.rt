@@ -9,32 +9,26 @@ ghost use Rattle.outcome.specs.Outcome.{finding};
 ghost use Rattle.lent.specs.Lent.{written};
 ghost use Rattle.old_form.specs.OldForm.{old_form_check, write_old_check, old_file_of};
 
-use outcome::Check;
+use outcome::Refusal;
 
 // The run's own check, then whether each P is a whole per cent.
-fn check_old_form(run: &[u8]) -> Check
+fn check_old_form(run: &[u8]) -> Result<(), Refusal>
     ensures { finding result ≡ old_form_check run.now }
 {
-    let c = run_check::check_run(run);
-    if let Check::Refused(_) = c {
-        return c;
-    }
+    run_check::check_run(run)?;
     whole::check_whole(run)
 }
 
 // The MPB1 file of an accepted data run of either form, into the front of `file`. The run is laid out in an array of its own
 // first, and written from there as every run is.
-pub fn write_old_form(run: &[u8], file: &mut [u8]) -> Check
+pub fn write_old_form(run: &[u8], file: &mut [u8]) -> Result<(), Refusal>
     ensures result_value { finding result ≡ write_old_check run.now file.old }
     ensures file_after { file.new ≡ written (finding result) (old_file_of run.now) file.old }
 {
-    let checked = outcome::first_of(
+    outcome::first_of(
         lent::check_room(layout::MPB1_FILE_LENGTH, file.len()),
         check_old_form(run),
-    );
-    if let Check::Refused(_) = checked {
-        return checked;
-    }
+    )?;
     let mut old = [0u8; layout::MPB1_RUN_LENGTH];
     fields::lay_old_form(run, &mut old);
     basis_file::write::write_file(&old, file)

@@ -7,10 +7,10 @@ ghost use Rattle.old_form.specs.OldForm.{whole_from, whole_check};
 
 use layout::forms::form_of_run;
 use layout::offsets::{birth_year_proportions_at, proportion_width};
-use outcome::{Check, Refusal};
+use outcome::{Reason, Refusal};
 
 // The first of n P of a table that is no whole per cent (17).
-fn check_table(run: &[u8], offset: usize, n: usize) -> Check
+fn check_table(run: &[u8], offset: usize, n: usize) -> Result<(), Refusal>
     requires accepted { Accepted run.now }
     requires n_in_bounds { offset + width_of (proportion_of (form_of_run (length run.now))) * n ≤ length run.now }
     ensures { finding result ≡ whole_from run.now offset 0 n }
@@ -20,19 +20,15 @@ fn check_table(run: &[u8], offset: usize, n: usize) -> Check
     let mut place: usize = 0;
     while place < n {
         if proportion::proportion_at(run, form, offset, place) % 100 != 0 {
-            return Check::Refused(Refusal {
-                number: 17,
-                first: (offset + width * place) as u64,
-                second: 0,
-            });
+            return Err(Reason::PartPerCent.at((offset + width * place) as u64, 0));
         }
         place += 1;
     }
-    Check::Passed
+    Ok(())
 }
 
 // By age, then by birth year.
-pub(crate) fn check_whole(run: &[u8]) -> Check
+pub(crate) fn check_whole(run: &[u8]) -> Result<(), Refusal>
     requires { Accepted run.now }
     ensures { finding result ≡ whole_check run.now }
 {

@@ -6,17 +6,16 @@ use native.Mathlib.Nat.{suc-add, zero-add}
 use native.Mathlib.Omega.{arith}
 use lib.IntN.{ℤ, pos, ◌+ℤ◌}
 use Rattle.outcome.specs.declared.Refusal.{Refusal}
-use Rattle.outcome.specs.declared.Check.{Check}
-use Rattle.outcome.specs.declared.Check.TheVariants as check
+use Rattle.std.specs.Prelude.{Result, Ok, Err}
 use Rattle.outcome.specs.Outcome.{finding, Finding, passed, refused_by, Outcome, value, refused, unless, passes, first_of, checked, and_then, steps, add_to, sum_of}
 
 -- ---- checks
 -- what a definition says of a check that turns out to be one of its two cases
-pub found : {c case : Check} {f : Finding} → finding c ≡ f → c ≡ case → f ≡ finding case
+pub found : {c case : Result (Unit {0}) Refusal} {f : Finding} → finding c ≡ f → c ≡ case → f ≡ finding case
 found e told = sym e ∙ ap finding told
 
 -- a check that refuses has not passed
-pub refused-stands : (r : Refusal) → finding (check.Refused r) ≡ passed → ⊥
+pub refused-stands : (r : Refusal) → finding (Err r) ≡ passed → ⊥
 refused-stands r h = let z : ◌≡◌ {A = ℕ} 0 1 = cc in absurd (omega arith)
 
 -- what passed held

@@ -1,12 +1,6 @@
 -- Checks, and work that can be refused (01, "Who can cause a refusal"): the first refusal in the order decides.
-use Rattle.std.specs.Prelude.{ℕ, zero, suc, Bool, true, false, cond, ℤ, pos, ◌+ℤ◌}
+use Rattle.std.specs.Prelude.{ℕ, zero, suc, Bool, true, false, cond, ℤ, pos, ◌+ℤ◌, Result, Ok, Err}
 use Rattle.outcome.specs.declared.Refusal.{Refusal}
-use Rattle.outcome.specs.declared.Check.{Check}
-use Rattle.outcome.specs.declared.Check.TheVariants as check
-use Rattle.outcome.specs.declared.Answer.{Answer}
-use Rattle.outcome.specs.declared.Answer.TheVariants as answer
-use Rattle.outcome.specs.declared.SignedAnswer.{SignedAnswer}
-use Rattle.outcome.specs.declared.SignedAnswer.TheVariants as signed
 
 -- a refusal is a number and two places
 abbrev pub refusal : ℕ → ℕ → ℕ → Refusal
@@ -64,14 +58,14 @@ unfoldable pub sum_of : (ℕ → Outcome ℤ) → ℕ → Outcome ℤ
 sum_of term n = steps (add_to term) (pos 0) n
 
 -- ---- what an answer of the engine stands for, in each of its cases
-abbrev pub finding : Check → Finding
-finding check.Passed = passed
-finding (check.Refused r) = refused_by r
+abbrev pub finding : Result (Unit {0}) Refusal → Finding
+finding (Ok _) = passed
+finding (Err r) = refused_by r
 
-abbrev pub meaning : Answer → Outcome ℤ
-meaning (answer.Value n) = value (pos n)
-meaning (answer.Refused r) = refused r
+abbrev pub meaning : Result ℕ Refusal → Outcome ℤ
+meaning (Ok n) = value (pos n)
+meaning (Err r) = refused r
 
-abbrev pub signed_meaning : SignedAnswer → Outcome ℤ
-signed_meaning (signed.Value i) = value i
-signed_meaning (signed.Refused r) = refused r
+abbrev pub signed_meaning : Result ℤ Refusal → Outcome ℤ
+signed_meaning (Ok i) = value i
+signed_meaning (Err r) = refused r

@@ -16,7 +16,6 @@ ghost use Rattle.points.specs.Blocks.{ReadyForBlocks, BlockAnswered, BlocksAnswe
 use basis_file::read::length_needed;
 use enquiry_lines::{Pending, lines, open_basis};
 use factor_table::TABLE_LENGTH;
-use outcome::Check;
 use reading::read_full;
 use std::fs::File;
 use std::io::{Error, ErrorKind, Read, Write};
@@ -256,7 +255,7 @@ fn answer<I: Read, W: Write>(
     let at = o.at;
     let is_written = write_out(rt, output, &out[..at]);
     let check = o.check;
-    let Check::Passed = check else {
+    let Ok(()) = check else {
         return is_written;
     };
     if !is_written {

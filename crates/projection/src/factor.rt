@@ -9,7 +9,7 @@ ghost use Rattle.projection.specs.Projection.{factor_next, factor_from, factor_o
 
 use arithmetic::UNIT;
 use basis::Convergence;
-use outcome::{Answer, Refusal};
+use outcome::{Reason, Refusal};
 
 // This year's factor from last year's and the improvement.
 fn factor_next(factor: u64, improvement: i64) -> u64
@@ -21,22 +21,18 @@ fn factor_next(factor: u64, improvement: i64) -> u64
 }
 
 // The same with refusals 9 and 10, in this order.
-fn factor_from(age: u32, year: u32, improvement: i64, factor: u64) -> Answer
+fn factor_from(age: u32, year: u32, improvement: i64, factor: u64) -> Result<u64, Refusal>
     requires { factor ≤ 4_000_000_000 }
     ensures { meaning result ≡ factor_from age year improvement (pos factor) }
 {
     if !improvement::is_usable(improvement) {
-        return Answer::Refused(improvement::beyond_limits(age, year));
+        return Err(improvement::beyond_limits(age, year));
     }
     let next = factor_next(factor, improvement);
     if 4_000_000_000 < next {
-        return Answer::Refused(Refusal {
-            number: 10,
-            first: age as u64,
-            second: year as u64,
-        });
+        return Err(Reason::Factor.at(age as u64, year as u64));
     }
-    Answer::Value(next)
+    Ok(next)
 }
 
 // The same at an age whose terms the caller has read.
@@ -47,7 +43,7 @@ pub fn factor_in(
     age: u32,
     year: u32,
     factor: u64,
-) -> Answer
+) -> Result<u64, Refusal>
     requires { ImprovedCell run.now history.now age year × (terms ≡ (basis_with run.now history.now).by_age age) × (factor ≤ 4_000_000_000) }
     ensures { meaning result ≡ factor_from age year (improvement_of (basis_with run.now history.now) age year) (pos factor) }
 {
@@ -60,7 +56,7 @@ pub fn factor_in(
 }
 
 // The factor at an age in a year from B on.
-pub fn factor_at(run: &[u8], history: &[u8], age: u32, year: u32) -> Answer
+pub fn factor_at(run: &[u8], history: &[u8], age: u32, year: u32) -> Result<u64, Refusal>
     requires { Cell run.now history.now age year }
     ensures { meaning result ≡ factor_of (basis_with run.now history.now) age year }
 {
@@ -70,13 +66,8 @@ pub fn factor_at(run: &[u8], history: &[u8], age: u32, year: u32) -> Answer
     let mut factor: u64 = UNIT;
     let mut k: u32 = 0;
     while k < years {
-        match factor_in(run, history, terms, age, base + 1 + k, factor) {
-            Answer::Value(v) => {
-                factor = v;
-            }
-            Answer::Refused(r) => return Answer::Refused(r),
-        }
+        factor = factor_in(run, history, terms, age, base + 1 + k, factor)?;
         k += 1;
     }
-    Answer::Value(factor)
+    Ok(factor)
 }

@@ -9,7 +9,7 @@ ghost use Rattle.projection.specs.Projection.{rate_from, rate_of};
 
 use crate::factor;
 use arithmetic::UNIT;
-use outcome::Answer;
+use outcome::Refusal;
 
 // The lesser of U and the base rate times the factor.
 fn rate_from(run: &[u8], age: u32, factor: u64) -> u64
@@ -24,21 +24,17 @@ fn rate_from(run: &[u8], age: u32, factor: u64) -> u64
 }
 
 // The mortality rate at an age from what its factor is, wherever that was worked out, or the factor's refusal.
-pub fn rate_by(run: &[u8], age: u32, factor: Answer) -> Answer
+pub fn rate_by(run: &[u8], age: u32, factor: Result<u64, Refusal>) -> Result<u64, Refusal>
     requires { Accepted run.now × (20 ≤ age) × (age ≤ 150) × AtMost 4_000_000_000 (meaning factor) }
     ensures { meaning result ≡ and_then (meaning factor) (λ f. value (rate_from (basis_of run.now) age f)) }
 {
-    match factor {
-        Answer::Value(f) => Answer::Value(rate_from(run, age, f)),
-        Answer::Refused(r) => Answer::Refused(r),
-    }
+    Ok(rate_from(run, age, factor?))
 }
 
 // The mortality rate at an age in a year from B on.
-pub fn rate_at(run: &[u8], history: &[u8], age: u32, year: u32) -> Answer
+pub fn rate_at(run: &[u8], history: &[u8], age: u32, year: u32) -> Result<u64, Refusal>
     requires { Cell run.now history.now age year }
     ensures { meaning result ≡ rate_of (basis_with run.now history.now) age year }
 {
-    let factor = factor::factor_at(run, history, age, year);
-    rate_by(run, age, factor)
+    rate_by(run, age, factor::factor_at(run, history, age, year))
 }

@@ -6,7 +6,7 @@ ghost use Rattle.outcome.specs.Outcome.{finding};
 ghost use Rattle.basis.specs.Basis.{basis_of, Accepted, rated_from};
 ghost use Rattle.question.specs.Question.{in_range, age_check, deferment_check, year_check, cell_check, question_check};
 
-use outcome::{Check, Refusal};
+use outcome::{Reason, Refusal};
 
 // A question: an age, a deferment and a year, whatever they hold.
 #[repr(C)]
@@ -24,67 +24,52 @@ fn is_in_range(low: u32, high: u32, n: u32) -> bool
 }
 
 // 6: age outside 20 to 150.
-pub fn check_age(age: u32) -> Check
+pub fn check_age(age: u32) -> Result<(), Refusal>
     ensures { finding result ≡ age_check age }
 {
     if is_in_range(20, 150, age) {
-        Check::Passed
+        Ok(())
     } else {
-        Check::Refused(Refusal {
-            number: 6,
-            first: age as u64,
-            second: 0,
-        })
+        Err(Reason::Age.at(age as u64, 0))
     }
 }
 
 // 8: age + deferment above 150. The sum is made in 64 bits, where it cannot wrap.
-fn check_deferment(age: u32, deferment: u32) -> Check
+fn check_deferment(age: u32, deferment: u32) -> Result<(), Refusal>
     ensures { finding result ≡ deferment_check age deferment }
 {
     if age as u64 + deferment as u64 <= 150 {
-        Check::Passed
+        Ok(())
     } else {
-        Check::Refused(Refusal {
-            number: 8,
-            first: age as u64,
-            second: deferment as u64,
-        })
+        Err(Reason::Deferment.at(age as u64, deferment as u64))
     }
 }
 
 // 7: the enquiry's year after 2130, or before the first that it may name.
-fn check_year(first: u32, year: u32) -> Check
+fn check_year(first: u32, year: u32) -> Result<(), Refusal>
     ensures { finding result ≡ year_check first year }
 {
     if is_in_range(first, 2130, year) {
-        Check::Passed
+        Ok(())
     } else {
-        Check::Refused(Refusal {
-            number: 7,
-            first: year as u64,
-            second: 0,
-        })
+        Err(Reason::Year.at(year as u64, 0))
     }
 }
 
 // 6, then 7.
-pub fn check_cell(first: u32, age: u32, year: u32) -> Check
+pub fn check_cell(first: u32, age: u32, year: u32) -> Result<(), Refusal>
     ensures { finding result ≡ cell_check first age year }
 {
-    let of_age = check_age(age);
-    let of_year = check_year(first, year);
-    outcome::first_of(of_age, of_year)
+    check_age(age)?;
+    check_year(first, year)
 }
 
 // 6, then 8, then 7, for years from the first that has a rate.
-pub fn check_question(run: &[u8], age: u32, deferment: u32, year: u32) -> Check
+pub fn check_question(run: &[u8], age: u32, deferment: u32, year: u32) -> Result<(), Refusal>
     requires { Accepted run.now }
     ensures { finding result ≡ question_check (rated_from (basis_of run.now)) age deferment year }
 {
-    let of_year = check_year(basis::fields::rated_from(run), year);
-    outcome::first_of(
-        check_age(age),
-        outcome::first_of(check_deferment(age, deferment), of_year),
-    )
+    check_age(age)?;
+    check_deferment(age, deferment)?;
+    check_year(basis::fields::rated_from(run), year)
 }

@@ -6,14 +6,14 @@ ghost use Rattle.roll.specs.Kept.{year_in, numbers_in};
 
 use crate::kept;
 use arithmetic::UNIT;
-use outcome::{Answer, Check, Refusal};
+use outcome::Refusal;
 use survivorship::Kind;
 
 // A refusal that names a member.
-fn refused(number: u32, member: u32) -> Check
+fn refused(number: u32, member: u32) -> Result<(), Refusal>
     ensures { finding result ≡ refused_by (refusal number member 0) }
 {
-    Check::Refused(Refusal {
+    Err(Refusal {
         number,
         first: member as u64,
         second: 0,
@@ -21,7 +21,7 @@ fn refused(number: u32, member: u32) -> Check
 }
 
 // 16, then 14, then 5.
-pub(crate) fn check_join(roll: &[u64], number: u32, pension: u32) -> Check
+pub(crate) fn check_join(roll: &[u64], number: u32, pension: u32) -> Result<(), Refusal>
     requires { 2002 ≤ length roll.now }
     ensures { finding result ≡ join_check (numbers_in roll.now) number pension }
 {
@@ -33,19 +33,19 @@ pub(crate) fn check_join(roll: &[u64], number: u32, pension: u32) -> Check
         return refused(14, number);
     }
     if pension <= 10_000_000 {
-        Check::Passed
+        Ok(())
     } else {
         refused(5, number)
     }
 }
 
 // 15.
-pub(crate) fn check_leave(roll: &[u64], number: u32) -> Check
+pub(crate) fn check_leave(roll: &[u64], number: u32) -> Result<(), Refusal>
     requires { 2002 ≤ length roll.now }
     ensures { finding result ≡ leave_check (numbers_in roll.now) number }
 {
     if kept::place_in(roll, number) < kept::count_in(roll) {
-        Check::Passed
+        Ok(())
     } else {
         refused(15, number)
     }
@@ -60,14 +60,12 @@ fn liability_of(pension: u32, annuity: u64) -> u64
 }
 
 // The liability on the lent basis and history; a pension of 0 needs its annuity too.
-fn liability_on(run: &[u8], history: &[u8], age: u32, year: u32, pension: u32) -> Answer
+fn liability_on(run: &[u8], history: &[u8], age: u32, year: u32, pension: u32) -> Result<u64, Refusal>
     requires { pension ≤ 10_000_000 }
     ensures { meaning result ≡ liability_on run.now history.now age year pension }
 {
-    match enquiry::values::annuity(run, history, Kind::Cohort, age, 0, year) {
-        Answer::Value(a) => Answer::Value(liability_of(pension, a)),
-        Answer::Refused(r) => Answer::Refused(r),
-    }
+    let annuity = enquiry::values::annuity(run, history, Kind::Cohort, age, 0, year)?;
+    Ok(liability_of(pension, annuity))
 }
 
 // The roll's own refusals before any of the engine's.
@@ -78,13 +76,11 @@ pub(crate) fn liability_joining(
     number: u32,
     age: u32,
     pension: u32,
-) -> Answer
+) -> Result<u64, Refusal>
     requires { 2002 ≤ length roll.now }
     ensures { meaning result ≡ liability_joining (numbers_in roll.now) (year_in roll.now) run.now history.now
         number age pension }
 {
-    match check_join(roll, number, pension) {
-        Check::Passed => liability_on(run, history, age, kept::year_in(roll), pension),
-        Check::Refused(r) => Answer::Refused(r),
-    }
+    check_join(roll, number, pension)?;
+    liability_on(run, history, age, kept::year_in(roll), pension)
 }

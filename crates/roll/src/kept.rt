@@ -4,20 +4,16 @@ ghost use Rattle.outcome.specs.Outcome.{finding};
 ghost use Rattle.roll.specs.Roll.{added};
 ghost use Rattle.roll.specs.Kept.{roll_check, year_in, count_in, numbers_in, place_of, total_in};
 
-use outcome::{Check, Refusal};
+use outcome::{Reason, Refusal};
 
 // 11: the list is too short.
-pub(crate) fn check_roll(roll: &[u64]) -> Check
+pub(crate) fn check_roll(roll: &[u64]) -> Result<(), Refusal>
     ensures { finding result ≡ roll_check roll.now }
 {
     if 2002 <= roll.len() {
-        Check::Passed
+        Ok(())
     } else {
-        Check::Refused(Refusal {
-            number: 11,
-            first: 16016,
-            second: 0,
-        })
+        Err(Reason::Room.at(16016, 0))
     }
 }
 

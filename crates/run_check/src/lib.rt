@@ -12,10 +12,10 @@ ghost use Rattle.run_check.specs.Run.{fields_of, run_check};
 
 use layout::Form;
 use layout::forms::{form_of_run, run_length};
-use outcome::{Check, Refusal, first_of};
+use outcome::{Reason, Refusal, first_of};
 
 // The fields of a run of its form's length, those that have one value only before those with limits.
-fn check_fields(run: &[u8], form: Form) -> Check
+fn check_fields(run: &[u8], form: Form) -> Result<(), Refusal>
     requires { (length run.now ≡ run_length (meant form)) × (fields_end (meant form) ≤ length run.now) × (run_length mpb1 ≤ length run.now) }
     ensures { finding result ≡ fields_check run.now (fields_of (meant form)) }
 {
@@ -35,16 +35,12 @@ fn check_fields(run: &[u8], form: Form) -> Check
 }
 
 // The first refusal of a data run.
-pub fn check_run(run: &[u8]) -> Check
+pub fn check_run(run: &[u8]) -> Result<(), Refusal>
     ensures { finding result ≡ run_check run.now }
 {
     let form = form_of_run(run.len());
     if run.len() != run_length(form) {
-        return Check::Refused(Refusal {
-            number: 1,
-            first: 0,
-            second: 0,
-        });
+        return Err(Reason::Length.at(0, 0));
     }
     check_fields(run, form)
 }

@@ -16,10 +16,10 @@ use layout::offsets::{
     birth_year_proportions_at, fields_end,
 };
 use layout::{Form, Number};
-use outcome::{Check, first_of};
+use outcome::{Refusal, first_of};
 
 // Bytes that have one value only (4).
-fn check_exactly(run: &[u8], byte: i64, offset: usize, count: usize) -> Check
+fn check_exactly(run: &[u8], byte: i64, offset: usize, count: usize) -> Result<(), Refusal>
     requires { offset + count ≤ length run.now }
     ensures { finding result ≡ field_check run.now (exactly byte offset count) }
 {
@@ -37,7 +37,7 @@ fn check_exactly(run: &[u8], byte: i64, offset: usize, count: usize) -> Check
 }
 
 // The letters of the mark (4).
-pub(crate) fn check_mark(run: &[u8], form: Form) -> Check
+pub(crate) fn check_mark(run: &[u8], form: Form) -> Result<(), Refusal>
     requires { fields_end (meant form) ≤ length run.now }
     ensures { finding result ≡ fields_check run.now (mark_fields (meant form)) }
 {
@@ -45,22 +45,22 @@ pub(crate) fn check_mark(run: &[u8], form: Form) -> Check
     let p = check_exactly(run, 80, 1, 1);
     let b = check_exactly(run, 66, 2, 1);
     let last = check_exactly(run, letter_of(form), 3, 1);
-    first_of(m, first_of(p, first_of(b, first_of(last, Check::Passed))))
+    first_of(m, first_of(p, first_of(b, first_of(last, Ok(())))))
 }
 
 // The zero bytes before the base rates and behind the fields (4).
-pub(crate) fn check_zeros(run: &[u8], form: Form) -> Check
+pub(crate) fn check_zeros(run: &[u8], form: Form) -> Result<(), Refusal>
     requires { (length run.now ≡ run_length (meant form)) × (fields_end (meant form) ≤ length run.now) }
     ensures { finding result ≡ fields_check run.now (zero_fields (meant form)) }
 {
     let zeros = check_exactly(run, 0, layout::ZEROS_AT, layout::ZEROS);
     let end = fields_end(form);
     let last = check_exactly(run, 0, end, run.len() - end);
-    first_of(zeros, first_of(last, Check::Passed))
+    first_of(zeros, first_of(last, Ok(())))
 }
 
 // A field of one number (5).
-fn check_number(run: &[u8], kind: Number, low: i64, high: i64, offset: usize) -> Check
+fn check_number(run: &[u8], kind: Number, low: i64, high: i64, offset: usize) -> Result<(), Refusal>
     requires { offset + width_of kind ≤ length run.now }
     ensures { finding result ≡ field_check run.now (field 5 kind low high offset 1) }
 {
@@ -78,7 +78,7 @@ fn check_number(run: &[u8], kind: Number, low: i64, high: i64, offset: usize) ->
 }
 
 // F, B, the constant addition and the rate of discount (5).
-pub(crate) fn check_single_fields(run: &[u8]) -> Check
+pub(crate) fn check_single_fields(run: &[u8]) -> Result<(), Refusal>
     requires { run_length mpb1 ≤ length run.now }
     ensures { finding result ≡ fields_check run.now single_fields }
 {
@@ -112,12 +112,12 @@ pub(crate) fn check_single_fields(run: &[u8]) -> Check
     );
     first_of(
         foundation,
-        first_of(base, first_of(addition, first_of(discount, Check::Passed))),
+        first_of(base, first_of(addition, first_of(discount, Ok(())))),
     )
 }
 
 // The base rates (5).
-pub(crate) fn check_base_rates(run: &[u8]) -> Check
+pub(crate) fn check_base_rates(run: &[u8]) -> Result<(), Refusal>
     requires { run_length mpb1 ≤ length run.now }
     ensures { finding result ≡ field_check run.now base_rates }
 {
@@ -130,13 +130,13 @@ pub(crate) fn check_base_rates(run: &[u8]) -> Check
         count: layout::AGES,
     };
     if all_within(run, f) {
-        return Check::Passed;
+        return Ok(());
     }
     check_field(run, f)
 }
 
 // I or L (5).
-fn check_rates(run: &[u8], offset: usize, count: usize) -> Check
+fn check_rates(run: &[u8], offset: usize, count: usize) -> Result<(), Refusal>
     requires { offset + count * 4 ≤ length run.now }
     ensures { finding result ≡ field_check run.now (rates offset count) }
 {
@@ -149,13 +149,13 @@ fn check_rates(run: &[u8], offset: usize, count: usize) -> Check
         count: count,
     };
     if all_within(run, f) {
-        return Check::Passed;
+        return Ok(());
     }
     check_field(run, f)
 }
 
 // T (5).
-fn check_periods(run: &[u8], offset: usize, count: usize) -> Check
+fn check_periods(run: &[u8], offset: usize, count: usize) -> Result<(), Refusal>
     requires { offset + count ≤ length run.now }
     ensures { finding result ≡ field_check run.now (periods offset count) }
 {
@@ -168,13 +168,13 @@ fn check_periods(run: &[u8], offset: usize, count: usize) -> Check
         count: count,
     };
     if all_within(run, f) {
-        return Check::Passed;
+        return Ok(());
     }
     check_field(run, f)
 }
 
 // P of MPB1 (5).
-fn check_per_cents(run: &[u8], offset: usize, count: usize) -> Check
+fn check_per_cents(run: &[u8], offset: usize, count: usize) -> Result<(), Refusal>
     requires { offset + count ≤ length run.now }
     ensures { finding result ≡ field_check run.now (proportions mpb1 offset count) }
 {
@@ -187,13 +187,13 @@ fn check_per_cents(run: &[u8], offset: usize, count: usize) -> Check
         count: count,
     };
     if all_within(run, f) {
-        return Check::Passed;
+        return Ok(());
     }
     check_field(run, f)
 }
 
 // P of MPB2 (5).
-fn check_hundredths(run: &[u8], offset: usize, count: usize) -> Check
+fn check_hundredths(run: &[u8], offset: usize, count: usize) -> Result<(), Refusal>
     requires { offset + count * 2 ≤ length run.now }
     ensures { finding result ≡ field_check run.now (proportions mpb2 offset count) }
 {
@@ -206,13 +206,13 @@ fn check_hundredths(run: &[u8], offset: usize, count: usize) -> Check
         count: count,
     };
     if all_within(run, f) {
-        return Check::Passed;
+        return Ok(());
     }
     check_field(run, f)
 }
 
 // P (5).
-fn check_proportions(run: &[u8], form: Form, offset: usize, count: usize) -> Check
+fn check_proportions(run: &[u8], form: Form, offset: usize, count: usize) -> Result<(), Refusal>
     requires { offset + count * width_of (proportion_of (meant form)) ≤ length run.now }
     ensures { finding result ≡ field_check run.now (proportions (meant form) offset count) }
 {
@@ -223,7 +223,7 @@ fn check_proportions(run: &[u8], form: Form, offset: usize, count: usize) -> Che
 }
 
 // The terms of improvement by age (5). Every count is known here too, which the loops are faster by.
-pub(crate) fn check_age_terms(run: &[u8], form: Form) -> Check
+pub(crate) fn check_age_terms(run: &[u8], form: Form) -> Result<(), Refusal>
     requires { fields_end (meant form) ≤ length run.now }
     ensures { finding result ≡ fields_check run.now (age_fields (meant form)) }
 {
@@ -235,13 +235,13 @@ pub(crate) fn check_age_terms(run: &[u8], form: Form) -> Check
         initials,
         first_of(
             longs,
-            first_of(periods, first_of(proportions, Check::Passed)),
+            first_of(periods, first_of(proportions, Ok(()))),
         ),
     )
 }
 
 // The same by birth year (5).
-pub(crate) fn check_birth_year_terms(run: &[u8], form: Form) -> Check
+pub(crate) fn check_birth_year_terms(run: &[u8], form: Form) -> Result<(), Refusal>
     requires { fields_end (meant form) ≤ length run.now }
     ensures { finding result ≡ fields_check run.now (birth_year_fields (meant form)) }
 {
@@ -262,7 +262,7 @@ pub(crate) fn check_birth_year_terms(run: &[u8], form: Form) -> Check
         initials,
         first_of(
             longs,
-            first_of(periods, first_of(proportions, Check::Passed)),
+            first_of(periods, first_of(proportions, Ok(()))),
         ),
     )
 }

@@ -11,29 +11,22 @@ ghost use Rattle.outcome.specs.Outcome.{finding};
 ghost use Rattle.lent.specs.Lent.{written};
 ghost use Rattle.short_form.specs.ShortForm.{short_form_check, short_check, short_form_of};
 
-use outcome::{Check, Refusal};
+use outcome::{Reason, Refusal};
 
 // The run's own check, then S.
-fn check_short_form(run: &[u8], rate: i32) -> Check
+fn check_short_form(run: &[u8], rate: i32) -> Result<(), Refusal>
     ensures { finding result ≡ short_form_check run.now rate }
 {
-    let c = run_check::check_run(run);
-    if let Check::Refused(_) = c {
-        return c;
-    }
+    run_check::check_run(run)?;
     if field_check::in_limits(layout::LEAST_RATE, layout::RATE_LIMIT, rate as i64) {
-        Check::Passed
+        Ok(())
     } else {
-        Check::Refused(Refusal {
-            number: 5,
-            first: layout::AGE_LONG_TERM_RATES_AT as u64,
-            second: 0,
-        })
+        Err(Reason::Limits.at(layout::AGE_LONG_TERM_RATES_AT as u64, 0))
     }
 }
 
 // Writes the short form into the front of `out`.
-pub fn short_form(run: &[u8], rate: i32, out: &mut [u8]) -> Check
+pub fn short_form(run: &[u8], rate: i32, out: &mut [u8]) -> Result<(), Refusal>
     ensures result_value { finding result ≡ short_check run.now rate out.old }
     ensures out_after { out.new ≡ written (finding result) (short_form_of run.now rate) out.old }
 {
@@ -42,7 +35,7 @@ pub fn short_form(run: &[u8], rate: i32, out: &mut [u8]) -> Check
         lent::check_room(layout::forms::run_length(form), out.len()),
         check_short_form(run, rate),
     );
-    if let Check::Passed = c {
+    if let Ok(()) = c {
         parts::put_ages(run, form, rate, out);
         parts::put_birth_years(run, form, out);
     }

@@ -7,7 +7,7 @@ ghost use Rattle.model_points.specs.Point.{point_of};
 ghost use Rattle.small_set.specs.SmallSet.{small_set_of};
 
 use model_points::PointAnswer;
-use outcome::{Check, Refusal};
+use outcome::Refusal;
 use question::Question;
 
 // The six questions of the small set.
@@ -58,7 +58,7 @@ pub fn small_set(run: &[u8], history: &[u8], questions: Questions) -> SmallSet
     ensures { result ≡ small_set_of run.now history.now questions }
 {
     match history::check::check_run_and_history(run, history) {
-        Check::Passed => {
+        Ok(()) => {
             let asked = questions.points;
             let points = six(run, history, asked);
             SmallSet {
@@ -66,7 +66,7 @@ pub fn small_set(run: &[u8], history: &[u8], questions: Questions) -> SmallSet
                 points,
             }
         }
-        Check::Refused(refusal) => {
+        Err(refusal) => {
             let points = [BLANK; 6];
             SmallSet { refusal, points }
         }

@@ -9,7 +9,7 @@ ghost use Rattle.projection.specs.Bounded.{AtMost};
 ghost use Rattle.survivorship.specs.Survivorship.{year_on, survivors_next, survivors_after_year, survivors_of};
 
 use arithmetic::UNIT;
-use outcome::Answer;
+use outcome::Refusal;
 
 // How a life passes through the rates: the period kind stays in one year, the cohort kind moves with the age.
 #[derive(Clone, Copy)]
@@ -38,18 +38,15 @@ fn survivors_next(s: u64, q: u64) -> u64
 }
 
 // The same with what the rate is, wherever that was worked out, or the rate's refusal.
-pub fn survivors_by(rate: Answer, s: u64) -> Answer
+pub fn survivors_by(rate: Result<u64, Refusal>, s: u64) -> Result<u64, Refusal>
     requires { (s ≤ 1_000_000_000) × AtMost 1_000_000_000 (meaning rate) }
     ensures { meaning result ≡ and_then (meaning rate) (λ q. value (survivors_next (pos s) q)) }
 {
-    match rate {
-        Answer::Value(q) => Answer::Value(survivors_next(s, q)),
-        Answer::Refused(r) => Answer::Refused(r),
-    }
+    Ok(survivors_next(s, rate?))
 }
 
 // The same at an age in a year from B on.
-pub fn survivors_after_year(run: &[u8], history: &[u8], age: u32, year: u32, s: u64) -> Answer
+pub fn survivors_after_year(run: &[u8], history: &[u8], age: u32, year: u32, s: u64) -> Result<u64, Refusal>
     requires { Cell run.now history.now age year × (s ≤ 1_000_000_000) }
     ensures { meaning result ≡ survivors_after_year (basis_with run.now history.now) age year (pos s) }
 {
@@ -57,20 +54,15 @@ pub fn survivors_after_year(run: &[u8], history: &[u8], age: u32, year: u32, s: 
 }
 
 // The survivors after n years.
-pub fn survivors_at(run: &[u8], history: &[u8], kind: Kind, age: u32, n: u32, year: u32) -> Answer
+pub fn survivors_at(run: &[u8], history: &[u8], kind: Kind, age: u32, n: u32, year: u32) -> Result<u64, Refusal>
     requires { Life run.now history.now age n year }
     ensures { meaning result ≡ survivors_of (basis_with run.now history.now) kind age n year }
 {
     let mut s: u64 = UNIT;
     let mut j: u32 = 0;
     while j < n {
-        match survivors_after_year(run, history, age + j, year_on(kind, j, year), s) {
-            Answer::Value(v) => {
-                s = v;
-            }
-            Answer::Refused(r) => return Answer::Refused(r),
-        }
+        s = survivors_after_year(run, history, age + j, year_on(kind, j, year), s)?;
         j += 1;
     }
-    Answer::Value(s)
+    Ok(s)
 }

@@ -9,7 +9,7 @@ ghost use Rattle.history.specs.History.{basis_with, Workable};
 ghost use Rattle.sweep.specs.Sweep.{sweep_start, factor_on, advanced_factor, sweep_step};
 ghost use Rattle.sweep.specs.Encoding.{refused_number, decoded, state_in, Encodes};
 
-use outcome::{Answer, Refusal};
+use outcome::Refusal;
 
 // The number of a refusal that is given in a year.
 fn refused_number(number: u32, year: u32) -> u32
@@ -20,14 +20,14 @@ fn refused_number(number: u32, year: u32) -> u32
 }
 
 // What a number of the state stands for at an age.
-pub fn decoded(age: u32, n: u32) -> Answer
+pub fn decoded(age: u32, n: u32) -> Result<u64, Refusal>
     ensures { meaning result ≡ decoded age n }
 {
     if n <= 4_000_000_000 {
-        return Answer::Value(n as u64);
+        return Ok(n as u64);
     }
     let refused = n - 4_000_000_000;
-    Answer::Refused(Refusal {
+    Err(Refusal {
         number: refused / 10_000,
         first: age as u64,
         second: (refused % 10_000) as u64,
@@ -48,8 +48,8 @@ fn next_factor(run: &[u8], history: &[u8], age: u32, year: u32, n: u32) -> u32
 {
     let terms = basis::fields::age_terms(run, age);
     match projection::factor::factor_in(run, history, terms, age, year + 1, n as u64) {
-        Answer::Value(factor) => factor as u32,
-        Answer::Refused(r) => refused_number(r.number, year + 1),
+        Ok(factor) => factor as u32,
+        Err(r) => refused_number(r.number, year + 1),
     }
 }
 

@@ -10,7 +10,7 @@ ghost use Rattle.swept_points.specs.LifeValues.{LifeFrom, life_expectation, life
 ghost use Rattle.swept_points.specs.Inner.DeferredPayment.{deferred_payment};
 
 use arithmetic::{HALF_UNIT, UNIT};
-use outcome::{Answer, Refusal};
+use outcome::Refusal;
 use survivorship::Kind;
 
 // The expectation from the age itself, and the annuity; or the first refusal, which is that of both.
@@ -28,7 +28,7 @@ fn survivors_after_year(
     age: u32,
     year: u32,
     s: u64,
-) -> Answer
+) -> Result<u64, Refusal>
     requires { Cell run.now history.now age year × FactorTable (basis_with run.now history.now) table.now × (s ≤ 1_000_000_000) }
     ensures { meaning result ≡ survivors_after_year (basis_with run.now history.now) age year (pos s) }
 {
@@ -80,10 +80,10 @@ pub fn life_values_from(
             survivorship::year_on(kind, j, year),
             s,
         ) {
-            Answer::Value(x) => {
+            Ok(x) => {
                 s = x;
             }
-            Answer::Refused(r) => return LifeValues::Refused(r),
+            Err(r) => return LifeValues::Refused(r),
         }
         j += 1;
         lives += s;

@@ -13,16 +13,16 @@ use crate::life_values;
 use crate::life_values::LifeValues;
 use grid_record::Point;
 use model_points::PointAnswer;
-use outcome::{Answer, Check, Refusal};
+use outcome::Refusal;
 use question::Question;
 use survivorship::Kind;
 
-fn life_expectation(p: &LifeValues) -> Answer
+fn life_expectation(p: &LifeValues) -> Result<u64, Refusal>
     ensures { meaning result ≡ life_expectation p.now }
 {
     match p {
-        LifeValues::Values(expectation, _) => Answer::Value(*expectation),
-        LifeValues::Refused(r) => Answer::Refused(Refusal {
+        LifeValues::Values(expectation, _) => Ok(*expectation),
+        LifeValues::Refused(r) => Err(Refusal {
             number: r.number,
             first: r.first,
             second: r.second,
@@ -30,12 +30,12 @@ fn life_expectation(p: &LifeValues) -> Answer
     }
 }
 
-fn life_annuity(p: &LifeValues) -> Answer
+fn life_annuity(p: &LifeValues) -> Result<u64, Refusal>
     ensures { meaning result ≡ life_annuity p.now }
 {
     match p {
-        LifeValues::Values(_, annuity) => Answer::Value(*annuity),
-        LifeValues::Refused(r) => Answer::Refused(Refusal {
+        LifeValues::Values(_, annuity) => Ok(*annuity),
+        LifeValues::Refused(r) => Err(Refusal {
             number: r.number,
             first: r.first,
             second: r.second,
@@ -52,7 +52,7 @@ fn expectation(
     kind: Kind,
     q: Question,
     known: &LifeValues,
-) -> Answer
+) -> Result<u64, Refusal>
     requires { Life run.now history.now q.age q.deferment q.year × FactorTable (basis_with run.now history.now) table.now
         × (life_expectation known.now ≡ expectation_of (basis_with run.now history.now) kind q.age 0 q.year) }
     ensures { meaning result ≡ expectation_of (basis_with run.now history.now) kind q.age q.deferment q.year }
@@ -105,8 +105,8 @@ pub fn swept_point(run: &[u8], history: &[u8], table: &[u32], q: Question) -> Po
     ensures { result ≡ point_of (basis_with run.now history.now) q }
 {
     match question::check_question(run, q.age, q.deferment, q.year) {
-        Check::Passed => swept_results(run, history, table, q),
-        Check::Refused(r) => model_points::refused_point(r),
+        Ok(()) => swept_results(run, history, table, q),
+        Err(r) => model_points::refused_point(r),
     }
 }
 

@@ -10,7 +10,6 @@ use layout::offsets::{
     birth_year_initial_rates_at, birth_year_long_term_rates_at, birth_year_periods_at,
     birth_year_proportions_at, proportion_width,
 };
-use outcome::Check;
 
 // The tables in the order in which they stand in the run: one entry for each age from 20, or for each birth year from
 // 1842. Periods are T, proportions P.
@@ -69,7 +68,7 @@ pub fn table_of(run: &[u8], table: Table) -> &[u8]
     ensures place { result.ref_ptr ≡ (run.entry.ref_ptr.0, table_start run.now table + run.entry.ref_ptr.1) }
 {
     let c = run_check::check_run(run);
-    if let Check::Refused(_) = c {
+    if let Err(_) = c {
         return &run[0..0];
     }
     let s = stretch_of(layout::forms::form_of_run(run.len()), table);

@@ -8,7 +8,7 @@ ghost use Rattle.survivorship.specs.Survivorship.{survivors_of};
 ghost use Rattle.valuation.specs.Valuation.{discount_next, discount_after, payment, annuity_of};
 
 use arithmetic::UNIT;
-use outcome::Answer;
+use outcome::Refusal;
 use survivorship::Kind;
 
 // The discount a year later. At a rate below zero it grows, and stays below 4 × U for the 130 years that there are.
@@ -51,7 +51,7 @@ fn annuity_from(
     deferment: u32,
     year: u32,
     first: u64,
-) -> Answer
+) -> Result<u64, Refusal>
     requires { Life run.now history.now age deferment year
         × (survivors_of (basis_with run.now history.now) kind age deferment year ≡ value (pos first)) }
     ensures { meaning result ≡ annuity_of (basis_with run.now history.now) kind age deferment year }
@@ -63,23 +63,18 @@ fn annuity_from(
     let mut j = deferment;
     let mut total = payment(v, s);
     while j < last {
-        match survivorship::survivors_after_year(
+        s = survivorship::survivors_after_year(
             run,
             history,
             age + j,
             survivorship::year_on(kind, j, year),
             s,
-        ) {
-            Answer::Value(x) => {
-                s = x;
-            }
-            Answer::Refused(r) => return Answer::Refused(r),
-        }
+        )?;
         v = discount_next(v, accumulation);
         j += 1;
         total += payment(v, s);
     }
-    Answer::Value(total)
+    Ok(total)
 }
 
 // The annuity at an age in a year, with a deferment.
@@ -90,12 +85,10 @@ pub fn annuity_at(
     age: u32,
     deferment: u32,
     year: u32,
-) -> Answer
+) -> Result<u64, Refusal>
     requires { Life run.now history.now age deferment year }
     ensures { meaning result ≡ annuity_of (basis_with run.now history.now) kind age deferment year }
 {
-    match survivorship::survivors_at(run, history, kind, age, deferment, year) {
-        Answer::Value(s) => annuity_from(run, history, kind, age, deferment, year, s),
-        Answer::Refused(r) => Answer::Refused(r),
-    }
+    let first = survivorship::survivors_at(run, history, kind, age, deferment, year)?;
+    annuity_from(run, history, kind, age, deferment, year, first)
 }

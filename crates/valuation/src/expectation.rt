@@ -6,7 +6,7 @@ ghost use Rattle.outcome.specs.Outcome.{meaning};
 ghost use Rattle.valuation.specs.Valuation.{expectation_of};
 
 use arithmetic::{HALF_UNIT, UNIT};
-use outcome::Answer;
+use outcome::Refusal;
 use survivorship::Kind;
 
 // The expectation from the deferred age in the deferred year.
@@ -17,7 +17,7 @@ pub fn expectation_at(
     age: u32,
     deferment: u32,
     year: u32,
-) -> Answer
+) -> Result<u64, Refusal>
     requires { Life run.now history.now age deferment year }
     ensures { meaning result ≡ expectation_of (basis_with run.now history.now) kind age deferment year }
 {
@@ -28,20 +28,15 @@ pub fn expectation_at(
     let mut j: u32 = 0;
     let mut total: u64 = 0;
     while j < last {
-        match survivorship::survivors_after_year(
+        s = survivorship::survivors_after_year(
             run,
             history,
             from + j,
             survivorship::year_on(kind, j, start),
             s,
-        ) {
-            Answer::Value(x) => {
-                s = x;
-            }
-            Answer::Refused(r) => return Answer::Refused(r),
-        }
+        )?;
         j += 1;
         total += s;
     }
-    Answer::Value(HALF_UNIT + total)
+    Ok(HALF_UNIT + total)
 }
