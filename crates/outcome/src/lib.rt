@@ -15,6 +15,13 @@ pub struct Refusal {
     pub second: u64,
 }
 
+// None, in records and for C: number 0 with places 0.
+pub const NO_REFUSAL: Refusal = Refusal {
+    number: 0,
+    first: 0,
+    second: 0,
+};
+
 // Why something is refused, in the order of the papers' numbers, which begin with 1.
 #[derive(Clone, Copy)]
 pub enum Reason {
