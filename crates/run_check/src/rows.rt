@@ -233,10 +233,7 @@ pub(crate) fn check_age_terms(run: &[u8], form: Form) -> Result<(), Refusal>
     let proportions = check_proportions(run, form, layout::AGE_PROPORTIONS_AT, layout::AGES);
     first_of(
         initials,
-        first_of(
-            longs,
-            first_of(periods, first_of(proportions, Ok(()))),
-        ),
+        first_of(longs, first_of(periods, first_of(proportions, Ok(())))),
     )
 }
 
@@ -260,9 +257,6 @@ pub(crate) fn check_birth_year_terms(run: &[u8], form: Form) -> Result<(), Refus
     );
     first_of(
         initials,
-        first_of(
-            longs,
-            first_of(periods, first_of(proportions, Ok(()))),
-        ),
+        first_of(longs, first_of(periods, first_of(proportions, Ok(())))),
     )
 }
