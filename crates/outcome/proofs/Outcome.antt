@@ -6,7 +6,7 @@ use native.Mathlib.Nat.{suc-add, zero-add}
 use native.Mathlib.Omega.{arith}
 use lib.IntN.{ℤ, pos, ◌+ℤ◌}
 use Rattle.outcome.specs.declared.Refusal.{Refusal}
-use Rattle.std.specs.Prelude.{Result, Ok, Err}
+use Rattle.std.specs.Prelude.{Result, Err}
 use Rattle.outcome.specs.Outcome.{finding, Finding, passed, refused_by, Outcome, value, refused, unless, passes, first_of, checked, and_then, steps, add_to, sum_of}
 
 -- ---- checks
