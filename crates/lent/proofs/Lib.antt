@@ -1,3 +1,2 @@
 pub mod Lent
-mod Turns
 pub mod Numbered
