@@ -1,7 +1,7 @@
 -- Blocks one after the other: their checks one block more, and where their data stand when joined. Assumes nothing.
 use Rattle.std.proofs.Common.{◌≡◌, ℕ, zero, suc, ◌+◌, ◌-◌, ◌*◌, ◌<◌, ◌≤◌, List, ◌++◌, length, take, drop, sym, refl, ap, ◌∙◌, arith, length-append, length-drop, length-take, drop-drop, take_at, drop_at}
 use native.Mathlib.Nat.{add-sub_cancel_left}
-use Rattle.outcome.specs.Outcome.{Finding, first_of}
+use Rattle.outcome.specs.Outcome.{first_of}
 use Rattle.block.specs.Block.{block_check}
 use Rattle.block.specs.Blocks.{parts_of, blocks_check}
 
@@ -14,15 +14,15 @@ module _ (s : List ℕ) (at n : ℕ) where
   part_length h = simp (length-take, length-drop) (omega arith)
 
 -- ---- the checks
-left : (n b : ℕ) → b < n → n - b ≡ suc (n - (b + 1))
-left n b h = omega arith
-
-pub check-turn : (file : List ℕ) (n b : ℕ) (r : Finding) → b < n → r ≡ block_check b (take 512 (drop (512 * b) file))
-    → first_of r (blocks_check (b + 1) (n - (b + 1)) (drop (512 * (b + 1)) file)) ≡ blocks_check b (n - b) (drop (512 * b) file)
+-- of the blocks from one on: its own check, of the part that is lent to it, and then those behind it
+pub check_turn : (file : List ℕ) (n b : ℕ) → b < n
+    → blocks_check b (n - b) (drop (512 * b) file)
+    ≡ first_of (block_check b (take (512 * b + 512 - 512 * b) (drop (512 * b) file))) (blocks_check (b + 1) (n - (b + 1)) (drop (512 * (b + 1)) file))
 unfolding blocks_check
-check-turn file n b r h e =
+check_turn file n b h =
+    let left : n - b ≡ suc (n - (b + 1)) = omega arith in
     let m : 512 * (b + 1) ≡ 512 * b + 512 = omega arith in
-    rw (e, left n b h, m, ← drop-drop 512 (512 * b) file)
+    rw (part-is file (512 * b) 512, left, m, ← drop-drop 512 (512 * b) file)
 
 -- ---- the data
 pub parts-length : (n : ℕ) (blocks : List ℕ) → length blocks ≡ 512 * n → length (parts_of n blocks) ≡ 506 * n

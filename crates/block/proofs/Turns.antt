@@ -1,23 +1,15 @@
--- The ways through a block's check, and a block in the building: its number and the data are put, then the check of what stands there.
+-- The way through a block's check, and a block in the building: its number and the data are put, then the check of what stands there.
 -- Assumes nothing.
-use Rattle.std.proofs.Common.{◌≡◌, ℕ, ◌+◌, ◌-◌, ◌≤◌, List, ◌++◌, length, take, drop, ap, ◌∙◌, arith, length-append, eq-eqb, ne_eqb}
+use Rattle.std.proofs.Common.{◌≡◌, ℕ, ◌+◌, ◌-◌, ◌≤◌, List, ◌++◌, length, take, drop, ap, ◌∙◌, arith, length-append, eq-eqb}
 use native.Mathlib.Nat.{add-sub_cancel_left}
 use Rattle.little_endian.specs.Bytes.{u16_at, u32_at, u16_bytes, u32_bytes}
-use Rattle.outcome.specs.Outcome.{passed, refused_by, refusal}
+use Rattle.outcome.specs.Outcome.{passed}
 use Rattle.lent.specs.Lent.{placed}
 use Rattle.lent.proofs.Lent.{placed-there, then}
 use Rattle.block.specs.Block.{check_of, block_check, block_of}
 
--- ---- the ways through a block's check
+-- ---- the way through a block's check
 module _ (place : ℕ) (block : List ℕ) where
-  pub wrong-check : (u32_at block 508 ≡ check_of block → ⊥) → block_check place block ≡ refused_by (refusal 2 place 0)
-  unfolding block_check
-  wrong-check h = simp (ne_eqb (u32_at block 508) (check_of block) h)
-
-  pub wrong-number : u32_at block 508 ≡ check_of block → (u16_at block 0 ≡ place → ⊥) → block_check place block ≡ refused_by (refusal 3 place 0)
-  unfolding block_check
-  wrong-number e h = simp (eq-eqb (u32_at block 508) (check_of block) e, ne_eqb (u16_at block 0) place h)
-
   pub sound : u32_at block 508 ≡ check_of block → u16_at block 0 ≡ place → block_check place block ≡ passed
   unfolding block_check
   sound e h = simp (eq-eqb (u32_at block 508) (check_of block) e, eq-eqb (u16_at block 0) place h)

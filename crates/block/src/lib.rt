@@ -9,31 +9,22 @@ ghost use Rattle.block.specs.Blocks.{blocks_check};
 
 use outcome::{Reason, Refusal};
 
-// A product modulo 4,294,967,296.
-fn wrapping_product(a: u32, b: u32) -> u32
-    ensures { result ≡ a * b % 4294967296 }
-{
-    ((a as u64) * (b as u64) % 4294967296) as u32
-}
-
 // The check that a block ought to have: its first 127 words, each times its place 1 to 127.
+#[tactic(auto, using(crate::proofs::WordSums::turn), unfolding(crate::specs::Block::word_sum, crate::specs::Block::check_of))]
 fn check_of(block: &[u8]) -> u32
     requires { 508 ≤ length block.now }
     ensures { result ≡ check_of block.now }
 {
     let mut sum: u32 = 0;
-    let mut i: usize = 0;
-    let mut place: u32 = 1;
-    while i < 127 {
+    for i in 0..127 {
         let word = little_endian::read_u32(block, 4 * i);
-        sum = std::num::wrapping_add_u32(sum, wrapping_product(word, place));
-        i += 1;
-        place += 1;
+        sum = sum.wrapping_add(word.wrapping_mul(i as u32 + 1));
     }
     sum
 }
 
 // Whether a block has its check, and then whether its number is its place.
+#[tactic(auto, unfolding(crate::specs::Block::block_check))]
 fn check_block(block: &[u8], place: usize) -> Result<(), Refusal>
     requires { length block.now ≡ 512 }
     ensures { finding result ≡ block_check place block.now }
@@ -48,20 +39,20 @@ fn check_block(block: &[u8], place: usize) -> Result<(), Refusal>
 }
 
 // The blocks of a file, ascending from 0.
+#[tactic(auto, using(crate::proofs::Joined::check_turn), unfolding(crate::specs::Blocks::blocks_check))]
 pub fn check_blocks(file: &[u8], n: usize) -> Result<(), Refusal>
     requires { length file.now ≡ 512 * n }
     ensures { finding result ≡ blocks_check 0 n file.now }
 {
-    let mut b: usize = 0;
-    while b < n {
+    for b in 0..n {
         let from = 512 * b;
         check_block(&file[from..from + 512], b)?;
-        b += 1;
     }
     Ok(())
 }
 
 // Puts the block of 506 data bytes into an output: its number, the data, and the check of what then stands there.
+#[tactic(auto, using(crate::proofs::Turns::built))]
 pub fn put_block(part: &[u8], place: usize, out: &mut [u8], at: usize)
     requires { (length part.now ≡ 506) × (place < 65536) × (at + 512 ≤ length out.old) }
     ensures { out.new ≡ placed out.old at (block_of place part.now) }

@@ -1,10 +1,7 @@
 -- The sum so far is that of the words so far, modulo 4,294,967,296.
-use Rattle.std.proofs.Common.{◌≡◌, ◌+◌, ◌-◌, ◌%◌, ◌≤◌}
+use Rattle.std.proofs.Common.{◌≡◌, ◌%◌}
 use Rattle.block.specs.Block.{word_sum}
 use Rattle.block.proofs.check_of.Given as goal
 
 abbrev pub invariant-loop-i : goal.invariant-loop-i
-invariant-loop-i l = (l.i ≤ 127) × (l.place ≡ l.i + 1) × (l.sum ≡ word_sum l.block l.i % 4_294_967_296)
-
-abbrev pub decreases-loop-i : goal.decreases-loop-i
-decreases-loop-i l = 127 - l.i
+invariant-loop-i l = l.sum ≡ word_sum l.block l.i % 4_294_967_296
