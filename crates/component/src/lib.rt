@@ -5,7 +5,7 @@
 ghost use Rattle.std.specs.Prelude.{◌≡◌, ◌*◌, ◌≤◌, pos, nat_abs, ◌-ℤ◌, ◌*ℤ◌};
 ghost use Rattle.basis.specs.Basis.{ConvergenceLimits};
 ghost use Rattle.arithmetic.specs.MixedNumbers.{mixed_of};
-ghost use Rattle.component.specs.Component.{slope_of, component_of, terms};
+ghost use Rattle.component.specs.Component.{slope_of, component_of};
 
 use arithmetic::Mixed;
 use basis::Convergence;
@@ -14,7 +14,7 @@ use basis::Convergence;
 fn excess(initial: i32, long: i32) -> i64
     ensures { result ≡ initial -ℤ long }
 {
-    arithmetic::wide(initial) - arithmetic::wide(long)
+    i64::from(initial) - i64::from(long)
 }
 
 // 10,000T + (8P − 20,000)n, with P in hundredths of a per cent. The two signs are gathered apart, so that only the difference is signed.
@@ -35,46 +35,30 @@ fn weighted(excess: i64, left: u64, slope: i64) -> i64
     excess * (((left * left) as i64) * slope)
 }
 
-// The component by its four terms. L is whole, so that only what is above it is divided.
-fn converging(initial: i32, long: i32, period: u8, remaining: u16, years: u32) -> Mixed
-    requires { ConvergenceLimits (terms initial long period remaining) }
-    ensures { result ≡ mixed_of (component_of (terms initial long period remaining) years) }
-{
-    let span = period as u64;
-    let past = years as u64;
-    if past < span {
-        let divisor = 10_000 * (span * span * span);
-        let dividend = weighted(
-            excess(initial, long),
-            span - past,
-            slope(span, remaining as u64, past),
-        );
-        let share = arithmetic::divide(dividend, divisor);
-        let whole = arithmetic::wide(long) + share.whole;
-        Mixed {
-            whole: whole,
-            remainder: share.remainder,
-            divisor: divisor,
-        }
-    } else {
-        Mixed {
-            whole: arithmetic::wide(long),
-            remainder: 0,
-            divisor: 1,
-        }
-    }
-}
-
-// The component of terms within their limits, a number of years after F.
+// The component of terms within their limits, a number of years after F. L is whole, so that only what is above it is divided.
 pub fn component(terms: Convergence, years: u32) -> Mixed
     requires { ConvergenceLimits terms }
     ensures { result ≡ mixed_of (component_of terms years) }
 {
-    converging(
-        terms.initial,
-        terms.long,
-        terms.period,
-        terms.remaining,
-        years,
-    )
+    let span = terms.period as u64;
+    let past = years as u64;
+    if past < span {
+        let divisor = 10_000 * (span * span * span);
+        let dividend = weighted(
+            excess(terms.initial, terms.long),
+            span - past,
+            slope(span, terms.remaining as u64, past),
+        );
+        let share = arithmetic::divide(dividend, divisor);
+        Mixed {
+            whole: i64::from(terms.long) + share.whole,
+            ..share
+        }
+    } else {
+        Mixed {
+            whole: i64::from(terms.long),
+            remainder: 0,
+            divisor: 1,
+        }
+    }
 }

@@ -35,7 +35,7 @@ fn improvement_from(attained: Convergence, birth: Convergence, years: u32, addit
         component::component(attained, years),
         component::component(birth, years),
     );
-    rounded + arithmetic::wide(addition)
+    rounded + i64::from(addition)
 }
 
 // The terms of the birth year, which is the calendar year less the age.
@@ -70,7 +70,7 @@ pub fn improvement_at(run: &[u8], history: &[u8], terms: Convergence, age: u32, 
     ensures { result ≡ improvement_of (basis_with run.now history.now) age year }
 {
     if is_actual(run, year) {
-        arithmetic::wide(history::actual::actual_improvement(run, history, age, year))
+        i64::from(history::actual::actual_improvement(run, history, age, year))
     } else {
         projected_at(run, terms, age, year)
     }

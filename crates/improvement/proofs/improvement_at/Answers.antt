@@ -21,7 +21,7 @@ unfolding improvement_of
 returns-then-is_actual c =
     let b = basis_with c.args.run.now c.args.history.now in
     let e : is_actual b c.args.year ≡ true = sym c.is_actual.ensures ∙ c.if-is_actual.true in
-    rw e (got w64 c.wide.type_inv (c.wide.ensures ∙ got w32 c.actual_improvement.type_inv c.actual_improvement.ensures))
+    rw e (got w64 c.from.type_inv (c.from.ensures ∙ got w32 c.actual_improvement.type_inv c.actual_improvement.ensures))
 
 pub returns-else-is_actual : goal.returns-else-is_actual
 unfolding improvement_of

@@ -33,7 +33,7 @@ all_fit p q n addition h k f =
 small_of : {m n : Mixed} → m ≡ n → SmallParts n → SmallParts m
 small_of e h = rw e h
 
-sum_is : (c : goal.After-wide) →
+sum_is : (c : goal.After-from) →
     to_z w64 (of_z w64 c.round_sum-rounded.result) ≡ round (component_of c.args.attained c.args.years +ᶠ component_of c.args.birth c.args.years)
 sum_is c =
     let a = c.args in
@@ -41,8 +41,8 @@ sum_is c =
     ∙ sum_of (component_of a.attained a.years) (component_of a.birth a.years) c.component.ensures c.component-2.ensures
     (component-proper a.attained a.years (omega arith)) (component-proper a.birth a.years (omega arith)))
 
-addition-is : (c : goal.After-wide) → to_z w64 (of_z w64 c.wide.result) ≡ c.args.addition
-addition-is c = got w64 c.wide.type_inv (c.wide.ensures ∙ to_z-of_z c.ranges.addition)
+addition-is : (c : goal.After-from) → to_z w64 (of_z w64 c.from.result) ≡ c.args.addition
+addition-is c = got w64 c.from.type_inv (c.from.ensures ∙ to_z-of_z c.ranges.addition)
 
 pub round_sum-rounded-requires : goal.round_sum-rounded-requires
 round_sum-rounded-requires c =
