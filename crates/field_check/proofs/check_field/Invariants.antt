@@ -1,15 +1,8 @@
--- What is left of a field gives the same answer as the whole field.
+-- The numbers that are looked at already pass.
 use mathlib.Core.Path.{◌≡◌}
-use Prim.Native.Nat.{◌+◌, ◌*◌, ◌≤◌}
-use lib.ListN.{length}
-use Rattle.layout.specs.Layout.{width_of}
+use Rattle.outcome.specs.Outcome.{passed}
 use Rattle.field_check.specs.Field.{entries_check}
 use Rattle.field_check.proofs.check_field.Given as goal
 
-abbrev pub invariant-loop-left : goal.invariant-loop-left
-invariant-loop-left l =
-    (l.at + l.left * width_of l.kind ≤ length l.run)
-    × (entries_check l.run l.number l.kind l.low l.high l.at l.left ≡ entries_check l.run l.number l.kind l.low l.high l.initial.at l.initial.left)
-
-abbrev pub decreases-loop-left : goal.decreases-loop-left
-decreases-loop-left l = l.left
+abbrev pub invariant-loop-i : goal.invariant-loop-i
+invariant-loop-i l = entries_check l.run l.f.number l.f.kind l.f.low l.f.high l.f.offset l.i ≡ passed
