@@ -11,9 +11,9 @@ use Rattle.history.proofs.check.check_part.Goals as goal
 
 pub overflow_add-result : goal.overflow_add-result
 overflow_add-result c =
-    omega (arith, refused-in _ c.args.f _ (found c.check_field.ensures c.in-Refused.is))
+    omega (arith, refused-in _ c.args.f _ (found c.check_field.ensures c.in-Err.is))
 
-pub returns-in-Refused : goal.returns-in-Refused
-returns-in-Refused c =
+pub returns-in-Err : goal.returns-in-Err
+returns-in-Err c =
     let e = rw (part-is c.args.history.now (512 * c.args.b + 2) 506) at c.check_field.ensures in
-    ap (counted_from (506 * c.args.b)) (sym (ap finding c.in-Refused.is) ∙ e)
+    ap (counted_from (506 * c.args.b)) (sym (ap finding c.in-Err.is) ∙ e)
