@@ -10,7 +10,7 @@ ghost use Rattle.block.specs.Blocks.{blocks_check};
 use outcome::{Reason, Refusal};
 
 // The check that a block ought to have: its first 127 words, each times its place 1 to 127.
-#[tactic(auto, using(crate::proofs::WordSums::turn), unfolding(crate::specs::Block::word_sum, crate::specs::Block::check_of))]
+#[tactic(auto, using(crate::proofs::WordSums::word_by_word), unfolding(crate::specs::Block::check_of))]
 fn check_of(block: &[u8]) -> u32
     requires { 508 ≤ length block.now }
     ensures { result ≡ check_of block.now }
@@ -32,7 +32,7 @@ fn check_block(block: &[u8], place: usize) -> Result<(), Refusal>
     if little_endian::read_u32(block, 508) != check_of(block) {
         return Err(Reason::BlockCheck.at(place as u64, 0));
     }
-    if (little_endian::read_u16(block, 0) as usize) != place {
+    if little_endian::read_u16(block, 0) as usize != place {
         return Err(Reason::BlockNumber.at(place as u64, 0));
     }
     Ok(())
