@@ -6,7 +6,7 @@ ghost use Rattle.std.specs.Prelude.{◌≡◌, ◌+ℤ◌};
 ghost use Rattle.arithmetic.specs.Fraction.{◌+ᶠ◌, round};
 ghost use Rattle.basis.specs.Basis.{basis_of, Accepted, ConvergenceLimits};
 ghost use Rattle.history.specs.History.{basis_with};
-ghost use Rattle.outcome.specs.Outcome.{refusal, signed_meaning};
+ghost use Rattle.outcome.specs.Outcome.{signed_meaning};
 ghost use Rattle.component.specs.Component.{component_of};
 ghost use Rattle.improvement.specs.Improvement.{addition_of, birth_terms, projected_of, is_actual, first_year, improvement_of, improvement_needed, usable};
 ghost use Rattle.improvement.specs.Checked.{ImprovedCell, ProjectedCell};
@@ -15,6 +15,7 @@ use basis::Convergence;
 use outcome::{Reason, Refusal};
 
 // The constant addition of a year.
+#[tactic(auto, unfolding(crate::specs::Improvement::addition_of))]
 fn addition_in(run: &[u8], year: u32) -> i32
     requires { Accepted run.now }
     ensures { result ≡ addition_of (basis_of run.now) year }
@@ -47,6 +48,7 @@ fn birth_terms(run: &[u8], age: u32, year: u32) -> Convergence
 }
 
 // The projection's improvement at an age, whose terms the caller has read, in a year from F on.
+#[tactic(auto, unfolding(crate::specs::Improvement::projected_of, crate::specs::Improvement::components_of))]
 fn projected_at(run: &[u8], terms: Convergence, age: u32, year: u32) -> i64
     requires { ProjectedCell run.now age year × (terms ≡ (basis_of run.now).by_age age) }
     ensures { result ≡ projected_of (basis_of run.now) age year }
@@ -65,6 +67,7 @@ fn is_actual(run: &[u8], year: u32) -> bool
 }
 
 // The improvement at an age, whose terms the caller has read, in a year that has one.
+#[tactic(auto, using(crate::proofs::Cases::projected_with), unfolding(crate::specs::Improvement::improvement_of, crate::specs::Improvement::first_year))]
 pub fn improvement_at(run: &[u8], history: &[u8], terms: Convergence, age: u32, year: u32) -> i64
     requires { ImprovedCell run.now history.now age year × (terms ≡ (basis_of run.now).by_age age) }
     ensures { result ≡ improvement_of (basis_with run.now history.now) age year }
@@ -76,32 +79,32 @@ pub fn improvement_at(run: &[u8], history: &[u8], terms: Convergence, age: u32, 
     }
 }
 
-// The first year that has an improvement.
+// The first year that has an improvement: F, and B + 1 with B before F.
+#[tactic(auto, unfolding(crate::specs::Improvement::first_year))]
 pub fn first_year(run: &[u8]) -> u32
     requires { Accepted run.now }
     ensures { result ≡ first_year (basis_of run.now) }
 {
-    let base = basis::fields::base_year(run);
-    let foundation = basis::fields::foundation_year(run);
-    if base < foundation {
-        base + 1
-    } else {
-        foundation
-    }
+    (basis::fields::base_year(run) + 1).min(basis::fields::foundation_year(run))
 }
 
 // Is an improvement within ±500,000,000?
-pub fn is_usable(improvement: i64) -> bool
+fn is_usable(improvement: i64) -> bool
     ensures { result ≡ usable improvement }
 {
-    -500_000_000 <= improvement && improvement <= 500_000_000
+    (-500_000_000..=500_000_000).contains(&improvement)
 }
 
-// 9: an improvement needed for the answer is beyond ±500,000,000.
-pub fn beyond_limits(age: u32, year: u32) -> Refusal
-    ensures { result ≡ refusal 9 age year }
+// An improvement that an answer needs, or 9 where it is beyond ±500,000,000.
+#[tactic(auto, unfolding(crate::specs::Improvement::improvement_needed))]
+pub fn checked_improvement(age: u32, year: u32, improvement: i64) -> Result<i64, Refusal>
+    ensures { signed_meaning result ≡ improvement_needed age year improvement }
 {
-    Reason::Improvement.at(age as u64, year as u64)
+    if is_usable(improvement) {
+        Ok(improvement)
+    } else {
+        Err(Reason::Improvement.at(age as u64, year as u64))
+    }
 }
 
 // The improvement at an age in a year that has one, with refusal 9.
@@ -109,10 +112,6 @@ pub fn improvement_needed(run: &[u8], history: &[u8], age: u32, year: u32) -> Re
     requires { ImprovedCell run.now history.now age year }
     ensures { signed_meaning result ≡ improvement_needed age year (improvement_of (basis_with run.now history.now) age year) }
 {
-    let improvement = improvement_at(run, history, basis::fields::age_terms(run, age), age, year);
-    if is_usable(improvement) {
-        Ok(improvement)
-    } else {
-        Err(beyond_limits(age, year))
-    }
+    let terms = basis::fields::age_terms(run, age);
+    checked_improvement(age, year, improvement_at(run, history, terms, age, year))
 }
