@@ -59,13 +59,7 @@ fn years_needed(run: &[u8]) -> usize
     requires { Accepted run.now }
     ensures { result ≡ actual_years (basis_of run.now) }
 {
-    let foundation = basis::fields::foundation_year(run);
-    let base = basis::fields::base_year(run);
-    if base < foundation {
-        (foundation - base) as usize
-    } else {
-        0
-    }
+    basis::fields::foundation_year(run).saturating_sub(basis::fields::base_year(run)) as usize
 }
 
 // A field in the data of a block, with the place of its refusal counted in the joined data.
@@ -127,6 +121,7 @@ fn check_fields(history: &[u8], years: usize) -> Result<(), Refusal>
 }
 
 // The length (13), the blocks, then the fields.
+#[tactic(auto, unfolding(crate::specs::History::history_check, crate::specs::History::history_data))]
 pub fn check_history(run: &[u8], history: &[u8]) -> Result<(), Refusal>
     requires { Accepted run.now }
     ensures { finding result ≡ history_check (basis_of run.now) history.now }
@@ -140,6 +135,7 @@ pub fn check_history(run: &[u8], history: &[u8]) -> Result<(), Refusal>
 }
 
 // The data run afresh, then its history.
+#[tactic(auto, unfolding(crate::specs::History::run_and_history_check), using(run_check::proofs::Acceptance::accepted))]
 pub fn check_run_and_history(run: &[u8], history: &[u8]) -> Result<(), Refusal>
     ensures { finding result ≡ run_and_history_check run.now history.now }
 {
