@@ -79,10 +79,6 @@ module _ (age year : ℕ) (i : ℤ) where
   unfolding improvement_needed
   needed-usable h = rw h refl
 
-  pub needed-beyond : usable i ≡ false → improvement_needed age year i ≡ refused (refusal 9 age year)
-  unfolding improvement_needed
-  needed-beyond h = rw h refl
-
   -- one that is not refused is the improvement itself
   pub needed-value : (v : ℤ) → improvement_needed age year i ≡ value v → i ≡ v
   unfolding improvement_needed

@@ -1,35 +1,16 @@
--- The definitions of the factor case by case: refused by 9, by 10, valued. Assumes nothing.
-use mathlib.Core.Path.{◌≡◌, ◌∙◌, refl}
+-- The definition of a year's factor case by case: what a value and what a refusal says of it. Assumes nothing.
+use mathlib.Core.Path.{◌≡◌, refl}
 use mathlib.Core.Bool.{Bool, true, false, cond}
 use Prim.Native.Nat.{ℕ, ◌≤◌, ◌<◌}
 use native.Mathlib.Omega.{arith}
 use lib.IntN.{ℤ, pos}
 use lib.Signed.{le_z}
-use borrow.Author.Tests.{le-leb, lt-leb}
 use Rattle.outcome.specs.declared.Refusal.{Refusal}
 use Rattle.outcome.specs.Outcome.{value, refused, and_then, refusal}
 use Rattle.improvement.specs.Improvement.{usable, improvement_needed}
-use Rattle.improvement.proofs.Cases.{needed-usable, needed-beyond}
 use Rattle.projection.specs.Projection.{factor_needed, factor_next, factor_from}
 
--- ---- a year's factor: 9, then 10, then the value
 module _ (age year : ℕ) (i f : ℤ) where
-  pub beyond : usable i ≡ false → factor_from age year i f ≡ refused (refusal 9 age year)
-  unfolding factor_from
-  beyond h = rw (needed-beyond age year i h) refl
-
-  next : usable i ≡ true → factor_from age year i f ≡ factor_needed age year (factor_next f i)
-  unfolding factor_from
-  next h = rw (needed-usable age year i h) refl
-
-  pub above : (g : ℕ) → usable i ≡ true → pos g ≡ factor_next f i → 4_000_000_000 < g → factor_from age year i f ≡ refused (refusal 10 age year)
-  unfolding factor_needed
-  above g h e l = next h ∙ rw (← e) (rw (lt-leb g 4_000_000_000 l) refl)
-
-  pub valued : (g : ℕ) → usable i ≡ true → pos g ≡ factor_next f i → g ≤ 4_000_000_000 → factor_from age year i f ≡ value (pos g)
-  unfolding factor_needed
-  valued g h e l = next h ∙ rw (← e) (rw (le-leb g 4_000_000_000 l) refl)
-
   -- a year that has a factor: its improvement was usable, and its factor is the next one and at most 4 × U
   pub year-value : (g : ℤ) → factor_from age year i f ≡ value g → (usable i ≡ true) × (g ≡ factor_next f i) × (le_z g (pos 4_000_000_000) ≡ true)
   unfolding factor_from improvement_needed factor_needed

@@ -12,8 +12,7 @@ use Rattle.arithmetic.specs.Round.{round_div}
 use Rattle.arithmetic.specs.Fraction.{U, lesser_ℤ}
 use Rattle.arithmetic.proofs.Difference.{rest-natural}
 use Rattle.basis.specs.Basis.{Basis}
-use Rattle.outcome.specs.Outcome.{Outcome, value, and_then, steps, meaning}
-use Rattle.outcome.specs.declared.Answer.{Answer}
+use Rattle.outcome.specs.Outcome.{Outcome, value, and_then, steps}
 use Rattle.outcome.proofs.Outcome.{next, along, came}
 use Rattle.improvement.specs.Improvement.{improvement_of}
 use Rattle.projection.specs.Bounded.{AtMost}
@@ -45,10 +44,9 @@ module _ (b : Basis) (age : ℕ) where
   year-is k f e = cc
 
   -- one year more
-  pub turn : {base : ℕ} (k : ℕ) (f : ℤ) {answer case : Answer} → base ≡ b.base → steps (factor_step b age) (pos U) k ≡ value f →
-      meaning answer ≡ factor_from age (base + 1 + k) (improvement_of b age (base + 1 + k)) f → answer ≡ case →
-      steps (factor_step b age) (pos U) (suc k) ≡ meaning case
-  turn k f e h g told = next (factor_step b age) (pos U) k f h ∙ sym (g ∙ year-is k f e) ∙ ap meaning told
+  pub turn : {base : ℕ} (k : ℕ) (f : ℤ) {o : Outcome ℤ} → base ≡ b.base → steps (factor_step b age) (pos U) k ≡ value f →
+      o ≡ factor_from age (base + 1 + k) (improvement_of b age (base + 1 + k)) f → steps (factor_step b age) (pos U) (suc k) ≡ o
+  turn k f e h g = next (factor_step b age) (pos U) k f h ∙ sym (g ∙ year-is k f e)
 
   -- what the last year gives is the answer
   pub ended : (year n : ℕ) (o : Outcome ℤ) → n ≡ years_to b year → steps (factor_step b age) (pos U) n ≡ o → o ≡ factor_of b age year
@@ -69,15 +67,15 @@ module _ (b : Basis) (age : ℕ) where
       rw (steps_of k, steps_of (suc k))
       (ap (λ (year : ℕ). and_then (steps (factor_step b age) (pos U) k) (λ f. factor_from age year (improvement_of b age year) f)) e)
 
-  factor-small : (year f : ℕ) → factor_of b age year ≡ value (pos f) → f ≤ 4_000_000_000
+  pub factor_small : (year f : ℕ) → factor_of b age year ≡ value (pos f) → f ≤ 4_000_000_000
   unfolding factor_of
-  factor-small year f h =
+  factor_small year f h =
       leb-true f 4_000_000_000
       (along (factor_step b age) (pos U) (λ k a. le_z a (pos 4_000_000_000) ≡ true) (years_to b year) refl
       (λ k a g l p q. (year-value age (b.base + 1 + k) (improvement_of b age (b.base + 1 + k)) a g q).2) (pos f) h)
 
   pub factor-bounded : {o : Outcome ℤ} (year : ℕ) → o ≡ factor_of b age year → AtMost 4_000_000_000 o
-  factor-bounded year e f h = factor-small year f (sym e ∙ h)
+  factor-bounded year e f h = factor_small year f (sym e ∙ h)
 
   -- and a natural number
   pub factor-natural : (year : ℕ) (f : ℤ) → factor_of b age year ≡ value f → (n : ℕ) × (f ≡ pos n)
@@ -92,15 +90,6 @@ module _ (b : Basis) (age : ℕ) where
       (z.0, y.1 ∙ ap (λ (x : ℤ). factor_next x i) p.1 ∙ z.1)) f h
 
   -- ---- the rate
-  rate-of : (n f q : ℕ) → n ≡ b.base_rate age → q ≡ (2 * (n * f) + U) / (2 * U) → lesser_ℤ (pos U) (pos q) ≡ rate_from b age (pos f)
-  rate-of n f q e h = rw (h, e) refl
-
-  pub rate-below : (n f q : ℕ) → n ≡ b.base_rate age → q ≡ (2 * (n * f) + U) / (2 * U) → q < U → pos q ≡ rate_from b age (pos f)
-  rate-below n f q e h l = least q l ∙ rate-of n f q e h
-
-  pub rate-above : (n f q : ℕ) → n ≡ b.base_rate age → q ≡ (2 * (n * f) + U) / (2 * U) → U ≤ q → pos U ≡ rate_from b age (pos f)
-  rate-above n f q e h l = most q l ∙ rate-of n f q e h
-
   -- from what the factor is, wherever that was worked out
   pub rate-by-factor : {o : Outcome ℤ} (year : ℕ) → o ≡ factor_of b age year → and_then o (λ f. value (rate_from b age f)) ≡ rate_of b age year
   unfolding rate_of

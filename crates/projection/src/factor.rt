@@ -5,7 +5,7 @@ ghost use Rattle.history.specs.History.{basis_with};
 ghost use Rattle.outcome.specs.Outcome.{meaning};
 ghost use Rattle.improvement.specs.Improvement.{improvement_of};
 ghost use Rattle.improvement.specs.Checked.{ImprovedCell};
-ghost use Rattle.projection.specs.Projection.{factor_next, factor_from, factor_of};
+ghost use Rattle.projection.specs.Projection.{factor_next, factor_needed, factor_from, factor_of};
 
 use arithmetic::UNIT;
 use basis::Convergence;
@@ -20,19 +20,26 @@ fn factor_next(factor: u64, improvement: i64) -> u64
     arithmetic::round_div_unsigned(factor * left, UNIT)
 }
 
-// The same with refusals 9 and 10, in this order.
+// A factor that an answer needs, or 10 where it is above 4 × U.
+#[tactic(auto, unfolding(crate::specs::Projection::factor_needed))]
+fn checked_factor(age: u32, year: u32, next: u64) -> Result<u64, Refusal>
+    ensures { meaning result ≡ factor_needed age year (pos next) }
+{
+    if next <= 4_000_000_000 {
+        Ok(next)
+    } else {
+        Err(Reason::Factor.at(age as u64, year as u64))
+    }
+}
+
+// This year's factor with refusals 9 and 10, in this order.
+#[tactic(auto, using(improvement::proofs::Cases::needed_small), unfolding(crate::specs::Projection::factor_from))]
 fn factor_from(age: u32, year: u32, improvement: i64, factor: u64) -> Result<u64, Refusal>
     requires { factor ≤ 4_000_000_000 }
     ensures { meaning result ≡ factor_from age year improvement (pos factor) }
 {
-    if !improvement::is_usable(improvement) {
-        return Err(improvement::beyond_limits(age, year));
-    }
-    let next = factor_next(factor, improvement);
-    if 4_000_000_000 < next {
-        return Err(Reason::Factor.at(age as u64, year as u64));
-    }
-    Ok(next)
+    let improvement = improvement::checked_improvement(age, year, improvement)?;
+    checked_factor(age, year, factor_next(factor, improvement))
 }
 
 // The same at an age whose terms the caller has read.
@@ -63,11 +70,9 @@ pub fn factor_at(run: &[u8], history: &[u8], age: u32, year: u32) -> Result<u64,
     let terms = basis::fields::age_terms(run, age);
     let base = basis::fields::base_year(run);
     let years = year - base;
-    let mut factor: u64 = UNIT;
-    let mut k: u32 = 0;
-    while k < years {
+    let mut factor = UNIT;
+    for k in 0..years {
         factor = factor_in(run, history, terms, age, base + 1 + k, factor)?;
-        k += 1;
     }
     Ok(factor)
 }

@@ -16,11 +16,8 @@ fn rate_from(run: &[u8], age: u32, factor: u64) -> u64
     requires { Accepted run.now × (20 ≤ age) × (age ≤ 150) × (factor ≤ 4_000_000_000) }
     ensures { pos result ≡ rate_from (basis_of run.now) age (pos factor) }
 {
-    let rate = arithmetic::round_div_unsigned(
-        basis::fields::base_rate(run, age) as u64 * factor,
-        UNIT,
-    );
-    if rate < UNIT { rate } else { UNIT }
+    let base_rate = u64::from(basis::fields::base_rate(run, age));
+    arithmetic::round_div_unsigned(base_rate * factor, UNIT).min(UNIT)
 }
 
 // The mortality rate at an age from what its factor is, wherever that was worked out, or the factor's refusal.
@@ -32,6 +29,7 @@ pub fn rate_by(run: &[u8], age: u32, factor: Result<u64, Refusal>) -> Result<u64
 }
 
 // The mortality rate at an age in a year from B on.
+#[tactic(auto, using(crate::proofs::Years::factor_small), unfolding(crate::specs::Projection::rate_of))]
 pub fn rate_at(run: &[u8], history: &[u8], age: u32, year: u32) -> Result<u64, Refusal>
     requires { Cell run.now history.now age year }
     ensures { meaning result ≡ rate_of (basis_with run.now history.now) age year }

@@ -1,6 +1,6 @@
 -- After k years the factor so far is the definition's after k steps; a refusal stands in every later year.
 use mathlib.Core.Path.{◌≡◌}
-use Prim.Native.Nat.{◌-◌, ◌≤◌}
+use Prim.Native.Nat.{◌≤◌}
 use lib.IntN.{pos}
 use Rattle.arithmetic.specs.Fraction.{U}
 use Rattle.history.specs.History.{basis_with}
@@ -10,7 +10,4 @@ use Rattle.projection.proofs.factor.factor_at.Given as goal
 
 abbrev pub invariant-loop-k : goal.invariant-loop-k
 invariant-loop-k l =
-    (l.k ≤ l.years) × (l.factor ≤ 4_000_000_000) × (steps (factor_step (basis_with l.run l.history) l.age) (pos U) l.k ≡ value (pos l.factor))
-
-abbrev pub decreases-loop-k : goal.decreases-loop-k
-decreases-loop-k l = l.years - l.k
+    (l.factor ≤ 4_000_000_000) × (steps (factor_step (basis_with l.run l.history) l.age) (pos U) l.k ≡ value (pos l.factor))

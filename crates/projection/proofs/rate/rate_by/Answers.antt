@@ -1,4 +1,4 @@
--- A value or a refusal of the factor: the two cases of `and_then`.
+-- A factor is within its bound.
 use mathlib.Core.Path.{ap}
 use Rattle.outcome.specs.Outcome.{meaning}
 use Rattle.projection.proofs.rate.rate_by.Goals as goal
@@ -6,4 +6,4 @@ use Rattle.projection.proofs.rate.rate_by.Goals as goal
 pub rate_from-requires : goal.rate_from-requires
 rate_from-requires c =
     let p = c.requires in
-    (p.0, p.1, p.2, p.3 _ (ap meaning c.in-Value.is))
+    (p.0, p.1, p.2, p.3 _ (ap meaning c.in_ok-factor.was))
