@@ -13,6 +13,11 @@ use Rattle.outcome.specs.Outcome.{Finding, passed, refused_by, first_of}
 use Rattle.outcome.proofs.Outcome.{unless-passed, both-passed}
 use Rattle.lent.specs.Lent.{count_check, room_check, written, placed}
 
+-- as much is lent as is needed
+pub enough : (need n : ℕ) → count_check need n ≡ passed → need ≤ n
+unfolding count_check
+enough need n h = leb-true need n (unless-passed _ _ h)
+
 -- the room comes before every other check
 module _ {A : Type 0} (need : ℕ) (out : List A) (next : Finding) where
   pub roomy : need ≤ length out → first_of (room_check need out) next ≡ next
