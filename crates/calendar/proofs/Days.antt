@@ -1,5 +1,5 @@
 -- The table's rule, computed once over its twelve entries, and the laws of a date. Assumes nothing.
-use mathlib.Core.Path.{◌≡◌, refl, ◌∙◌, sym, ap}
+use mathlib.Core.Path.{◌≡◌, refl, ◌∙◌, ap}
 use mathlib.Core.Bool.{Bool, true, false, cond, ◌&&◌}
 use mathlib.Core.List.{List, [], ◌∷◌}
 use Prim.Native.Nat.{ℕ, zero, suc, ◌+◌, ◌-◌, ◌≤◌, ◌<◌}
@@ -8,7 +8,7 @@ use native.Mathlib.Decide.{dec_lt}
 use native.Mathlib.Omega.{arith}
 use lib.Dec.{T, eqb, leb, ltb, eqb→eq, leb→le}
 use lib.ListN.{get_or}
-use borrow.Author.Tests.{leb-true, lt-ltb, le-ltb}
+use borrow.Author.Tests.{leb-true}
 use Rattle.calendar.specs.Calendar.{is_leap, days_in, length_of, days_of, days_since, CommonDays, exists}
 
 -- ---- a rule of the months: one test of each of them, which antt computes
@@ -41,9 +41,9 @@ table = 0 ∷ 31 ∷ 59 ∷ 90 ∷ 120 ∷ 151 ∷ 181 ∷ 212 ∷ 243 ∷ 273 �
 right : ℕ → Bool
 right k = eqb (get_or table k 0) (days_of false k) && (eqb (get_or table k 0 + cond (ltb 2 (suc k)) 1 0) (days_of true k) && leb (get_or table k 0) 334)
 
-pub table-right : (month : ℕ) → 1 ≤ month → month ≤ 12 → CommonDays month (get_or table (month - 1) 0)
+pub table_right : (month : ℕ) → 1 ≤ month → month ≤ 12 → CommonDays month (get_or table (month - 1) 0)
 unfolding table right every
-table-right month low high =
+table_right month low high =
     let k = month - 1 in
     let m : month ≡ suc k = omega arith in
     let x = get_or table k 0 in
@@ -56,26 +56,13 @@ table-right month low high =
       small = leb→le _ _ (second (eqb (x + cond (ltb 2 (suc k)) 1 0) (days_of true k)) _ rest);
     }
 
--- ---- a leap year's days, as the code adds the one day more
-pub leap-late : (month days : ℕ) → CommonDays month days → 2 < month → days + 1 ≡ days_of true (month - 1)
-leap-late month days h l = rw (lt-ltb 2 month l) at h.leap
-
-pub leap-early : (month days : ℕ) → CommonDays month days → month ≤ 2 → days ≡ days_of true (month - 1)
-leap-early month days h l = let e = rw (le-ltb 2 month l) at h.leap in omega arith
-
+-- ---- the length of a month
 -- a month's days are what the next month has beyond its own
-pub next-month : (leap : Bool) (month : ℕ) → 1 ≤ month → days_of leap (month + 1 - 1) ≡ days_of leap (month - 1) + length_of leap month
-next-month leap month low =
+pub next_month : (leap : Bool) (month : ℕ) → 1 ≤ month → days_of leap (month + 1 - 1) ≡ days_of leap (month - 1) + length_of leap month
+next_month leap month low =
     let e : month + 1 - 1 ≡ suc (month - 1) = omega arith in
     let m : suc (month - 1) ≡ month = omega arith in
     rw e (ap (λ n. days_of leap (month - 1) + length_of leap n) m)
-
-december : (leap : Bool) → length_of leap 12 ≡ 31
-december true = refl
-december false = refl
-
-pub december-is : (leap : Bool) (month : ℕ) → month ≡ 12 → 31 ≡ length_of leap month
-december-is leap month e = sym (december leap) ∙ ap (length_of leap) (sym e)
 
 -- ---- a date that exists
 -- the month behind k others has at most 31 days, and ends within the year
