@@ -44,6 +44,7 @@ pub fn file_length(form: Form) -> usize
 }
 
 // The form that the length of a data run tells; any other length counts as the old form's.
+#[tactic(auto, unfolding(crate::specs::Layout::form_of_run))]
 pub fn form_of_run(length: usize) -> Form
     ensures { meant result ≡ form_of_run length }
 {
@@ -55,6 +56,7 @@ pub fn form_of_run(length: usize) -> Form
 }
 
 // The same of a file.
+#[tactic(auto, unfolding(crate::specs::Layout::form_of_file))]
 pub fn form_of_file(length: usize) -> Form
     ensures { meant result ≡ form_of_file length }
 {

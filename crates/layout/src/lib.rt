@@ -106,8 +106,7 @@ pub fn width_of(kind: Number) -> usize
     match kind {
         Number::Byte => 1,
         Number::Half => 2,
-        Number::Word => 4,
-        Number::SignedWord => 4,
+        Number::Word | Number::SignedWord => 4,
     }
 }
 
@@ -117,9 +116,9 @@ pub fn value_at(run: &[u8], kind: Number, at: usize) -> i64
     ensures { result ≡ value_at kind run.now at }
 {
     match kind {
-        Number::Byte => run[at] as i64,
-        Number::Half => little_endian::read_u16(run, at) as i64,
-        Number::Word => little_endian::read_u32(run, at) as i64,
-        Number::SignedWord => little_endian::read_i32(run, at) as i64,
+        Number::Byte => i64::from(run[at]),
+        Number::Half => i64::from(little_endian::read_u16(run, at)),
+        Number::Word => i64::from(little_endian::read_u32(run, at)),
+        Number::SignedWord => i64::from(little_endian::read_i32(run, at)),
     }
 }
