@@ -18,3 +18,6 @@ age-place-inside age = omega (arith, min-le_right (age - 20) (ages - 1))
 
 pub birth-year-place-inside : (year : ℕ) → birth_year_place year < birth_years
 birth-year-place-inside year = omega (arith, min-le_right (year - 1842) (birth_years - 1))
+
+-- both places, for the check of a function
+pub ruleset places = (age-place, birth-year-place)

@@ -12,6 +12,7 @@ use layout::offsets::{
     birth_year_proportions_at,
 };
 
+#[tactic(auto, unfolding(crate::specs::Basis::basis_of))]
 pub fn foundation_year(run: &[u8]) -> u32
     requires { Accepted run.now }
     ensures { result ≡ (basis_of run.now).foundation }
@@ -19,6 +20,7 @@ pub fn foundation_year(run: &[u8]) -> u32
     little_endian::read_u16(run, layout::FOUNDATION_AT)
 }
 
+#[tactic(auto, unfolding(crate::specs::Basis::basis_of))]
 pub fn base_year(run: &[u8]) -> u32
     requires { Accepted run.now }
     ensures { result ≡ (basis_of run.now).base }
@@ -27,6 +29,7 @@ pub fn base_year(run: &[u8]) -> u32
 }
 
 // The first year that has a rate.
+#[tactic(auto, unfolding(crate::specs::Basis::rated_from))]
 pub fn rated_from(run: &[u8]) -> u32
     requires { Accepted run.now }
     ensures { result ≡ rated_from (basis_of run.now) }
@@ -34,6 +37,7 @@ pub fn rated_from(run: &[u8]) -> u32
     base_year(run)
 }
 
+#[tactic(auto, unfolding(crate::specs::Basis::basis_of))]
 pub fn constant_addition(run: &[u8]) -> i32
     requires { Accepted run.now }
     ensures { result ≡ (basis_of run.now).addition }
@@ -49,6 +53,7 @@ pub fn accumulation(run: &[u8]) -> u64
     (1_000_000_000 + little_endian::read_i32(run, layout::DISCOUNT_AT) as i64) as u64
 }
 
+#[tactic(auto, unfolding(crate::specs::Basis::basis_of), using(crate::proofs::Places::places))]
 pub fn base_rate(run: &[u8], age: u32) -> u32
     requires { Accepted run.now × (20 ≤ age) × (age ≤ 150) }
     ensures { result ≡ (basis_of run.now).base_rate age }
@@ -81,6 +86,7 @@ fn terms_at(
     }
 }
 
+#[tactic(auto, unfolding(crate::specs::Basis::basis_of), using(crate::proofs::Places::places))]
 pub fn age_terms(run: &[u8], age: u32) -> Convergence
     requires { Accepted run.now × (20 ≤ age) × (age ≤ 150) }
     ensures { result ≡ (basis_of run.now).by_age age }
@@ -96,6 +102,7 @@ pub fn age_terms(run: &[u8], age: u32) -> Convergence
     )
 }
 
+#[tactic(auto, unfolding(crate::specs::Basis::basis_of), using(crate::proofs::Places::places))]
 pub fn birth_year_terms(run: &[u8], year: u32) -> Convergence
     requires { Accepted run.now × (1842 ≤ year) × (year ≤ 2110) }
     ensures { result ≡ (basis_of run.now).by_birth_year year }
