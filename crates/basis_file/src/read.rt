@@ -20,6 +20,7 @@ pub fn length_needed(file: &[u8]) -> usize
 }
 
 // The length, then the blocks.
+#[tactic(auto, unfolding(crate::specs::File::outer_check))]
 fn check_outer(file: &[u8]) -> Result<(), Refusal>
     ensures { finding result ≡ outer_check file.now }
 {
@@ -31,15 +32,14 @@ fn check_outer(file: &[u8]) -> Result<(), Refusal>
 }
 
 // The data parts of n blocks, joined.
+#[tactic(auto, using(crate::proofs::Turns::joining))]
 fn join_parts(file: &[u8], n: usize, run: &mut [u8])
     requires { (length file.now ≡ 512 * n) × (length run.old ≡ 506 * n) × (n ≤ 10) }
     ensures { run.new ≡ parts_of n file.now }
 {
-    let mut b: usize = 0;
-    while b < n {
+    for b in 0..n {
         let from = 512 * b + 2;
         lent::put(&file[from..from + 506], run, 506 * b);
-        b += 1;
     }
 }
 
@@ -51,20 +51,20 @@ fn read_blocks(file: &[u8], form: Form, joined: &mut [u8], run: &mut [u8]) -> Re
     ensures run_after { run.new ≡ written (finding result) (parts_of (blocks_in (meant form)) file.now) run.old }
 {
     join_parts(file, blocks_in(form), joined);
-    let c = run_check::check_run(joined);
-    if let Ok(()) = c {
-        lent::put(joined, run, 0);
-    }
-    c
+    run_check::check_run(joined)?;
+    lent::put(joined, run, 0);
+    Ok(())
 }
 
 // The data run of an accepted file, into the front of `run`.
+#[tactic(auto, using(crate::proofs::Files::let_in), unfolding(crate::specs::File::file_check, crate::specs::File::run_in))]
 pub fn read_file(file: &[u8], run: &mut [u8]) -> Result<(), Refusal>
     ensures result_value { finding result ≡ read_check file.now run.old }
     ensures run_after { run.new ≡ written (finding result) (run_in file.now) run.old }
 {
     let needed = length_needed(file);
-    outcome::first_of(lent::check_room(needed, run.len()), check_outer(file))?;
+    lent::check_room(needed, run.len())?;
+    check_outer(file)?;
     let mut room = [0u8; layout::MPB2_RUN_LENGTH];
     read_blocks(file, form_of_file(file.len()), &mut room[..needed], run)
 }
