@@ -74,11 +74,8 @@ pub fn step(run: &[u8], history: &[u8], year: u32, state: &mut [u32]) -> bool
     ensures value { result ≡ ltb year 2260 }
     ensures encodes { Encodes state.new (sweep_step (basis_with run.now history.now) year (state_in state.old)) }
 {
-    let mut age: u32 = 20;
-    while age <= 150 {
-        let i = (age - 20) as usize;
-        state[i] = advanced_factor(run, history, age, year, state[i]);
-        age += 1;
+    for (i, n) in state.iter_mut().enumerate() {
+        *n = advanced_factor(run, history, 20 + i as u32, year, *n);
     }
     year < 2260
 }

@@ -21,21 +21,21 @@ factor_in-requires c =
 
 pub overflow_cast-result : goal.overflow_cast-result
 overflow_cast-result c =
-    let told = sym c.in-Value.ensures in
+    let told = sym c.in-Ok.ensures in
     record { fits = omega (arith, year-small _ _ _ _ _ told) }
 
 pub refused_number-requires : goal.refused_number-requires
 refused_number-requires c =
-    let w = year-refused _ _ _ _ _ (sym c.in-Refused.ensures) in
+    let w = year-refused _ _ _ _ _ (sym c.in-Err.ensures) in
     (omega (arith, ap (λ x. x.number) w.1, w.3), omega arith)
 
-pub returns-in-Value : goal.returns-in-Value
-returns-in-Value c =
-    let told = sym c.in-Value.ensures in
+pub returns-in-Ok : goal.returns-in-Ok
+returns-in-Ok c =
+    let told = sym c.in-Ok.ensures in
     decoded-factor _ _ (year-small _ _ _ _ _ told) ∙ sym told
 
-pub returns-in-Refused : goal.returns-in-Refused
-returns-in-Refused c =
+pub returns-in-Err : goal.returns-in-Err
+returns-in-Err c =
     let r = c in
-    let told = sym r.in-Refused.ensures in
+    let told = sym r.in-Err.ensures in
     ap (decoded _) c.refused_number.ensures ∙ decoded-again _ _ _ _ (year-refused _ _ _ _ _ told) (omega arith) refl ∙ sym told

@@ -1,11 +1,14 @@
--- After the turn of an age the ages up to it have advanced, and the others are as they were.
-use Prim.Native.Nat.{◌-◌, ◌≤◌}
+-- The ages before the turn have advanced, and the others are as they were.
+use Rattle.std.proofs.Common.{◌≡◌, ℕ, ◌+◌, ◌≤◌, ◌<◌, get_or}
 use Rattle.history.specs.History.{basis_with}
-use Rattle.sweep.proofs.Stepping.{Advanced}
+use Rattle.sweep.specs.Sweep.{advanced_factor}
+use Rattle.sweep.specs.Encoding.{decoded}
 use Rattle.sweep.proofs.step.Given as goal
 
-abbrev pub invariant-loop-age : goal.invariant-loop-age
-invariant-loop-age l = (20 ≤ l.age) × (l.age ≤ 151) × Advanced (basis_with l.run l.history) l.year l.initial.state l.state (l.age - 20)
-
-abbrev pub decreases-loop-age : goal.decreases-loop-age
-decreases-loop-age l = 151 - l.age
+abbrev pub invariant-loop-i : goal.invariant-loop-i
+invariant-loop-i l =
+    record {
+      done : (k : ℕ) → k < l.i
+          → decoded (20 + k) (get_or l.state k 0) ≡ advanced_factor (basis_with l.run l.history) (20 + k) l.year (decoded (20 + k) (get_or l.initial.state k 0));
+      left : (k : ℕ) → l.i ≤ k → get_or l.state k 0 ≡ get_or l.initial.state k 0;
+    }
