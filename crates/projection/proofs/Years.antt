@@ -115,5 +115,5 @@ module _ (b : Basis) (age : ℕ) where
       let e : q ≡ rate_from b age w.0 = cc in
       (n.0, e ∙ ap (λ (z : ℤ). rate_from b age z) f.1 ∙ n.1, n.2)
 
-  pub rate-bounded : {o : Outcome ℤ} (year : ℕ) → o ≡ rate_of b age year → AtMost U o
-  rate-bounded year e q h = let n = rate-small year (pos q) (sym e ∙ h) in let f : q ≡ n.0 = cc in omega (arith, n.2)
+  pub rate_at_most : (year q : ℕ) → rate_of b age year ≡ value (pos q) → q ≤ U
+  rate_at_most year q h = let n = rate-small year (pos q) h in let f : q ≡ n.0 = cc in omega (arith, n.2)

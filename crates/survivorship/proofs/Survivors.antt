@@ -12,8 +12,7 @@ use Rattle.arithmetic.proofs.Difference.{ring, ⊖-eq}
 use Rattle.arithmetic.proofs.Rounding.{round-abs-le}
 use Rattle.basis.specs.Basis.{Basis}
 use Rattle.history.specs.Checked.{Cell}
-use Rattle.outcome.specs.Outcome.{Outcome, value, refused, and_then, meaning}
-use Rattle.outcome.specs.declared.Answer.{Answer}
+use Rattle.outcome.specs.Outcome.{Outcome, value, refused, and_then}
 use Rattle.outcome.specs.declared.Refusal.{Refusal}
 use Rattle.outcome.proofs.Outcome.{none, next, persists, came, along}
 use Rattle.projection.specs.Projection.{rate_of}
@@ -89,11 +88,10 @@ module _ (b : Basis) (kind : Kind) (age : ℕ) where
   unfolding survivors_of
   survivors-on j year s h = next (survivors_step b kind age year) (pos U) j s h
 
-  -- what the year's answer turned out to be is what there is after it
-  pub survivors-answered : (j year : ℕ) (s : ℤ) {answer case : Answer} {at : ℕ} → at ≡ year_on kind j year → survivors_of b kind age j year ≡ value s
-      → meaning answer ≡ survivors_after_year b (age + j) at s → answer ≡ case → survivors_of b kind age (suc j) year ≡ meaning case
-  survivors-answered j year s e h g told =
-      survivors-on j year s h ∙ sym (g ∙ ap (λ (y : ℕ). survivors_after_year b (age + j) y s) e) ∙ ap meaning told
+  -- what the year comes to is what there is after it
+  pub survivors-answered : (j year : ℕ) (s : ℤ) {o : Outcome ℤ} {at : ℕ} → at ≡ year_on kind j year → survivors_of b kind age j year ≡ value s
+      → o ≡ survivors_after_year b (age + j) at s → survivors_of b kind age (suc j) year ≡ o
+  survivors-answered j year s e h g = survivors-on j year s h ∙ sym (g ∙ ap (λ (y : ℕ). survivors_after_year b (age + j) y s) e)
 
   pub survivors-refused : (j n year : ℕ) (r : Refusal) → j ≤ n → survivors_of b kind age j year ≡ refused r → survivors_of b kind age n year ≡ refused r
   unfolding survivors_of

@@ -46,7 +46,14 @@ pub fn survivors_by(rate: Result<u64, Refusal>, s: u64) -> Result<u64, Refusal>
 }
 
 // The same at an age in a year from B on.
-pub fn survivors_after_year(run: &[u8], history: &[u8], age: u32, year: u32, s: u64) -> Result<u64, Refusal>
+#[tactic(auto, using(projection::proofs::Years::rate_at_most), unfolding(crate::specs::Survivorship::survivors_after_year))]
+pub fn survivors_after_year(
+    run: &[u8],
+    history: &[u8],
+    age: u32,
+    year: u32,
+    s: u64,
+) -> Result<u64, Refusal>
     requires { Cell run.now history.now age year × (s ≤ 1_000_000_000) }
     ensures { meaning result ≡ survivors_after_year (basis_with run.now history.now) age year (pos s) }
 {
@@ -54,15 +61,20 @@ pub fn survivors_after_year(run: &[u8], history: &[u8], age: u32, year: u32, s: 
 }
 
 // The survivors after n years.
-pub fn survivors_at(run: &[u8], history: &[u8], kind: Kind, age: u32, n: u32, year: u32) -> Result<u64, Refusal>
+pub fn survivors_at(
+    run: &[u8],
+    history: &[u8],
+    kind: Kind,
+    age: u32,
+    n: u32,
+    year: u32,
+) -> Result<u64, Refusal>
     requires { Life run.now history.now age n year }
     ensures { meaning result ≡ survivors_of (basis_with run.now history.now) kind age n year }
 {
-    let mut s: u64 = UNIT;
-    let mut j: u32 = 0;
-    while j < n {
+    let mut s = UNIT;
+    for j in 0..n {
         s = survivors_after_year(run, history, age + j, year_on(kind, j, year), s)?;
-        j += 1;
     }
     Ok(s)
 }

@@ -1,6 +1,5 @@
 -- After j turns of the loop the survivors are those of the definition after j years; a refusal stands in every later year.
 use mathlib.Core.Path.{◌≡◌}
-use Prim.Native.Nat.{◌-◌, ◌≤◌}
 use lib.IntN.{pos}
 use Rattle.history.specs.History.{basis_with}
 use Rattle.outcome.specs.Outcome.{value}
@@ -8,7 +7,4 @@ use Rattle.survivorship.specs.Survivorship.{survivors_of}
 use Rattle.survivorship.proofs.survivors_at.Given as goal
 
 abbrev pub invariant-loop-j : goal.invariant-loop-j
-invariant-loop-j l = (l.j ≤ l.n) × (survivors_of (basis_with l.run l.history) l.kind l.age l.j l.year ≡ value (pos l.s))
-
-abbrev pub decreases-loop-j : goal.decreases-loop-j
-decreases-loop-j l = l.n - l.j
+invariant-loop-j l = survivors_of (basis_with l.run l.history) l.kind l.age l.j l.year ≡ value (pos l.s)

@@ -6,4 +6,4 @@ use Rattle.survivorship.proofs.survivors_by.Goals as goal
 pub survivors_next-requires : goal.survivors_next-requires
 survivors_next-requires c =
     let p = c.requires in
-    (p.0, p.1 _ (ap meaning c.in-Value.is))
+    (p.0, p.1 _ (ap meaning c.in_ok-rate.was))
