@@ -1,32 +1,22 @@
--- U and a rate of discount within its limits: a natural number that 64 bits hold. Assumes nothing.
+-- U and a rate of discount within its limits: a natural number, and how large. Assumes nothing.
 use mathlib.Core.Path.{◌≡◌, ◌∙◌, ap}
 use Prim.Native.Nat.{◌+◌, ◌-◌, ◌≤◌}
 use native.Mathlib.Omega.{arith}
 use lib.IntN.{ℤ, pos, neg_ℤ, nat_abs, ◌+ℤ◌}
-use lib.Signed.{◌≤ℤ◌, ◌<ℤ◌, non_neg}
-use lib.Dec.{T}
-use mir.Syntax.{w64}
-use mir.Val.{SFits}
+use lib.Signed.{◌≤ℤ◌, ◌<ℤ◌}
 use Rattle.arithmetic.specs.Fraction.{U}
 use Rattle.arithmetic.proofs.Difference.{parts, ring, up, dn, has, by-lt, ⊖-eq, ≤-parts}
-use Rattle.arithmetic.proofs.Machine.{sfits-abs}
 use Rattle.basis.specs.Basis.{Basis, Limited, accumulation_of}
 
 module _ (d : ℤ) (low : neg_ℤ (pos 10_000_000) ≤ℤ d) where
   total : pos U +ℤ d ≡ pos (U + up d - dn d)
   total = let l = ≤-parts low in ap (λ z. pos U +ℤ z) (parts d) ∙ simp ring (⊖-eq _ _ _ _ (omega arith))
 
-  pub natural : T (non_neg (pos U +ℤ d))
-  natural = rw total tt
-
   least : 990_000_000 ≤ nat_abs (pos U +ℤ d)
   least = let l = ≤-parts low in rw total (omega arith)
 
-  pub size : d ≤ℤ pos 200_000_000 → nat_abs (pos U +ℤ d) ≤ 1_200_000_000
+  size : d ≤ℤ pos 200_000_000 → nat_abs (pos U +ℤ d) ≤ 1_200_000_000
   size high = let h = ≤-parts high in rw total (omega arith)
-
-  pub fits : d ≤ℤ pos 200_000_000 → SFits w64 (pos U +ℤ d)
-  fits high = sfits-abs (omega (arith, size high))
 
 -- ---- of a basis within its limits: from 0.99 × U to 1.2 × U, and U or more exactly where the rate is not below zero
 module _ (b : Basis) (l : Limited b) where

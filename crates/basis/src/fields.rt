@@ -46,11 +46,12 @@ pub fn constant_addition(run: &[u8]) -> i32
 }
 
 // U and the rate of discount: what one unit grows to in a year.
+#[tactic(auto, unfolding(crate::specs::Basis::basis_of, crate::specs::Basis::accumulation_of))]
 pub fn accumulation(run: &[u8]) -> u64
     requires { Accepted run.now }
     ensures { result ≡ accumulation_of (basis_of run.now) }
 {
-    (1_000_000_000 + little_endian::read_i32(run, layout::DISCOUNT_AT) as i64) as u64
+    (arithmetic::UNIT as i64 + i64::from(little_endian::read_i32(run, layout::DISCOUNT_AT))) as u64
 }
 
 #[tactic(auto, unfolding(crate::specs::Basis::basis_of), using(crate::proofs::Places::places))]
