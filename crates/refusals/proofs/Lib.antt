@@ -1,2 +1,3 @@
 mod Work
 pub mod Calls
+pub mod Reasons
