@@ -25,11 +25,9 @@ fn discount_after(run: &[u8], n: u32) -> u64
     ensures { pos result ≡ discount_after (basis_of run.now) n }
 {
     let accumulation = basis::fields::accumulation(run);
-    let mut v: u64 = UNIT;
-    let mut j: u32 = 0;
-    while j < n {
+    let mut v = UNIT;
+    for _j in 0..n {
         v = discount_next(v, accumulation);
-        j += 1;
     }
     v
 }
@@ -60,18 +58,11 @@ fn annuity_from(
     let last = 150 - age;
     let mut v = discount_after(run, deferment);
     let mut s = first;
-    let mut j = deferment;
     let mut total = payment(v, s);
-    while j < last {
-        s = survivorship::survivors_after_year(
-            run,
-            history,
-            age + j,
-            survivorship::year_on(kind, j, year),
-            s,
-        )?;
+    for j in deferment..last {
+        let year = survivorship::year_on(kind, j, year);
+        s = survivorship::survivors_after_year(run, history, age + j, year, s)?;
         v = discount_next(v, accumulation);
-        j += 1;
         total += payment(v, s);
     }
     Ok(total)

@@ -24,18 +24,11 @@ pub fn expectation_at(
     let from = age + deferment;
     let start = year + deferment;
     let last = 150 - from;
-    let mut s: u64 = UNIT;
-    let mut j: u32 = 0;
-    let mut total: u64 = 0;
-    while j < last {
-        s = survivorship::survivors_after_year(
-            run,
-            history,
-            from + j,
-            survivorship::year_on(kind, j, start),
-            s,
-        )?;
-        j += 1;
+    let mut s = UNIT;
+    let mut total = 0;
+    for j in 0..last {
+        let year = survivorship::year_on(kind, j, start);
+        s = survivorship::survivors_after_year(run, history, from + j, year, s)?;
         total += s;
     }
     Ok(HALF_UNIT + total)

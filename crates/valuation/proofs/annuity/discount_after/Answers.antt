@@ -14,11 +14,10 @@ unfolding discount_after
 loop-j-init c = search rules
 
 pub discount_next-v-requires : goal.discount_next-v-requires
-discount_next-v-requires c = let l = c in let s = l in
-    discount-ranges (basis_of s.args.run.now) (search rules) l.loop-j.j l.loop-j.v (omega arith) l.loop-j.invariant.1 l.accumulation-accumulation.ensures
+discount_next-v-requires c =
+    discount-ranges (basis_of c.args.run.now) (search rules) c.loop-j._j c.loop-j.v (omega arith) c.loop-j.invariant c.accumulation-accumulation.ensures
 
 pub loop-j-preserved : goal.loop-j-preserved
-loop-j-preserved c = let l = c in
-    let b = basis_of l.args.run.now in
-    let turned = discount-turn b l.loop-j.j (pos l.loop-j.v) l.accumulation-accumulation.ensures l.loop-j.invariant.1 in
-    (omega arith, rw add-one (turned ∙ sym c.discount_next-v.ensures))
+loop-j-preserved c =
+    let turned = discount-turn (basis_of c.args.run.now) c.loop-j._j (pos c.loop-j.v) c.accumulation-accumulation.ensures c.loop-j.invariant in
+    rw add-one (turned ∙ sym c.discount_next-v.ensures)

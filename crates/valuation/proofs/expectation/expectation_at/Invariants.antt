@@ -1,11 +1,7 @@
 -- After j turns of the loop the survivors and the total are those of `Living`; the total of N years and the half are the expectation.
-use Prim.Native.Nat.{◌-◌, ◌≤◌}
 use Rattle.history.specs.History.{basis_with}
 use Rattle.valuation.proofs.Lives.{Living}
 use Rattle.valuation.proofs.expectation.expectation_at.Given as goal
 
 abbrev pub invariant-loop-j : goal.invariant-loop-j
-invariant-loop-j l = (l.j ≤ l.last) × Living (basis_with l.run l.history) l.kind l.from l.start l.j l.s l.total
-
-abbrev pub decreases-loop-j : goal.decreases-loop-j
-decreases-loop-j l = l.last - l.j
+invariant-loop-j l = Living (basis_with l.run l.history) l.kind l.from l.start l.j l.s l.total
