@@ -1,10 +1,10 @@
 -- One age from a year to the next, case by case. Assumes nothing.
-use mathlib.Core.Path.{◌≡◌, ◌∙◌, ap, refl}
+use mathlib.Core.Path.{◌≡◌, refl}
 use mathlib.Core.Bool.{Bool, true, false, cond}
 use Prim.Native.Nat.{ℕ}
 use lib.IntN.{ℤ}
 use Rattle.outcome.specs.declared.Refusal.{Refusal}
-use Rattle.outcome.specs.Outcome.{Outcome, value, refused, and_then}
+use Rattle.outcome.specs.Outcome.{Outcome, refused, and_then}
 use Rattle.basis.specs.Basis.{Basis}
 use Rattle.sweep.specs.Sweep.{factor_on, has_next_year, advanced_factor}
 
@@ -13,9 +13,6 @@ module _ (b : Basis) (age year : ℕ) (last : Outcome ℤ) where
   pub advanced-early : has_next_year age year ≡ true → advanced_factor b age year last ≡ and_then last (factor_on b age year)
   unfolding advanced_factor
   advanced-early l = rw l refl
-
-  pub advanced-outcome : (f : ℤ) → has_next_year age year ≡ true → last ≡ value f → advanced_factor b age year last ≡ factor_on b age year f
-  advanced-outcome f l h = advanced-early l ∙ ap (λ (o : Outcome ℤ). and_then o (factor_on b age year)) h
 
   -- a refusal stays
   pub advanced-refused : (r : Refusal) → last ≡ refused r → advanced_factor b age year last ≡ last

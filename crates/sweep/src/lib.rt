@@ -20,6 +20,7 @@ fn refused_number(number: u32, year: u32) -> u32
 }
 
 // What a number of the state stands for at an age.
+#[tactic(auto, unfolding(crate::specs::Encoding::decoded))]
 pub fn decoded(age: u32, n: u32) -> Result<u64, Refusal>
     ensures { meaning result ≡ decoded age n }
 {
@@ -54,6 +55,7 @@ fn next_factor(run: &[u8], history: &[u8], age: u32, year: u32, n: u32) -> u32
 }
 
 // One age from a year to the next: a refusal stays, and from the birth year 2110 on a factor does too.
+#[tactic(auto, unfolding(crate::specs::Sweep::advanced_factor, crate::specs::Encoding::decoded))]
 fn advanced_factor(run: &[u8], history: &[u8], age: u32, year: u32, n: u32) -> u32
     requires { Workable run.now history.now × (20 ≤ age) × (age ≤ 150) × ((basis_with run.now history.now).base ≤ year) }
     ensures { decoded age result ≡ advanced_factor (basis_with run.now history.now) age year (decoded age n) }
