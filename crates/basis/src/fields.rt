@@ -62,28 +62,29 @@ pub fn base_rate(run: &[u8], age: u32) -> u32
     little_endian::read_u32(run, layout::BASE_RATES_AT + 4 * (age as usize - 20))
 }
 
-// The terms at one place of four tables.
-fn terms_at(
-    run: &[u8],
-    form: Form,
+// Where the tables of the terms begin: those of I, L, T and P.
+#[derive(Clone, Copy)]
+struct TermTables {
     initial: usize,
     long: usize,
     period: usize,
     remaining: usize,
-    place: usize,
-) -> Convergence
-    requires initial_in_bounds { initial + 4 * place + 4 ≤ length run.now }
-    requires long_in_bounds { long + 4 * place + 4 ≤ length run.now }
-    requires period_in_bounds { period + place < length run.now }
-    requires remaining_in_bounds { remaining + width_of (proportion_of (meant form)) * place + width_of (proportion_of (meant form)) ≤ length run.now }
+}
+
+// The terms at one place of their tables.
+fn terms_at(run: &[u8], form: Form, tables: TermTables, place: usize) -> Convergence
+    requires initial_in_bounds { tables.initial + 4 * place + 4 ≤ length run.now }
+    requires long_in_bounds { tables.long + 4 * place + 4 ≤ length run.now }
+    requires period_in_bounds { tables.period + place < length run.now }
+    requires remaining_in_bounds { tables.remaining + width_of (proportion_of (meant form)) * place + width_of (proportion_of (meant form)) ≤ length run.now }
     requires run_len_bound { length run.now ≤ run_length mpb2 }
-    ensures { result ≡ terms_at (meant form) run.now initial long period remaining place }
+    ensures { result ≡ terms_at (meant form) run.now tables.initial tables.long tables.period tables.remaining place }
 {
     Convergence {
-        initial: little_endian::read_i32(run, initial + 4 * place),
-        long: little_endian::read_i32(run, long + 4 * place),
-        period: run[period + place],
-        remaining: proportion::proportion_at(run, form, remaining, place),
+        initial: little_endian::read_i32(run, tables.initial + 4 * place),
+        long: little_endian::read_i32(run, tables.long + 4 * place),
+        period: run[tables.period + place],
+        remaining: proportion::proportion_at(run, form, tables.remaining, place),
     }
 }
 
@@ -92,15 +93,13 @@ pub fn age_terms(run: &[u8], age: u32) -> Convergence
     requires { Accepted run.now × (20 ≤ age) × (age ≤ 150) }
     ensures { result ≡ (basis_of run.now).by_age age }
 {
-    terms_at(
-        run,
-        form_of_run(run.len()),
-        layout::AGE_INITIAL_RATES_AT,
-        layout::AGE_LONG_TERM_RATES_AT,
-        layout::AGE_PERIODS_AT,
-        layout::AGE_PROPORTIONS_AT,
-        age as usize - 20,
-    )
+    let tables = TermTables {
+        initial: layout::AGE_INITIAL_RATES_AT,
+        long: layout::AGE_LONG_TERM_RATES_AT,
+        period: layout::AGE_PERIODS_AT,
+        remaining: layout::AGE_PROPORTIONS_AT,
+    };
+    terms_at(run, form_of_run(run.len()), tables, age as usize - 20)
 }
 
 #[tactic(auto, unfolding(crate::specs::Basis::basis_of), using(crate::proofs::Places::places))]
@@ -109,13 +108,11 @@ pub fn birth_year_terms(run: &[u8], year: u32) -> Convergence
     ensures { result ≡ (basis_of run.now).by_birth_year year }
 {
     let form = form_of_run(run.len());
-    terms_at(
-        run,
-        form,
-        birth_year_initial_rates_at(form),
-        birth_year_long_term_rates_at(form),
-        birth_year_periods_at(form),
-        birth_year_proportions_at(form),
-        year as usize - 1842,
-    )
+    let tables = TermTables {
+        initial: birth_year_initial_rates_at(form),
+        long: birth_year_long_term_rates_at(form),
+        period: birth_year_periods_at(form),
+        remaining: birth_year_proportions_at(form),
+    };
+    terms_at(run, form, tables, year as usize - 1842)
 }

@@ -1,16 +1,8 @@
--- What holds of each form: how wide a P is, that the fields end inside the run, and that a form's own length tells it. Assumes nothing.
+-- What holds of each form: that the fields end inside the run, and that a form's own length tells it. Assumes nothing.
 use mathlib.Core.Path.{◌≡◌, refl, ap, ◌∙◌}
 use Prim.Native.Nat.{ℕ, ◌≤◌}
 use native.Mathlib.Omega.{arith}
-use Rattle.layout.specs.Layout.{Form, mpb1, mpb2, width_of, proportion_of, run_length, file_length, fields_end, form_of_run, form_of_file}
-
-pub width_low : (form : Form) → 1 ≤ width_of (proportion_of form)
-width_low mpb1 = omega arith
-width_low mpb2 = omega arith
-
-pub width-high : (form : Form) → width_of (proportion_of form) ≤ 2
-width-high mpb1 = omega arith
-width-high mpb2 = omega arith
+use Rattle.layout.specs.Layout.{Form, mpb1, mpb2, run_length, file_length, fields_end, form_of_run, form_of_file}
 
 pub fields-inside : (form : Form) → fields_end form ≤ run_length form
 fields-inside mpb1 = omega arith
