@@ -4,7 +4,7 @@
 ghost use Rattle.std.specs.Prelude.{◌≡◌};
 ghost use Rattle.outcome.specs.Outcome.{finding};
 ghost use Rattle.basis.specs.Basis.{basis_of, Accepted, rated_from};
-ghost use Rattle.question.specs.Question.{in_range, age_check, deferment_check, year_check, cell_check, question_check};
+ghost use Rattle.question.specs.Question.{age_check, deferment_check, year_check, cell_check, question_check};
 
 use outcome::{Reason, Refusal};
 
@@ -17,17 +17,12 @@ pub struct Question {
     pub year: u32,
 }
 
-fn is_in_range(low: u32, high: u32, n: u32) -> bool
-    ensures { result ≡ in_range low high n }
-{
-    low <= n && n <= high
-}
-
 // 6: age outside 20 to 150.
+#[tactic(auto, unfolding(crate::specs::Question::age_check))]
 pub fn check_age(age: u32) -> Result<(), Refusal>
     ensures { finding result ≡ age_check age }
 {
-    if is_in_range(20, 150, age) {
+    if (20..=150).contains(&age) {
         Ok(())
     } else {
         Err(Reason::Age.at(age as u64, 0))
@@ -35,10 +30,11 @@ pub fn check_age(age: u32) -> Result<(), Refusal>
 }
 
 // 8: age + deferment above 150. The sum is made in 64 bits, where it cannot wrap.
+#[tactic(auto, unfolding(crate::specs::Question::deferment_check))]
 fn check_deferment(age: u32, deferment: u32) -> Result<(), Refusal>
     ensures { finding result ≡ deferment_check age deferment }
 {
-    if age as u64 + deferment as u64 <= 150 {
+    if u64::from(age) + u64::from(deferment) <= 150 {
         Ok(())
     } else {
         Err(Reason::Deferment.at(age as u64, deferment as u64))
@@ -46,10 +42,11 @@ fn check_deferment(age: u32, deferment: u32) -> Result<(), Refusal>
 }
 
 // 7: the enquiry's year after 2130, or before the first that it may name.
+#[tactic(auto, unfolding(crate::specs::Question::year_check))]
 fn check_year(first: u32, year: u32) -> Result<(), Refusal>
     ensures { finding result ≡ year_check first year }
 {
-    if is_in_range(first, 2130, year) {
+    if (first..=2130).contains(&year) {
         Ok(())
     } else {
         Err(Reason::Year.at(year as u64, 0))
@@ -65,6 +62,7 @@ pub fn check_cell(first: u32, age: u32, year: u32) -> Result<(), Refusal>
 }
 
 // 6, then 8, then 7, for years from the first that has a rate.
+#[tactic(auto, unfolding(crate::specs::Question::question_check))]
 pub fn check_question(run: &[u8], age: u32, deferment: u32, year: u32) -> Result<(), Refusal>
     requires { Accepted run.now }
     ensures { finding result ≡ question_check (rated_from (basis_of run.now)) age deferment year }
