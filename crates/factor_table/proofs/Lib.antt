@@ -1,8 +1,7 @@
-mod Clearing
-mod Copying
 mod LaterPlaces
 mod LaterSweeping
-mod Discounting
+mod Parts
+mod Sweeping
+mod Written
 pub mod Fixed
 pub mod StoredFactors
-mod Sweeping

@@ -1,7 +1,7 @@
 -- What is read of the table is the direct engine's factor: the theorem of the sweep at the year that is stored, and one step from it where that is
 -- the year before. Assumes nothing.
 use mathlib.Core.Path.{◌≡◌, ◌∙◌, ap, sym, subst, refl}
-use mathlib.Core.Bool.{true, false}
+use mathlib.Core.Bool.{Bool, true, false}
 use mathlib.Core.List.{List}
 use Prim.Native.Nat.{ℕ, suc, ◌+◌, ◌*◌, ◌-◌, ◌%◌, ◌≤◌, ◌<◌}
 use native.Mathlib.Decide.{dec_lt}
@@ -136,8 +136,12 @@ module _ (run history numbers : List ℕ) (age year : ℕ) (cell : Cell run hist
       let told : factor_of b age (stored_year year) ≡ value f = sym stored-factor ∙ e in
       rw next at (sym (ap (λ o. and_then o (factor_on b age (stored_year year))) told) ∙ one-step h)
 
-  -- a refusal stands
-  pub factor-refused : is_stored year ≡ false → (r : Refusal) → stored_factor (basis_of run) numbers age year ≡ refused r → refused r ≡ factor_of b age year
-  factor-refused h r e =
-      let told : factor_of b age (stored_year year) ≡ refused r = sym stored-factor ∙ e in
-      sym (ap (λ o. and_then o (factor_on b age (stored_year year))) told) ∙ one-step h
+  -- a refusal stands, whether it is the year's or the year's before
+  pub factor-refused : (r : Refusal) → stored_factor (basis_of run) numbers age year ≡ refused r → refused r ≡ factor_of b age year
+  factor-refused r e = by (is_stored year) refl
+    where
+      by : (t : Bool) → is_stored year ≡ t → refused r ≡ factor_of b age year
+      by true h = sym e ∙ factor-itself h
+      by false h =
+          let told : factor_of b age (stored_year year) ≡ refused r = sym stored-factor ∙ e in
+          sym (ap (λ o. and_then o (factor_on b age (stored_year year))) told) ∙ one-step h

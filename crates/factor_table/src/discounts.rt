@@ -14,18 +14,10 @@ pub(crate) fn store_discounts(run: &[u8], numbers: &mut [u32])
 {
     let accumulation = basis::fields::accumulation(run);
     let mut v = UNIT;
-    let mut j: usize = 0;
-    while j < 131 {
-        numbers[FACTORS_LENGTH + j] = v as u32;
+    for n in &mut numbers[FACTORS_LENGTH..] {
+        *n = v as u32;
         v = valuation::annuity::discount_next(v, accumulation);
-        j += 1;
     }
-}
-
-fn wide(n: u32) -> u64
-    ensures { result ≡ n }
-{
-    n as u64
 }
 
 // The discount after some years, as it stands in the table.
@@ -34,5 +26,5 @@ pub fn discount(numbers: &[u32], j: u32) -> u64
     ensures { result ≡ stored_discount numbers.now j }
 {
     let at = FACTORS_LENGTH + j as usize;
-    wide(numbers[at])
+    u64::from(numbers[at])
 }

@@ -18,12 +18,7 @@ pub(crate) fn store_state(state: &[u32], from: usize, at: usize, numbers: &mut [
     ensures stands_at { StandsAt at from state.now numbers.new }
     ensures kept_before { KeptBefore at numbers.old numbers.new }
 {
-    let count = 131 - from;
-    let mut i: usize = 0;
-    while i < count {
-        numbers[at + i] = state[from + i];
-        i += 1;
-    }
+    numbers[at..at + 131 - from].copy_from_slice(&state[from..]);
 }
 
 // The sweep goes through the years once; its state in 2130 is the answer.
@@ -34,13 +29,10 @@ pub(crate) fn store_years(run: &[u8], history: &[u8], numbers: &mut [u32]) -> [u
         (early_years (basis_with run.now history.now)) }
 {
     let base = basis::fields::base_year(run);
-    let years = LATER_FROM - base;
     let mut state = sweep::start();
-    let mut k: u32 = 0;
-    while k < years {
-        store_state(&state, 0, 131 * k as usize, numbers);
-        sweep::step(run, history, base + k, &mut state);
-        k += 1;
+    for year in base..LATER_FROM {
+        store_state(&state, 0, 131 * (year - base) as usize, numbers);
+        sweep::step(run, history, year, &mut state);
     }
     state
 }
@@ -52,9 +44,5 @@ pub(crate) fn clear_rest(run: &[u8], numbers: &mut [u32])
     ensures kept_before { KeptBefore (131 * (early_years (basis_of run.now))) numbers.old numbers.new }
 {
     let years = LATER_FROM - basis::fields::base_year(run);
-    let mut at: usize = 131 * years as usize;
-    while at < EARLY_LENGTH {
-        numbers[at] = 0;
-        at += 1;
-    }
+    numbers[131 * years as usize..EARLY_LENGTH].fill(0);
 }

@@ -22,13 +22,11 @@ pub(crate) fn store_later_years(
 {
     let mut state = from_2130;
     let mut at = EARLY_LENGTH;
-    let mut m: u32 = 0;
-    while m < 66 {
+    for m in 0..66 {
         let first = 2 * m as usize;
         factors::store_state(&state, first, at, numbers);
         sweep::step(run, history, 2130 + 2 * m, &mut state);
         sweep::step(run, history, 2131 + 2 * m, &mut state);
         at += 131 - first;
-        m += 1;
     }
 }

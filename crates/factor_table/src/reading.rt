@@ -42,19 +42,20 @@ fn stored(run: &[u8], numbers: &[u32], age: u32, year: u32) -> Result<u64, Refus
 }
 
 // The factor at an age in a year from B on.
-pub fn factor(run: &[u8], history: &[u8], numbers: &[u32], age: u32, year: u32) -> Result<u64, Refusal>
+pub fn factor(
+    run: &[u8],
+    history: &[u8],
+    numbers: &[u32],
+    age: u32,
+    year: u32,
+) -> Result<u64, Refusal>
     requires { Cell run.now history.now age year × FactorTable (basis_with run.now history.now) numbers.now }
     ensures { meaning result ≡ factor_of (basis_with run.now history.now) age year }
 {
-    let last = stored(run, numbers, age, year);
+    let last = stored(run, numbers, age, year)?;
     if is_stored(year) {
-        return last;
+        return Ok(last);
     }
-    match last {
-        Ok(f) => {
-            let terms = basis::fields::age_terms(run, age);
-            projection::factor::factor_in(run, history, terms, age, year, f)
-        }
-        Err(r) => Err(r),
-    }
+    let terms = basis::fields::age_terms(run, age);
+    projection::factor::factor_in(run, history, terms, age, year, last)
 }

@@ -3,7 +3,7 @@
 use mathlib.Core.Path.{◌∙◌}
 use borrow.Author.Rules.{rules}
 use Rattle.valuation.proofs.Discount.{discount-with}
-use Rattle.factor_table.proofs.Discounting.{stored-behind}
+use Rattle.factor_table.proofs.Parts.{stored-behind}
 use Rattle.factor_table.proofs.fill_table.Goals as goal
 
 pub returns : goal.returns

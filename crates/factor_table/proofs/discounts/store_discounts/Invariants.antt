@@ -1,11 +1,13 @@
--- After j turns the first j discounts are stored, and v is the next one.
-use Prim.Native.Nat.{◌-◌, ◌≤◌}
+-- After some turns as many discounts are stored, and v is the next one.
+use Rattle.std.proofs.Common.{◌≡◌, ℕ, ◌<◌, get_or}
+use lib.IntN.{pos}
 use Rattle.basis.specs.Basis.{basis_of}
-use Rattle.factor_table.proofs.Discounting.{Discounted}
+use Rattle.valuation.specs.Valuation.{discount_after}
 use Rattle.factor_table.proofs.discounts.store_discounts.Given as goal
 
-abbrev pub invariant-loop-j : goal.invariant-loop-j
-invariant-loop-j l = (l.j ≤ 131) × Discounted (basis_of l.run) l.initial.numbers l.numbers l.j l.v
-
-abbrev pub decreases-loop-j : goal.decreases-loop-j
-decreases-loop-j l = 131 - l.j
+abbrev pub invariant-loop-n : goal.invariant-loop-n
+invariant-loop-n l =
+    record {
+      stored : (j : ℕ) → j < l.n-index → pos (get_or l.n-items j 0) ≡ discount_after (basis_of l.run) j;
+      next : discount_after (basis_of l.run) l.n-index ≡ pos l.v;
+    }

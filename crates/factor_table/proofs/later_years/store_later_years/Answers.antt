@@ -8,12 +8,11 @@ use Rattle.factor_table.proofs.later_years.store_later_years.Goals as goal
 pub store_state-requires : goal.store_state-requires
 store_state-requires c =
     let i = c.loop-m.invariant in
-    (search rules, omega arith, omega (arith, i.2.place, i.1, ends-in-time c.loop-m.m (omega arith)), omega (arith, i.2.place, ends-in-time c.loop-m.m (omega arith)))
+    (search rules, omega arith, omega (arith, i.1.place, i.0, ends-in-time c.loop-m.m (omega arith)), omega (arith, i.1.place, ends-in-time c.loop-m.m (omega arith)))
 
 pub loop-m-preserved : goal.loop-m-preserved
 loop-m-preserved c = (
-  omega arith,
   search rules,
-  later_more c.loop-m.invariant.2 c.requires.0.basis.limits.base_high (omega arith) c.store_state.ensures.stands_at c.store_state.ensures.kept_before (search rules)
+  later_more c.loop-m.invariant.1 c.requires.0.basis.limits.base_high (omega arith) c.store_state.ensures.stands_at c.store_state.ensures.kept_before (search rules)
       c.step.ensures.encodes c.step-in-loop-m.ensures.encodes,
 )

@@ -1,6 +1,5 @@
 -- After m turns the first m of these years are stored, and the state is that of the next one.
 use mathlib.Core.Path.{◌≡◌}
-use Prim.Native.Nat.{◌-◌, ◌≤◌}
 use lib.ListN.{length}
 use Rattle.history.specs.History.{basis_with}
 use Rattle.factor_table.specs.FactorTable.{table_length}
@@ -9,7 +8,4 @@ use Rattle.factor_table.proofs.later_years.store_later_years.Given as goal
 
 abbrev pub invariant-loop-m : goal.invariant-loop-m
 invariant-loop-m l =
-    (l.m ≤ 66) × (length l.numbers ≡ table_length) × LaterSweeping (basis_with l.run l.history) l.initial.numbers l.numbers l.state l.m l.at
-
-abbrev pub decreases-loop-m : goal.decreases-loop-m
-decreases-loop-m l = 66 - l.m
+    (length l.numbers ≡ table_length) × LaterSweeping (basis_with l.run l.history) l.initial.numbers l.numbers l.state l.m l.at

@@ -1,18 +1,26 @@
 -- What is stored is the factor of its year; where that is the year before, the direct engine's step is left.
-use mathlib.Core.Path.{◌∙◌, ap, sym}
+use mathlib.Core.Path.{◌≡◌, ◌∙◌, sym, refl}
 use native.Mathlib.Omega.{arith}
 use borrow.Author.Rules.{rules}
-use Rattle.outcome.specs.Outcome.{meaning}
+use Rattle.outcome.specs.Outcome.{refused}
+use Rattle.projection.specs.Projection.{factor_of}
 use Rattle.history.specs.History.{basis_with}
 use Rattle.improvement.proofs.Cases.{first-early}
 use Rattle.projection.proofs.Years.{factor-bounded}
 use Rattle.factor_table.proofs.StoredFactors.{year-before, stored-factor, factor-itself, factor-between, factor-refused}
 use Rattle.factor_table.proofs.reading.factor.Goals as goal
 
+pub returns-in_err-last : goal.returns-in_err-last
+returns-in_err-last c =
+    let a = c.args in
+    let e : refused c.in_err-last.field-0.0 ≡ factor_of (basis_with a.run.now a.history.now) a.age a.year =
+    factor-refused a.run.now a.history.now a.numbers.now a.age a.year c.requires.0 c.requires.1 _ (sym c.in_err-last.ensures) in
+    search rules
+
 pub returns-then-is_stored : goal.returns-then-is_stored
 returns-then-is_stored c =
     let a = c.args in
-    c.stored-last.ensures
+    c.in_ok-last.ensures
     ∙ factor-itself a.run.now a.history.now a.numbers.now a.age a.year (search rules) (search rules) (sym c.is_stored.ensures ∙ c.if-is_stored.true)
 
 pub factor_in-requires : goal.factor_in-requires
@@ -29,18 +37,12 @@ factor_in-requires c =
         birth_high = c.requires.0.birth_high;
       },
       search rules,
-      factor-bounded _ _ _ (c.stored-last.ensures ∙ table) _ (ap meaning c.in-Value.is),
+      factor-bounded _ _ _ (c.in_ok-last.ensures ∙ table) _ refl,
     )
 
-pub returns-in-Value : goal.returns-in-Value
-returns-in-Value c =
+pub returns : goal.returns
+returns c =
     let a = c.args in
     c.factor_in.ensures
     ∙ factor-between a.run.now a.history.now a.numbers.now a.age a.year c.requires.0 c.requires.1 (sym c.is_stored.ensures ∙ c.if-is_stored.false) _
-    (sym c.stored-last.ensures ∙ ap meaning c.in-Value.is)
-
-pub returns-in-Refused : goal.returns-in-Refused
-returns-in-Refused c =
-    let a = c.args in
-    factor-refused a.run.now a.history.now a.numbers.now a.age a.year c.requires.0 c.requires.1 (sym c.is_stored.ensures ∙ c.if-is_stored.false) _
-    (sym c.stored-last.ensures ∙ ap meaning c.in-Refused.is)
+    (sym c.in_ok-last.ensures)
