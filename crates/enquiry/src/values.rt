@@ -7,13 +7,21 @@ use outcome::Refusal;
 use survivorship::Kind;
 
 // The data run and its history afresh, then the question.
-pub fn check_valuation(run: &[u8], history: &[u8], age: u32, deferment: u32, year: u32) -> Result<(), Refusal>
+#[tactic(auto, using(crate::proofs::Passed::accepted), unfolding(basis::specs::Basis::rated_from))]
+pub fn check_valuation(
+    run: &[u8],
+    history: &[u8],
+    age: u32,
+    deferment: u32,
+    year: u32,
+) -> Result<(), Refusal>
     ensures { finding result ≡ valuation_check run.now history.now age deferment year }
 {
     history::check::check_run_and_history(run, history)?;
     question::check_question(run, age, deferment, year)
 }
 
+#[tactic(auto, using(crate::proofs::Passed::asked_life), unfolding(crate::specs::Enquiry::survivorship_enquiry))]
 pub fn survivorship(
     run: &[u8],
     history: &[u8],
@@ -28,6 +36,7 @@ pub fn survivorship(
     survivorship::survivors_at(run, history, kind, age, deferment, year)
 }
 
+#[tactic(auto, using(crate::proofs::Passed::asked_life), unfolding(crate::specs::Enquiry::expectation_enquiry))]
 pub fn expectation(
     run: &[u8],
     history: &[u8],
@@ -39,11 +48,10 @@ pub fn expectation(
     ensures { meaning result ≡ expectation_enquiry run.now history.now kind age deferment year }
 {
     check_valuation(run, history, age, deferment, year)?;
-    valuation::expectation::expectation_at(
-            run, history, kind, age, deferment, year,
-        )
+    valuation::expectation::expectation_at(run, history, kind, age, deferment, year)
 }
 
+#[tactic(auto, using(crate::proofs::Passed::asked_life), unfolding(crate::specs::Enquiry::annuity_enquiry))]
 pub fn annuity(
     run: &[u8],
     history: &[u8],

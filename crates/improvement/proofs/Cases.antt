@@ -24,9 +24,9 @@ addition-after b year h = rw (lt-ltb b.foundation year h)
 
 -- ---- the first year that has an improvement
 -- whatever the history
-pub first-with : (run history : List ℕ) → first_year (basis_of run) ≡ first_year (basis_with run history)
+pub first_with : (run history : List ℕ) → first_year (basis_of run) ≡ first_year (basis_with run history)
 unfolding first_year
-first-with run history = refl
+first_with run history = refl
 
 pub first-before : (b : Basis) → b.base < b.foundation → first_year b ≡ b.base + 1
 unfolding first_year
