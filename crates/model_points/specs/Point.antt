@@ -1,6 +1,7 @@
 -- A model point (01, "The small set is six model points with four results each"): what a question is answered.
-use Rattle.std.specs.Prelude.{ℕ, List, [], ◌∷◌, ℤ, nat_abs}
+use Rattle.std.specs.Prelude.{ℕ, List, [], ◌∷◌, ℤ, nat_abs, Result, Ok, Err}
 use Rattle.basis.specs.Basis.{Basis, rated_from}
+use Rattle.outcome.specs.declared.Refusal.{Refusal}
 use Rattle.outcome.specs.Outcome.{Outcome, value, refused, checked, and_then, no_refusal}
 use Rattle.survivorship.specs.declared.Kind.TheVariants.{Period, Cohort}
 use Rattle.valuation.specs.Valuation.{expectation_of, annuity_of}
@@ -30,6 +31,14 @@ abbrev pub point_answer_of : Outcome (List ℕ) → PointAnswer
 point_answer_of (value results) = record { results = results; refusal = no_refusal }
 point_answer_of (refused r) = record { results = no_results; refusal = r }
 
+-- what four results, or a refusal in place of them, stand for
+abbrev pub results_meaning : Result (List ℕ) Refusal → Outcome (List ℕ)
+results_meaning (Ok results) = value results
+results_meaning (Err r) = refused r
+
 -- its own checks, then the four results
+abbrev pub checked_results_of : Basis → Question → Outcome (List ℕ)
+checked_results_of b q = checked (question_check (rated_from b) q.age q.deferment q.year) (results_of b q.age q.deferment q.year)
+
 unfoldable pub point_of : Basis → Question → PointAnswer
-point_of b q = point_answer_of (checked (question_check (rated_from b) q.age q.deferment q.year) (results_of b q.age q.deferment q.year))
+point_of b q = point_answer_of (checked_results_of b q)
