@@ -1,10 +1,9 @@
 -- What the remainders carry over is at most 2, so that the sum fits and is the integers' own.
-use Rattle.std.proofs.Common.{◌≡◌, ◌∙◌, ap, sym, ℕ, ◌≤◌, ◌<◌, ◌^◌, arith, ℤ, pos, nat_abs, ◌+ℤ◌, w64, FitsSigned, to_z, of_z}
+use Rattle.std.proofs.Common.{◌≡◌, ◌∙◌, ap, sym, ℕ, ◌≤◌, ◌^◌, arith, ℤ, pos, nat_abs, ◌+ℤ◌, w64, FitsSigned, to_z, of_z}
 use mir.Facts.{to_z-of_z, to_z_pos}
-use Rattle.arithmetic.specs.Fraction.{◌over◌, ◌+ᶠ◌, round}
 use Rattle.arithmetic.proofs.Difference.{nat_abs-add}
 use Rattle.arithmetic.proofs.Machine.{sfits-abs}
-use Rattle.arithmetic.proofs.Remainders.{round-parts, remainders-abs}
+use Rattle.arithmetic.proofs.Remainders.{round-parts}
 use Rattle.arithmetic.proofs.round_sum.Goals as goal
 
 -- two whole parts and what is carried over
@@ -24,26 +23,13 @@ module _ (w v : ℤ) (n : ℕ) (h : nat_abs w ≤ 2 ^ 61) (k : nat_abs v ≤ 2 ^
   all_fit : FitsSigned w64 (w +ℤ v +ℤ pos n)
   all_fit = sfits-abs (omega (arith, nat_abs-add (w +ℤ v) (pos n), nat_abs-add w v))
 
-  sum_fits : FitsSigned w64 (to_z w64 (of_z w64 (to_z w64 (of_z w64 w) +ℤ to_z w64 (of_z w64 v))) +ℤ to_z w64 n)
-  sum_fits = rw (w-is, v-is, to_z-of_z two-fit, n-is) all_fit
-
   sum_is : to_z w64 (of_z w64 (to_z w64 (of_z w64 (to_z w64 (of_z w64 w) +ℤ to_z w64 (of_z w64 v))) +ℤ to_z w64 n)) ≡ w +ℤ v +ℤ pos n
   sum_is = rw (w-is, v-is, to_z-of_z two-fit, n-is) (to_z-of_z all_fit)
-
--- what is carried over
-carried-small : {r d s e n : ℕ} → pos n ≡ round ((pos r over d) +ᶠ (pos s over e)) → r < d → s < e → n ≤ 2
-carried-small {r} {d} {s} {e} is h k = omega (arith, ap nat_abs is, remainders-abs r d s e h k)
-
-pub overflow_cast-result : goal.overflow_cast-result
-overflow_cast-result c = record { sfits = omega (arith, carried-small c.round_remainders-carried.ensures (omega arith) (omega arith)) }
-
-pub overflow_add-result-2 : goal.overflow_add-result-2
-overflow_add-result-2 c = sum_fits c.args.first.whole c.args.second.whole _ (omega arith) (omega arith) (carried-small c.round_remainders-carried.ensures (omega arith) (omega arith))
 
 pub returns : goal.returns
 returns c =
     let w = c.args.first.whole in
     let v = c.args.second.whole in
-    sum_is w v _ (omega arith) (omega arith) (carried-small c.round_remainders-carried.ensures (omega arith) (omega arith))
-    ∙ ap (λ (z : ℤ). w +ℤ v +ℤ z) c.round_remainders-carried.ensures
+    sum_is w v _ (omega arith) (omega arith) c.round_remainders-carried.ensures.upper_bound
+    ∙ ap (λ (z : ℤ). w +ℤ v +ℤ z) c.round_remainders-carried.ensures.value
     ∙ sym (round-parts c.args.first c.args.second (omega arith) (omega arith))
