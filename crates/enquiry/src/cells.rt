@@ -7,7 +7,7 @@ use outcome::Refusal;
 
 // An improvement, in a year from the first that has one. As in every enquiry the data run and its history are checked afresh, and
 // only then is there a year to be read of the run.
-#[tactic(auto, using(crate::proofs::Passed::accepted, crate::proofs::Passed::improved_cell, improvement::proofs::Cases::first_with), unfolding(crate::specs::Enquiry::improvement_enquiry))]
+#[tactic(auto, using(crate::proofs::Passed::asked), unfolding(crate::specs::Enquiry::improvement_enquiry))]
 pub fn improvement(run: &[u8], history: &[u8], age: u32, year: u32) -> Result<i64, Refusal>
     ensures { signed_meaning result ≡ improvement_enquiry run.now history.now age year }
 {
@@ -17,7 +17,7 @@ pub fn improvement(run: &[u8], history: &[u8], age: u32, year: u32) -> Result<i6
 }
 
 // A factor, in a year from B on.
-#[tactic(auto, using(crate::proofs::Passed::accepted, crate::proofs::Passed::asked_cell), unfolding(crate::specs::Enquiry::factor_enquiry))]
+#[tactic(auto, using(crate::proofs::Passed::asked), unfolding(crate::specs::Enquiry::factor_enquiry))]
 pub fn factor(run: &[u8], history: &[u8], age: u32, year: u32) -> Result<u64, Refusal>
     ensures { meaning result ≡ factor_enquiry run.now history.now age year }
 {
@@ -27,7 +27,7 @@ pub fn factor(run: &[u8], history: &[u8], age: u32, year: u32) -> Result<u64, Re
 }
 
 // A rate, in a year from the first that has one.
-#[tactic(auto, using(crate::proofs::Passed::accepted, crate::proofs::Passed::asked_cell), unfolding(crate::specs::Enquiry::rate_enquiry, basis::specs::Basis::rated_from))]
+#[tactic(auto, using(crate::proofs::Passed::asked), unfolding(crate::specs::Enquiry::rate_enquiry, basis::specs::Basis::rated_from))]
 pub fn rate(run: &[u8], history: &[u8], age: u32, year: u32) -> Result<u64, Refusal>
     ensures { meaning result ≡ rate_enquiry run.now history.now age year }
 {

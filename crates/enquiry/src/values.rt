@@ -7,7 +7,7 @@ use outcome::Refusal;
 use survivorship::Kind;
 
 // The data run and its history afresh, then the question.
-#[tactic(auto, using(crate::proofs::Passed::accepted), unfolding(basis::specs::Basis::rated_from))]
+#[tactic(auto, using(crate::proofs::Passed::asked), unfolding(basis::specs::Basis::rated_from))]
 pub fn check_valuation(
     run: &[u8],
     history: &[u8],
@@ -21,7 +21,7 @@ pub fn check_valuation(
     question::check_question(run, age, deferment, year)
 }
 
-#[tactic(auto, using(crate::proofs::Passed::asked_life), unfolding(crate::specs::Enquiry::survivorship_enquiry))]
+#[tactic(auto, using(crate::proofs::Passed::asked), unfolding(crate::specs::Enquiry::survivorship_enquiry))]
 pub fn survivorship(
     run: &[u8],
     history: &[u8],
@@ -36,7 +36,7 @@ pub fn survivorship(
     survivorship::survivors_at(run, history, kind, age, deferment, year)
 }
 
-#[tactic(auto, using(crate::proofs::Passed::asked_life), unfolding(crate::specs::Enquiry::expectation_enquiry))]
+#[tactic(auto, using(crate::proofs::Passed::asked), unfolding(crate::specs::Enquiry::expectation_enquiry))]
 pub fn expectation(
     run: &[u8],
     history: &[u8],
@@ -51,7 +51,7 @@ pub fn expectation(
     valuation::expectation::expectation_at(run, history, kind, age, deferment, year)
 }
 
-#[tactic(auto, using(crate::proofs::Passed::asked_life), unfolding(crate::specs::Enquiry::annuity_enquiry))]
+#[tactic(auto, using(crate::proofs::Passed::asked), unfolding(crate::specs::Enquiry::annuity_enquiry))]
 pub fn annuity(
     run: &[u8],
     history: &[u8],
