@@ -1,5 +1,5 @@
 -- What the check of the old form lets through: an accepted run, each P of which is a whole per cent. Assumes nothing.
-use mathlib.Core.Path.{◌≡◌, sym, ◌∙◌}
+use mathlib.Core.Path.{◌≡◌}
 use mathlib.Core.List.{List}
 use Prim.Native.Nat.{ℕ, zero, suc, ◌+◌, ◌%◌, ◌<◌}
 use native.Mathlib.Nat.{add-zero, not-suc-le-zero}
@@ -7,9 +7,8 @@ use native.Mathlib.Omega.{arith}
 use lib.ListN.{length}
 use mathlib.Core.Bool.{true}
 use borrow.Author.Tests.{eqb-true}
-use Rattle.outcome.specs.Outcome.{Finding, passed, refused_by}
-use Rattle.outcome.specs.declared.Refusal.{Refusal}
-use Rattle.outcome.proofs.Outcome.{unless-passed, both-passed, first-stands, first-passed}
+use Rattle.outcome.specs.Outcome.{passed}
+use Rattle.outcome.proofs.Outcome.{unless-passed, both-passed}
 use Rattle.layout.specs.Layout.{mpb1, proportion_at, form_of_run, ages, birth_years, age_proportions_at, birth_year_proportions_at}
 use Rattle.basis.specs.Basis.{Accepted}
 use Rattle.run_check.specs.Run.{run_check}
@@ -50,11 +49,6 @@ module _ (run : List ℕ) where
   unfolding old_form_check
   old-form-passed h = let e = both-passed (run_check run) (whole_check run) h in (accepted run e.0, counted e.1)
 
-  -- the run's own refusal stands first
-  pub run-refused : (c : Finding) {r : Refusal} → c ≡ run_check run → c ≡ refused_by r → c ≡ old_form_check run
-  unfolding old_form_check
-  run-refused c e f = e ∙ sym (first-stands (run_check run) _ (sym e ∙ f))
-
-  pub run-passed : (c : Finding) → run_check run ≡ passed → c ≡ whole_check run → c ≡ old_form_check run
-  unfolding old_form_check
-  run-passed c e f = f ∙ sym (first-passed (run_check run) (whole_check run) e)
+-- what passes the run's own check is accepted
+pub accepted_run : (run : List ℕ) → run_check run ≡ passed → Accepted run
+accepted_run run h = accepted run h

@@ -10,17 +10,16 @@ use layout::forms::form_of_run;
 use layout::offsets::{birth_year_initial_rates_at, birth_year_proportions_at};
 
 // n P of a table, each over 100.
+#[tactic(auto, using(crate::proofs::Turns::putting))]
 fn put_per_cents(run: &[u8], offset: usize, n: usize, out: &mut [u8], at: usize)
     requires accepted { Accepted run.now × ProportionsWithin run.now offset n × (at + n ≤ length out.old) }
     requires n_in_bounds { offset + width_of (proportion_of (form_of_run (length run.now))) * n ≤ length run.now }
     ensures { out.new ≡ placed out.old at (proportions_in mpb1 run.now offset 0 n) }
 {
     let form = form_of_run(run.len());
-    let mut place: usize = 0;
-    while place < n {
+    for place in 0..n {
         let p = proportion::proportion_at(run, form, offset, place);
         proportion::put_proportion(Form::Mpb1, p, out, at + place);
-        place += 1;
     }
 }
 

@@ -10,6 +10,7 @@ use layout::offsets::{birth_year_proportions_at, proportion_width};
 use outcome::{Reason, Refusal};
 
 // The first of n P of a table that is no whole per cent (17).
+#[tactic(auto, using(crate::proofs::Turns::looking), unfolding(crate::specs::OldForm::whole_from))]
 fn check_table(run: &[u8], offset: usize, n: usize) -> Result<(), Refusal>
     requires accepted { Accepted run.now }
     requires n_in_bounds { offset + width_of (proportion_of (form_of_run (length run.now))) * n ≤ length run.now }
@@ -17,12 +18,10 @@ fn check_table(run: &[u8], offset: usize, n: usize) -> Result<(), Refusal>
 {
     let form = form_of_run(run.len());
     let width = proportion_width(form);
-    let mut place: usize = 0;
-    while place < n {
+    for place in 0..n {
         if proportion::proportion_at(run, form, offset, place) % 100 != 0 {
             return Err(Reason::PartPerCent.at((offset + width * place) as u64, 0));
         }
-        place += 1;
     }
     Ok(())
 }
@@ -33,7 +32,6 @@ pub(crate) fn check_whole(run: &[u8]) -> Result<(), Refusal>
     ensures { finding result ≡ whole_check run.now }
 {
     let form = form_of_run(run.len());
-    let ages = check_table(run, layout::AGE_PROPORTIONS_AT, layout::AGES);
-    let births = check_table(run, birth_year_proportions_at(form), layout::BIRTH_YEARS);
-    outcome::first_of(ages, births)
+    check_table(run, layout::AGE_PROPORTIONS_AT, layout::AGES)?;
+    check_table(run, birth_year_proportions_at(form), layout::BIRTH_YEARS)
 }
