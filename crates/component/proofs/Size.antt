@@ -26,6 +26,9 @@ slope-is T P n = simp ring (⊖-eq _ _ _ _ (omega arith))
 pub slope-abs : (T P n : ℕ) → T ≤ 50 → P ≤ 15_000 → n ≤ T → nat_abs (slope_of T P n) ≤ 5_500_000
 slope-abs T P n h k l = rw (← slope-is T P n) (simp ring (⊖-abs _ _ _ (omega (arith, grow P n k)) (omega arith)))
 
+-- for the check of the function that works it out
+pub ruleset slopes = (grow, slope-is, slope-abs)
+
 pub square : (k : ℕ) → k ≤ 50 → k * k ≤ 2500
 square k h = mul-le-mul {n₁ = k} {m₁ = k} {n₂ = 50} {m₂ = 50} h h
 

@@ -18,6 +18,7 @@ fn excess(initial: i32, long: i32) -> i64
 }
 
 // 10,000T + (8P − 20,000)n, with P in hundredths of a per cent. The two signs are gathered apart, so that only the difference is signed.
+#[tactic(auto, using(crate::proofs::Size::slopes))]
 fn slope(period: u64, remaining: u64, years: u64) -> i64
     requires { (period ≤ 50) × (remaining ≤ 15_000) × (years ≤ period) }
     ensures { result ≡ slope_of period remaining years }
