@@ -8,9 +8,12 @@ use Rattle.run_check.specs.Run.{run_check}
 use Rattle.tables.specs.declared.Table.{Table}
 use Rattle.tables.specs.declared.Table.TheVariants.{BaseRates, AgeInitialRates, AgeLongTermRates, AgePeriods, AgeProportions}
 use Rattle.tables.specs.declared.Table.TheVariants.{BirthYearInitialRates, BirthYearLongTermRates, BirthYearPeriods, BirthYearProportions}
-use Rattle.tables.specs.declared.Stretch.{Stretch}
 
--- each table's offset in a run of a form, and its bytes
+-- a stretch of a run: its offset, and how many bytes it has
+abbrev pub Stretch : Type 0
+Stretch = ℕ × ℕ
+
+-- each table's stretch in a run of a form
 abbrev pub stretch_of : Form → Table → Stretch
 stretch_of form BaseRates = (base_rates_at, 4 * ages)
 stretch_of form AgeInitialRates = (age_initial_rates_at, 4 * ages)

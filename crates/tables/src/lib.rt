@@ -13,7 +13,7 @@ use layout::offsets::{
 
 // The tables in the order in which they stand in the run: one entry for each age from 20, or for each birth year from
 // 1842. Periods are T, proportions P.
-#[derive(Drop)]
+#[derive(Clone, Copy)]
 pub enum Table {
     BaseRates,
     AgeInitialRates,
@@ -26,35 +26,29 @@ pub enum Table {
     BirthYearProportions,
 }
 
-// A stretch of a run: its offset, and how many bytes it has.
-#[derive(Drop)]
-struct Stretch(usize, usize);
-
-fn stretch_of(form: Form, table: Table) -> Stretch
+// A table's stretch of a run: its offset, and how many bytes it has.
+fn stretch_of(form: Form, table: Table) -> (usize, usize)
     ensures { result ≡ stretch_of (meant form) table }
 {
     match table {
-        Table::BaseRates => Stretch(layout::BASE_RATES_AT, layout::AGE_RATES_LENGTH),
-        Table::AgeInitialRates => Stretch(layout::AGE_INITIAL_RATES_AT, layout::AGE_RATES_LENGTH),
-        Table::AgeLongTermRates => Stretch(
-            layout::AGE_LONG_TERM_RATES_AT,
-            layout::AGE_RATES_LENGTH,
-        ),
-        Table::AgePeriods => Stretch(layout::AGE_PERIODS_AT, layout::AGES),
-        Table::AgeProportions => Stretch(
+        Table::BaseRates => (layout::BASE_RATES_AT, layout::AGE_RATES_LENGTH),
+        Table::AgeInitialRates => (layout::AGE_INITIAL_RATES_AT, layout::AGE_RATES_LENGTH),
+        Table::AgeLongTermRates => (layout::AGE_LONG_TERM_RATES_AT, layout::AGE_RATES_LENGTH),
+        Table::AgePeriods => (layout::AGE_PERIODS_AT, layout::AGES),
+        Table::AgeProportions => (
             layout::AGE_PROPORTIONS_AT,
             proportion_width(form) * layout::AGES,
         ),
-        Table::BirthYearInitialRates => Stretch(
+        Table::BirthYearInitialRates => (
             birth_year_initial_rates_at(form),
             layout::BIRTH_YEAR_RATES_LENGTH,
         ),
-        Table::BirthYearLongTermRates => Stretch(
+        Table::BirthYearLongTermRates => (
             birth_year_long_term_rates_at(form),
             layout::BIRTH_YEAR_RATES_LENGTH,
         ),
-        Table::BirthYearPeriods => Stretch(birth_year_periods_at(form), layout::BIRTH_YEARS),
-        Table::BirthYearProportions => Stretch(
+        Table::BirthYearPeriods => (birth_year_periods_at(form), layout::BIRTH_YEARS),
+        Table::BirthYearProportions => (
             birth_year_proportions_at(form),
             proportion_width(form) * layout::BIRTH_YEARS,
         ),
@@ -63,16 +57,14 @@ fn stretch_of(form: Form, table: Table) -> Stretch
 
 // A table of an accepted run; of a refused run a stretch of length 0. The first promise is the stretch's contents, the
 // second that it lies in the caller's own run, at the table's offset.
+#[tactic(auto, using(crate::proofs::Stretches::handing_back))]
 pub fn table_of(run: &[u8], table: Table) -> &[u8]
     ensures contents { result.now ≡ table_of run.now table }
     ensures place { result.ref_ptr ≡ (run.entry.ref_ptr.0, table_start run.now table + run.entry.ref_ptr.1) }
 {
-    let c = run_check::check_run(run);
-    if let Err(_) = c {
-        return &run[0..0];
-    }
-    let s = stretch_of(layout::forms::form_of_run(run.len()), table);
-    let start = s.0;
-    let end = start + s.1;
-    &run[start..end]
+    let Ok(()) = run_check::check_run(run) else {
+        return &run[..0];
+    };
+    let (start, length) = stretch_of(layout::forms::form_of_run(run.len()), table);
+    &run[start..start + length]
 }
