@@ -1,28 +1,24 @@
--- The cases of the short form's check: the run's own refusal, then that of S; and what it lets through, where there is room.
+-- The short form's check behind the run's own, and what it lets through, where there is room.
 -- Assumes nothing.
-use mathlib.Core.Path.{◌≡◌, refl, sym, ◌∙◌}
+use mathlib.Core.Path.{◌≡◌, refl}
 use mathlib.Core.Bool.{Bool}
 use mathlib.Core.List.{List}
 use Prim.Native.Nat.{ℕ, ◌-◌, ◌≤◌}
 use lib.ListN.{length}
 use lib.IntN.{ℤ, pos, neg_ℤ, nat_abs}
 use Rattle.layout.specs.Layout.{Form, form_of_run, run_length, age_long_term_rates_at}
-use Rattle.outcome.specs.declared.Refusal.{Refusal}
 use Rattle.basis.specs.Basis.{Accepted}
-use Rattle.outcome.specs.Outcome.{Finding, passed, refused_by, refusal, unless}
+use Rattle.outcome.specs.Outcome.{passed, refusal, unless}
 use Rattle.field_check.specs.Field.{between}
 use Rattle.run_check.specs.Run.{run_check}
-use Rattle.outcome.proofs.Outcome.{first-stands, unless-passed, both-passed}
+use Rattle.outcome.proofs.Outcome.{unless-passed, both-passed}
 use Rattle.field_check.proofs.Limits.{opened, size}
 use Rattle.run_check.proofs.Acceptance.{accepted}
-use Rattle.lent.proofs.Lent.{room-passed}
-use Rattle.short_form.specs.ShortForm.{long_term_limit, short_form_check, short_check}
+use Rattle.lent.proofs.Lent.{enough}
+use Rattle.lent.specs.Lent.{count_check}
+use Rattle.short_form.specs.ShortForm.{long_term_limit, short_form_check}
 
 module _ (run : List ℕ) (rate : ℤ) where
-  pub run-refused : (c : Finding) {r : Refusal} → c ≡ run_check run → c ≡ refused_by r → c ≡ short_form_check run rate
-  unfolding short_form_check
-  run-refused c e f = e ∙ sym (first-stands (run_check run) _ (sym e ∙ f))
-
   pub run-passed : (t : Bool) → run_check run ≡ passed → t ≡ between (neg_ℤ (pos long_term_limit)) (pos long_term_limit) rate
       → unless t (refusal 5 age_long_term_rates_at 0) ≡ short_form_check run rate
   unfolding short_form_check
@@ -34,9 +30,7 @@ module _ (run : List ℕ) (rate : ℤ) where
       let e = both-passed (run_check run) _ h in
       (accepted run e.0, size (long_term_limit - 1) rate (opened (neg_ℤ (pos long_term_limit)) (pos long_term_limit) rate (unless-passed _ _ e.1)))
 
-  pub through : (form : Form) (out : List ℕ) → form ≡ form_of_run (length run) → short_check run rate out ≡ passed
+  pub through : (form : Form) (out : List ℕ) → form ≡ form_of_run (length run) → count_check (run_length form) (length out) ≡ passed
+      → short_form_check run rate ≡ passed
       → (length run ≡ run_length form) × (nat_abs rate ≤ long_term_limit) × (run_length form ≤ length out)
-  through form out e h =
-      let p = room-passed (run_length (form_of_run (length run))) out (short_form_check run rate) h in
-      let a = within-limits p.1 in
-      rw e (a.0.size, a.1, p.0)
+  through form out e r h = let a = within-limits h in (rw e a.0.size, a.1, enough (run_length form) (length out) r)

@@ -14,6 +14,7 @@ ghost use Rattle.short_form.specs.ShortForm.{short_form_check, short_check, shor
 use outcome::{Reason, Refusal};
 
 // The run's own check, then S.
+#[tactic(auto, unfolding(crate::specs::ShortForm::short_form_check))]
 fn check_short_form(run: &[u8], rate: i32) -> Result<(), Refusal>
     ensures { finding result ≡ short_form_check run.now rate }
 {
@@ -31,13 +32,9 @@ pub fn short_form(run: &[u8], rate: i32, out: &mut [u8]) -> Result<(), Refusal>
     ensures out_after { out.new ≡ written (finding result) (short_form_of run.now rate) out.old }
 {
     let form = layout::forms::form_of_run(run.len());
-    let c = outcome::first_of(
-        lent::check_room(layout::forms::run_length(form), out.len()),
-        check_short_form(run, rate),
-    );
-    if let Ok(()) = c {
-        parts::put_ages(run, form, rate, out);
-        parts::put_birth_years(run, form, out);
-    }
-    c
+    lent::check_room(layout::forms::run_length(form), out.len())?;
+    check_short_form(run, rate)?;
+    parts::put_ages(run, form, rate, out);
+    parts::put_birth_years(run, form, out);
+    Ok(())
 }

@@ -17,11 +17,9 @@ fn put_rates(rate: i32, out: &mut [u8])
     requires { (nat_abs rate ≤ long_term_limit) × (age_periods_at ≤ length out.old) }
     ensures { out.new ≡ placed out.old age_long_term_rates_at (long_term_rates rate) }
 {
-    let mut i: usize = 0;
-    while i < layout::AGES {
+    for i in 0..layout::AGES {
         let word = little_endian::i32_bytes(rates::long_term_rate(rate, 20 + i));
         lent::put(&word, out, layout::AGE_LONG_TERM_RATES_AT + 4 * i);
-        i += 1;
     }
 }
 
@@ -30,10 +28,8 @@ fn put_age_periods(out: &mut [u8])
     requires { age_proportions_at ≤ length out.old }
     ensures { out.new ≡ placed out.old age_periods_at age_periods }
 {
-    let mut place: usize = 0;
-    while place < layout::AGES {
+    for place in 0..layout::AGES {
         out[layout::AGE_PERIODS_AT + place] = periods::age_period(20 + place);
-        place += 1;
     }
 }
 
@@ -43,10 +39,8 @@ fn put_proportions(form: Form, n: usize, out: &mut [u8], at: usize)
     ensures { out.new ≡ placed out.old at (proportions (meant form) n) }
 {
     let width = layout::offsets::proportion_width(form);
-    let mut i: usize = 0;
-    while i < n {
+    for i in 0..n {
         proportion::put_proportion(form, 5_000, out, at + width * i);
-        i += 1;
     }
 }
 

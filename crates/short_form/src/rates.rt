@@ -5,18 +5,11 @@ ghost use Rattle.short_form.specs.ShortForm.{long_term_limit, share_of, long_ter
 // The last age with all of S.
 const RUN_OFF_AGE: usize = 90;
 
-// What one number exceeds another by, and 0 where it does not.
-fn saturating_sub(number: usize, other: usize) -> usize
-    ensures { result ≡ number - other }
-{
-    if number < other { 0 } else { number - other }
-}
-
 // The share of S at an age, in thirtieths: 30 less what the age exceeds 90, never below 0 nor above 30.
 fn share(age: usize) -> usize
     ensures { result ≡ share_of age }
 {
-    saturating_sub(30, saturating_sub(age, RUN_OFF_AGE))
+    30usize.saturating_sub(age.saturating_sub(RUN_OFF_AGE))
 }
 
 // The long-term rate at an age.

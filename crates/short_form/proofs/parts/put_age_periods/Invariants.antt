@@ -1,7 +1,6 @@
 -- What is left of the periods gives the same output as all of them.
 use mathlib.Core.Path.{◌≡◌}
-use Prim.Native.Nat.{◌+◌, ◌*◌, ◌-◌, ◌≤◌}
-use lib.ListN.{length}
+use Prim.Native.Nat.{◌+◌, ◌*◌, ◌-◌}
 use Rattle.layout.specs.Layout.{ages, age_periods_at}
 use Rattle.lent.specs.Lent.{placed}
 use Rattle.short_form.specs.ShortForm.{entries_from, age_periods}
@@ -10,8 +9,4 @@ use Rattle.short_form.proofs.parts.put_age_periods.Given as goal
 
 abbrev pub invariant-loop-place : goal.invariant-loop-place
 invariant-loop-place l =
-    (l.place ≤ ages) × (length l.out ≡ length l.initial.out)
-    × (placed l.out (age_periods_at + 1 * l.place) (entries_from period-entry (20 + l.place) (ages - l.place)) ≡ placed l.initial.out age_periods_at age_periods)
-
-abbrev pub decreases-loop-place : goal.decreases-loop-place
-decreases-loop-place l = ages - l.place
+    placed l.out (age_periods_at + 1 * l.place) (entries_from period-entry (20 + l.place) (ages - l.place)) ≡ placed l.initial.out age_periods_at age_periods

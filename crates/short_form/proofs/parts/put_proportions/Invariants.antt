@@ -1,7 +1,6 @@
 -- What is left of the P gives the same output as all of them.
 use mathlib.Core.Path.{◌≡◌}
-use Prim.Native.Nat.{◌+◌, ◌*◌, ◌-◌, ◌≤◌}
-use lib.ListN.{length}
+use Prim.Native.Nat.{◌+◌, ◌*◌, ◌-◌}
 use Rattle.layout.specs.Layout.{width_of, proportion_of}
 use Rattle.lent.specs.Lent.{placed}
 use Rattle.short_form.specs.ShortForm.{entries_from, proportions}
@@ -12,8 +11,4 @@ use Rattle.short_form.proofs.parts.put_proportions.Given as goal
 abbrev pub invariant-loop-i : goal.invariant-loop-i
 invariant-loop-i l =
     let f = meant l.form in
-    (l.i ≤ l.n) × (length l.out ≡ length l.initial.out)
-    × (placed l.out (l.at + width_of (proportion_of f) * l.i) (entries_from (proportion-entry f) (0 + l.i) (l.n - l.i)) ≡ placed l.initial.out l.at (proportions f l.n))
-
-abbrev pub decreases-loop-i : goal.decreases-loop-i
-decreases-loop-i l = l.n - l.i
+    placed l.out (l.at + width_of (proportion_of f) * l.i) (entries_from (proportion-entry f) (0 + l.i) (l.n - l.i)) ≡ placed l.initial.out l.at (proportions f l.n)
