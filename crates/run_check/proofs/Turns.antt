@@ -1,25 +1,14 @@
 -- The table of fields in its parts. Assumes nothing.
-use mathlib.Core.Path.{◌≡◌, refl, ap, ◌∙◌}
-use mathlib.Core.List.{List, [], ◌∷◌, ◌++◌}
+use mathlib.Core.Path.{◌≡◌, ap, ◌∙◌}
+use mathlib.Core.List.{List, ◌∷◌, ◌++◌}
 use Prim.Native.Nat.{ℕ}
 use lib.ListN.{length}
-use borrow.Author.Tests.{eq-eqb, ne_eqb}
-use Rattle.outcome.specs.Outcome.{Finding, passed, refused_by, refusal, first_of}
+use borrow.Author.Tests.{eq-eqb}
+use Rattle.outcome.specs.Outcome.{Finding, first_of}
 use Rattle.layout.specs.Layout.{Form, form_of_run, run_length}
-use Rattle.field_check.specs.declared.Field.{Field}
 use Rattle.field_check.specs.Field.{field_check, fields_check}
 use Rattle.field_check.proofs.Fields.{rows_join}
 use Rattle.run_check.specs.Run.{mark_fields, zero_fields, single_fields, base_rates, age_fields, birth_year_fields, fields_of, run_check}
-
--- the check of a row, then that of those behind it, is that of them all
-module _ (run : List ℕ) where
-  pub row : {c d : Finding} (f : Field) (fs : List Field) → c ≡ field_check run f → d ≡ fields_check run fs → first_of c d ≡ fields_check run (f ∷ fs)
-  unfolding fields_check
-  row f fs h k = rw (h, k) refl
-
-  pub no_rows : passed ≡ fields_check run []
-  unfolding fields_check
-  no_rows = refl
 
 -- the parts of the table are the table
 module _ (run : List ℕ) (form : Form) where
@@ -45,8 +34,3 @@ module _ (run : List ℕ) (form : Form) where
 pub whole : (run : List ℕ) → length run ≡ run_length (form_of_run (length run)) → run_check run ≡ fields_check run (fields_of (form_of_run (length run)))
 unfolding run_check
 whole run l = simp (eq-eqb (length run) (run_length (form_of_run (length run))) l)
-
--- and one of another length is refused
-pub wrong-length : (run : List ℕ) → (length run ≡ run_length (form_of_run (length run)) → ⊥) → run_check run ≡ refused_by (refusal 1 0 0)
-unfolding run_check
-wrong-length run n = simp (ne_eqb (length run) (run_length (form_of_run (length run))) n)

@@ -12,29 +12,24 @@ ghost use Rattle.run_check.specs.Run.{fields_of, run_check};
 
 use layout::Form;
 use layout::forms::{form_of_run, run_length};
-use outcome::{Reason, Refusal, first_of};
+use outcome::{Reason, Refusal};
 
 // The fields of a run of its form's length, those that have one value only before those with limits.
+#[tactic(auto, using(crate::proofs::Turns::parts))]
 fn check_fields(run: &[u8], form: Form) -> Result<(), Refusal>
     requires { (length run.now ≡ run_length (meant form)) × (fields_end (meant form) ≤ length run.now) × (run_length mpb1 ≤ length run.now) }
     ensures { finding result ≡ fields_check run.now (fields_of (meant form)) }
 {
-    let mark = rows::check_mark(run, form);
-    let zeros = rows::check_zeros(run, form);
-    let single = rows::check_single_fields(run);
-    let base_rates = rows::check_base_rates(run);
-    let ages = rows::check_age_terms(run, form);
-    let births = rows::check_birth_year_terms(run, form);
-    first_of(
-        mark,
-        first_of(
-            zeros,
-            first_of(single, first_of(base_rates, first_of(ages, births))),
-        ),
-    )
+    rows::check_mark(run, form)?;
+    rows::check_zeros(run, form)?;
+    rows::check_single_fields(run)?;
+    rows::check_base_rates(run)?;
+    rows::check_age_terms(run, form)?;
+    rows::check_birth_year_terms(run, form)
 }
 
 // The first refusal of a data run.
+#[tactic(auto, unfolding(crate::specs::Run::run_check))]
 pub fn check_run(run: &[u8]) -> Result<(), Refusal>
     ensures { finding result ≡ run_check run.now }
 {

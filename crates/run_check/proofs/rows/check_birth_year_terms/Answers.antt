@@ -1,7 +1,0 @@
--- What is found first among the rows is what their table finds first.
-use Rattle.field_check.specs.Field.{fields_check}
-use Rattle.run_check.proofs.rows.check_birth_year_terms.Goals as goal
-
-pub returns : goal.returns
-unfolding fields_check
-returns c = cc
