@@ -5,7 +5,7 @@ use Rattle.roll.specs.Roll.{Call, joins, leaves, after_call}
 use Rattle.roll.specs.Kept.{roll_check, count_in, numbers_in, opened, opened_roll, with_member, place_of, without_member, joining, leaving, roll_by, roll_after}
 use Rattle.roll.specs.Totals.{FurtherKept}
 use Rattle.roll.proofs.OneMember.{with-further, out-further}
-use Rattle.roll.proofs.Cases.{joining-value, leaving-passed}
+use Rattle.roll.proofs.Cases.{joining_value, leaving-passed}
 
 further-opened : (year : ℕ) (lent : List ℕ) → drop 2002 (after_call lent (opened_roll year lent)) ≡ drop 2002 lent
 unfolding opened
@@ -20,7 +20,7 @@ further-by roll (joins run history number age pension) = by (joining roll run hi
   where
     by : (o : Outcome ℤ) → joining roll run history number age pension ≡ o
         → drop 2002 (after_call roll (and_then o (λ l. value (with_member number age pension (nat_abs l) roll)))) ≡ drop 2002 roll
-    by (value l) e = let p = joining-value roll run history number age pension l e in with-further roll p.0 number age pension (nat_abs l) p.1
+    by (value l) e = let p = joining_value roll run history number age pension l e in with-further roll p.0 number age pension (nat_abs l) p.1
     by (refused r) e = refl
 further-by roll (leaves number) = by (leaving roll number) refl
   where

@@ -9,6 +9,13 @@ use Rattle.enquiry.proofs.Bounded.{annuity-bounded}
 use Rattle.roll.specs.Roll.{liability_of, liability_on, liability_joining}
 use Rattle.roll.proofs.Cases.{MayJoin, own_value}
 
+-- the annuity that is answered is small enough for the product
+pub annuity_small : (run history : List ℕ) (age year a : ℕ) → annuity_enquiry run history Cohort age 0 year ≡ value (pos a) → a ≤ 524_000_000_000
+annuity_small run history age year a h =
+    let n = annuity-bounded run history Cohort age 0 year (pos a) h in
+    let e : a ≡ n.0 = cc in
+    omega (arith, e, n.2)
+
 -- the largest liability
 abbrev pub largest : ℕ
 largest = 5_240_000_000

@@ -1,11 +1,13 @@
 -- A number in a list of numbers, no two of which are the same: whether it is listed, its place, and the list without it. Assumes nothing.
 use Rattle.std.proofs.Common.{◌≡◌, ℕ, zero, suc, ◌<◌, Bool, true, false, cond, ◌||◌, eqb, ltb, List, [], ◌∷◌, ◌++◌, length, sym, refl, ap, ◌∙◌, arith, ltb-true, lt-ltb, eq-eqb, ne_eqb, eqb-true}
+use Rattle.std.specs.Prelude.{◌==◌, Some, None, position}
 use Prim.Native.Nat.compare
 use native.Mathlib.Decide.{ℕ_discrete}
 use borrow.Author.Tests.{eqb-false}
 use Rattle.outcome.specs.Refusals.{is_listed}
 use Rattle.roll.specs.Roll.{Member, numbers_of, others}
 use Rattle.roll.specs.Kept.{place_of, without}
+use Rattle.roll.proofs.Places.{place-is}
 
 -- ---- not listed: another number than the first, and not listed behind it
 not-either : (a b : Bool) → (a || b) ≡ false → (a ≡ false) × (b ≡ false)
@@ -19,10 +21,6 @@ unlisted-parts x y l h = let p = not-either (eqb x y) (is_listed l x) h in (eqb-
 unlisted-both : (x y : ℕ) (l : List ℕ) → (x ≡ y → ⊥) → is_listed l x ≡ false → is_listed (y ∷ l) x ≡ false
 unfolding is_listed
 unlisted-both x y l p q = rw (ne_eqb x y p) q
-
-unlisted-none : (x : ℕ) → is_listed [] x ≡ false
-unfolding is_listed
-unlisted-none x = refl
 
 unlisted-joined : (x y : ℕ) (l : List ℕ) → is_listed l x ≡ false → (x ≡ y → ⊥) → is_listed (l ++ y ∷ []) x ≡ false
 unlisted-joined x y [] h p = unlisted-both x y [] p h
@@ -62,6 +60,10 @@ place-listed x (y ∷ l) = by (eqb y x) refl (place-listed x l)
 
 pub listed-place : (x : ℕ) (l : List ℕ) → is_listed l x ≡ true → place_of x l < length l
 listed-place x l h = ltb-true _ _ (sym (place-listed x l) ∙ h)
+
+-- ---- as a search of std finds it
+pub found-listed : (x : ℕ) (l : List ℕ) → position (λ n. n == x) l ≡ cond (is_listed l x) (Some (place_of x l)) None
+found-listed x l = rw (← place-is x l, place-listed x l) refl
 
 -- ---- those of another number
 others-all : (number : ℕ) (members : List Member) → is_listed (numbers_of members) number ≡ false → others number members ≡ members

@@ -1,29 +1,34 @@
 // The four calls. Each decides first and writes afterwards, so that a refused one changes nothing.
-ghost use Rattle.std.specs.Prelude.{◌≡◌};
-ghost use Rattle.outcome.specs.Outcome.{finding, meaning};
+ghost use Rattle.std.specs.Prelude.{◌≡◌, pos};
+ghost use Rattle.outcome.specs.Outcome.{finding, checked, value, meaning};
 ghost use Rattle.roll.specs.Roll.{after_call};
-ghost use Rattle.roll.specs.Kept.{roll_check, opened_roll, joining, joined_roll, leaving, left_roll, total_said, total_answer};
+ghost use Rattle.roll.specs.Kept.{roll_check, numbers_in, place_of, opened_roll, joining, joined_roll, leaving, left_roll, total_said, total_answer};
 
 use crate::{changes, joins, kept};
 use outcome::Refusal;
 
 // An empty roll for one valuation year, which is not checked here.
+#[tactic(auto, using(crate::proofs::Cases::opened_rules), unfolding(crate::specs::Kept::opened))]
 pub fn open_roll(year: u32, roll: &mut [u64]) -> Result<(), Refusal>
     ensures result_value { finding result ≡ roll_check roll.old }
     ensures roll_after { roll.new ≡ after_call roll.old (opened_roll year roll.old) }
 {
-    match kept::check_roll(roll) {
-        Ok(()) => {
-            roll[0] = year as u64;
-            roll[1] = 0;
-            Ok(())
-        }
-        Err(r) => Err(r),
-    }
+    kept::check_roll(roll)?;
+    roll[0] = year as u64;
+    roll[1] = 0;
+    Ok(())
 }
 
 // The liability that a join would set, or its refusal, the list's room first.
-fn joining(roll: &[u64], run: &[u8], history: &[u8], number: u32, age: u32, pension: u32) -> Result<u64, Refusal>
+#[tactic(auto, using(crate::proofs::Cases::room_passed), unfolding(crate::specs::Kept::joining))]
+fn joining(
+    roll: &[u64],
+    run: &[u8],
+    history: &[u8],
+    number: u32,
+    age: u32,
+    pension: u32,
+) -> Result<u64, Refusal>
     ensures { meaning result ≡ joining roll.now run.now history.now number age pension }
 {
     kept::check_roll(roll)?;
@@ -31,6 +36,7 @@ fn joining(roll: &[u64], run: &[u8], history: &[u8], number: u32, age: u32, pens
 }
 
 // A member joins: the answer is the total afterwards.
+#[tactic(auto, using(crate::proofs::Cases::joining_value))]
 pub fn join(
     run: &[u8],
     history: &[u8],
@@ -43,39 +49,33 @@ pub fn join(
     ensures roll_after { roll.new ≡
         after_call roll.old (joined_roll roll.old run.now history.now number age pension) }
 {
-    match joining(roll, run, history, number, age, pension) {
-        Ok(liability) => {
-            changes::with_member(roll, number, age, pension, liability);
-            Ok(kept::total_in(roll))
-        }
-        Err(r) => Err(r),
-    }
+    let liability = joining(roll, run, history, number, age, pension)?;
+    changes::with_member(roll, number, age, pension, liability);
+    Ok(kept::total_in(roll))
 }
 
-// Whether a member may leave, the list's room first.
-fn leaving(roll: &[u64], number: u32) -> Result<(), Refusal>
-    ensures { finding result ≡ leaving roll.now number }
+// The place of the member who would leave, or the refusal, the list's room first.
+#[tactic(auto, using(crate::proofs::Cases::room_passed), unfolding(crate::specs::Kept::leaving))]
+fn leaving(roll: &[u64], number: u32) -> Result<usize, Refusal>
+    ensures { meaning result ≡ checked (leaving roll.now number) (value (pos (place_of number (numbers_in roll.now)))) }
 {
     kept::check_roll(roll)?;
-    joins::check_leave(roll, number)
+    joins::place_leaving(roll, number)
 }
 
 // A member leaves: the answer is the total afterwards.
+#[tactic(auto, using(crate::proofs::Cases::leaving_value))]
 pub fn leave(roll: &mut [u64], number: u32) -> Result<u64, Refusal>
     ensures result_value { meaning result ≡ total_said (left_roll roll.old number) }
     ensures roll_after { roll.new ≡ after_call roll.old (left_roll roll.old number) }
 {
-    match leaving(roll, number) {
-        Ok(()) => {
-            let i = kept::place_in(roll, number);
-            changes::without_member(roll, i);
-            Ok(kept::total_in(roll))
-        }
-        Err(r) => Err(r),
-    }
+    let place = leaving(roll, number)?;
+    changes::without_member(roll, place);
+    Ok(kept::total_in(roll))
 }
 
 // The total of the liabilities on the roll.
+#[tactic(auto, using(crate::proofs::Cases::room_passed))]
 pub fn total(roll: &[u64]) -> Result<u64, Refusal>
     ensures { meaning result ≡ total_answer roll.now }
 {

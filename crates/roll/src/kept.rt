@@ -1,19 +1,33 @@
 // What a lent list holds, whatever stands in it: the year, how many, where a number stands, and the total.
-ghost use Rattle.std.specs.Prelude.{◌≡◌, ◌%◌, ◌^◌, ◌≤◌, length};
+ghost use Rattle.std.specs.Prelude.{◌≡◌, ◌==◌, ◌%◌, ◌^◌, ◌≤◌, ◌+◌, length, take, drop, fold, position};
 ghost use Rattle.outcome.specs.Outcome.{finding};
-ghost use Rattle.roll.specs.Roll.{added};
-ghost use Rattle.roll.specs.Kept.{roll_check, year_in, count_in, numbers_in, place_of, total_in};
+ghost use Rattle.roll.specs.Kept.{roll_check, year_in, count_in, numbers_in, total_in};
 
 use outcome::{Reason, Refusal};
 
+// How many numbers a roll is kept in, and how many members it has room for.
+pub(crate) const LENGTH: usize = 2002;
+
+pub(crate) const PLACES: usize = 500;
+
+// Where the areas of the member numbers, the ages, the pensions and the liabilities begin.
+pub(crate) const NUMBERS: usize = 2;
+
+pub(crate) const AGES: usize = NUMBERS + PLACES;
+
+pub(crate) const PENSIONS: usize = AGES + PLACES;
+
+pub(crate) const LIABILITIES: usize = PENSIONS + PLACES;
+
 // 11: the list is too short.
+#[tactic(auto, unfolding(crate::specs::Kept::roll_check))]
 pub(crate) fn check_roll(roll: &[u64]) -> Result<(), Refusal>
     ensures { finding result ≡ roll_check roll.now }
 {
-    if 2002 <= roll.len() {
+    if LENGTH <= roll.len() {
         Ok(())
     } else {
-        Err(Reason::Room.at(16016, 0))
+        Err(Reason::Room.at(8 * LENGTH as u64, 0))
     }
 }
 
@@ -21,7 +35,7 @@ pub(crate) fn year_in(roll: &[u64]) -> u32
     requires { 2002 ≤ length roll.now }
     ensures { result ≡ year_in roll.now }
 {
-    (roll[0] % 4294967296) as u32
+    (roll[0] % (1 << 32)) as u32
 }
 
 // How many are on the roll, at most 500.
@@ -29,51 +43,38 @@ pub(crate) fn count_in(roll: &[u64]) -> usize
     requires { 2002 ≤ length roll.now }
     ensures { (result ≡ count_in roll.now) × (result ≤ 500) }
 {
-    let n = roll[1];
-    if n < 500 { n as usize } else { 500 }
+    roll[1].min(PLACES as u64) as usize
 }
 
-// The place of the first x, or the length where there is none.
-fn place_of(x: u64, list: &[u64]) -> usize
-    ensures { result ≡ place_of x list.now }
+// What stands in an area for those on the roll.
+fn area(roll: &[u64], from: usize) -> &[u64]
+    requires { (2002 ≤ length roll.now) × (from ≤ 1502) }
+    ensures { result.now ≡ take (count_in roll.now) (drop from roll.now) }
 {
-    let mut i = 0;
-    while i < list.len() {
-        if list[i] == x {
-            return i;
-        }
-        i += 1;
-    }
-    i
+    &roll[from..from + count_in(roll)]
 }
 
-// The place of a member, or the count where the number is not on the roll.
-pub(crate) fn place_in(roll: &[u64], number: u32) -> usize
+// The place of a member who is on the roll.
+pub(crate) fn place_in(roll: &[u64], number: u32) -> Option<usize>
     requires { 2002 ≤ length roll.now }
-    ensures { result ≡ place_of number (numbers_in roll.now) }
+    ensures { result ≡ position (λ n. n == number) (numbers_in roll.now) }
 {
-    let end = 2 + count_in(roll);
-    place_of(number as u64, &roll[2..end])
+    let number = number as u64;
+    area(roll, NUMBERS).iter().position(|n| *n == number)
 }
 
-// The numbers of a list added, in 64 bits.
+// The numbers of a list added up, in 64 bits.
 fn add_up(list: &[u64]) -> u64
-    ensures { result ≡ added list.now % 2 ^ 64 }
+    ensures { result ≡ fold (λ sum n. (sum + n) % 2 ^ 64) 0 list.now }
 {
-    let mut sum: u64 = 0;
-    let mut i = 0;
-    while i < list.len() {
-        sum = std::num::wrapping_add_u64(sum, list[i]);
-        i += 1;
-    }
-    sum
+    list.iter().fold(0, |sum, n| sum.wrapping_add(*n))
 }
 
 // The total of the liabilities.
+#[tactic(auto, using(crate::proofs::Places::added_by_fold), unfolding(crate::specs::Kept::total_in))]
 pub(crate) fn total_in(roll: &[u64]) -> u64
     requires { 2002 ≤ length roll.now }
     ensures { result ≡ total_in roll.now }
 {
-    let end = 1502 + count_in(roll);
-    add_up(&roll[1502..end])
+    add_up(area(roll, LIABILITIES))
 }
