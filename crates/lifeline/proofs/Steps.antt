@@ -12,11 +12,12 @@ use Rattle.arithmetic.specs.Fraction.{U}
 use Rattle.outcome.specs.declared.Refusal.{Refusal}
 use Rattle.outcome.specs.Outcome.{Finding, passed, refused_by, Outcome, value, refused, first_of}
 use Rattle.outcome.proofs.Outcome.{unless-passed, both-passed}
-use Rattle.basis.specs.Basis.{rated_from}
+use Rattle.basis.specs.Basis.{rated_from, Accepted}
 use Rattle.basis.proofs.Rated.{rated-late}
 use Rattle.history.specs.Checked.{Cell}
 use Rattle.history.specs.History.{basis_with, run_and_history_check}
 use Rattle.history.proofs.Acceptance.{accepted-workable}
+use Rattle.history.proofs.With.{rated-with}
 use Rattle.question.specs.Question.{in_range, age_check}
 use Rattle.enquiry.specs.Enquiry.{valuation_check}
 use Rattle.question.proofs.Passed.{in-range, age-passed}
@@ -49,6 +50,20 @@ step-passed run history p h =
     record { usable = accepted-workable run history c.0; age_low = a.0; age_high = a.1; year_low = omega (arith, y.0, late); birth_high = y.1 } in
     (cell, survivors-passed (length run) p.survivors s.1)
 
+-- what a step knows of its run and its numbers
+pub step_accepted : (run history : List ℕ) → run_and_history_check run history ≡ passed → Accepted run
+step_accepted run history h = (accepted-workable run history h).basis
+
+pub step_limits : (run history : List ℕ) (p : Position) → step_check run history p ≡ passed
+    → Cell run history p.age p.year × (p.survivors ≤ U) × (p.age ≤ 150) × (p.year ≤ 2260)
+step_limits run history p h =
+    let c = step-passed run history p h in
+    let l = c.0.age_high in
+    let b = c.0.birth_high in
+    (c.0, c.1, l, omega arith)
+
+pub ruleset step_rules = (step_accepted, step_limits, rated-with)
+
 -- ---- the start
 module _ (run history : List ℕ) (age year : ℕ) where
   pub start-passed : valuation_check run history age 0 year ≡ passed → start_at run history age year ≡ start_with (position_at age year U) passed
@@ -72,10 +87,6 @@ module _ (run history : List ℕ) (p : Position) where
   pub step-refused : (r : Refusal) → step_check run history p ≡ refused_by r → step_at run history p ≡ step_to p (refused r)
   unfolding step_at
   step-refused r h = rw h refl
-
-  pub step-ended : step_check run history p ≡ passed → eqb p.age 150 ≡ true → step_at run history p ≡ step_to p (value ended)
-  unfolding step_at year_unless_ended
-  step-ended h e = rw (h, e) refl
 
   pub step-year : step_check run history p ≡ passed → eqb p.age 150 ≡ false → step_at run history p ≡ year_later p after
   unfolding step_at year_unless_ended

@@ -6,7 +6,7 @@ pub mod cohort;
 use outcome::Refusal;
 
 // What a step did.
-#[derive(Drop)]
+#[derive(Clone, Copy)]
 pub enum Status {
     Advanced,
     Ended,
@@ -22,14 +22,14 @@ pub struct Position {
 }
 
 // Its position at its start, and whether that was refused.
-#[derive(Drop)]
+#[derive(Clone, Copy)]
 pub struct LifelineStart {
     pub position: Position,
     pub check: Result<(), Refusal>,
 }
 
 // Its position after a step, and what the step did.
-#[derive(Drop)]
+#[derive(Clone, Copy)]
 pub struct LifelineStep {
     pub position: Position,
     pub status: Status,
