@@ -1,15 +1,13 @@
 -- The short form's check behind the run's own, and what it lets through, where there is room.
 -- Assumes nothing.
-use mathlib.Core.Path.{◌≡◌, refl}
-use mathlib.Core.Bool.{Bool}
+use mathlib.Core.Path.{◌≡◌}
 use mathlib.Core.List.{List}
 use Prim.Native.Nat.{ℕ, ◌-◌, ◌≤◌}
 use lib.ListN.{length}
 use lib.IntN.{ℤ, pos, neg_ℤ, nat_abs}
-use Rattle.layout.specs.Layout.{Form, form_of_run, run_length, age_long_term_rates_at}
+use Rattle.layout.specs.Layout.{Form, form_of_run, run_length}
 use Rattle.basis.specs.Basis.{Accepted}
-use Rattle.outcome.specs.Outcome.{passed, refusal, unless}
-use Rattle.field_check.specs.Field.{between}
+use Rattle.outcome.specs.Outcome.{passed}
 use Rattle.run_check.specs.Run.{run_check}
 use Rattle.outcome.proofs.Outcome.{unless-passed, both-passed}
 use Rattle.field_check.proofs.Limits.{opened, size}
@@ -19,11 +17,6 @@ use Rattle.lent.specs.Lent.{count_check}
 use Rattle.short_form.specs.ShortForm.{long_term_limit, short_form_check}
 
 module _ (run : List ℕ) (rate : ℤ) where
-  pub run-passed : (t : Bool) → run_check run ≡ passed → t ≡ between (neg_ℤ (pos long_term_limit)) (pos long_term_limit) rate
-      → unless t (refusal 5 age_long_term_rates_at 0) ≡ short_form_check run rate
-  unfolding short_form_check
-  run-passed t e f = rw (e, f) refl
-
   pub within-limits : short_form_check run rate ≡ passed → Accepted run × (nat_abs rate ≤ long_term_limit)
   unfolding short_form_check
   within-limits h =

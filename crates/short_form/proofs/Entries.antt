@@ -8,7 +8,7 @@ use lib.ListN.{length, set, length-append}
 use Rattle.little_endian.specs.Bytes.{byte_at}
 use Rattle.basis.proofs.Lengths.{entry-inside}
 use Rattle.lent.specs.Lent.{placed}
-use Rattle.lent.proofs.Lent.{placed-none, placed_one, then, then-length}
+use Rattle.lent.proofs.Lent.{placed-none, placed_one, then}
 use Rattle.short_form.specs.ShortForm.{entries_from}
 use Rattle.short_form.proofs.Lists.{ahead, behind}
 
@@ -23,26 +23,19 @@ module _ (entry : ℕ → List ℕ) (width : ℕ) (each : (place : ℕ) → leng
   length-entries first (suc n) = rw (length-append, each first, length-entries (first + 1) n) (omega arith)
 
   -- ---- put one by one: what is left of n entries, after i of them
-  module _ (out new : List ℕ) (at first n i : ℕ) (h : i < n) (k : at + width * n ≤ length out)
-      (e : new ≡ placed out (at + width * i) (entry (first + i))) where
-    entry-fits : at + width * i + length (entry (first + i)) ≤ length out
-    entry-fits = omega (arith, each (first + i), entry-inside width i n h)
-
-    pub entry_length : length new ≡ length out
-    entry_length = then-length out (at + width * i) (entry (first + i)) entry-fits new e
-
-    pub entries-turn : placed new (at + width * (i + 1)) (entries_from entry (first + (i + 1)) (n - (i + 1)))
-        ≡ placed out (at + width * i) (entries_from entry (first + i) (n - i))
-    unfolding entries_from
-    entries-turn =
-        let d : n - i ≡ suc (n - (i + 1)) = omega arith in
-        let f : first + (i + 1) ≡ first + i + 1 = omega arith in
-        rw (d, f)
-        (then out (at + width * i) (entry (first + i)) entry-fits new e (at + width * (i + 1)) _ (omega (arith, each (first + i))))
-
-  pub entries-end : (out : List ℕ) (at first n i : ℕ) → n ≤ i → placed out (at + width * i) (entries_from entry (first + i) (n - i)) ≡ out
+  pub entries_turn : (out new : List ℕ) (at first n i : ℕ) → i < n → at + width * n ≤ length out → new ≡ placed out (at + width * i) (entry (first + i))
+      → placed new (at + width * (i + 1)) (entries_from entry (first + (i + 1)) (n - (i + 1)))
+      ≡ placed out (at + width * i) (entries_from entry (first + i) (n - i))
   unfolding entries_from
-  entries-end out at first n i h = let e : n - i ≡ 0 = omega arith in rw e (placed-none out (at + width * i))
+  entries_turn out new at first n i h k e =
+      let fits : at + width * i + length (entry (first + i)) ≤ length out = omega (arith, each (first + i), entry-inside width i n h) in
+      let d : n - i ≡ suc (n - (i + 1)) = omega arith in
+      let f : first + (i + 1) ≡ first + i + 1 = omega arith in
+      rw (d, f) (then out (at + width * i) (entry (first + i)) fits new e (at + width * (i + 1)) _ (omega (arith, each (first + i))))
+
+  pub entries_end : (out : List ℕ) (at first n i : ℕ) → n ≤ i → placed out (at + width * i) (entries_from entry (first + i) (n - i)) ≡ out
+  unfolding entries_from
+  entries_end out at first n i h = let e : n - i ≡ 0 = omega arith in rw e (placed-none out (at + width * i))
 
   -- ---- read again: the bytes of the entry at place i
   pub entry-bytes : (first n i j at : ℕ) → at ≡ width * i + j → i < n → j < width

@@ -19,7 +19,7 @@ fn check_short_form(run: &[u8], rate: i32) -> Result<(), Refusal>
     ensures { finding result ≡ short_form_check run.now rate }
 {
     run_check::check_run(run)?;
-    if field_check::in_limits(layout::LEAST_RATE, layout::RATE_LIMIT, rate as i64) {
+    if field_check::in_limits(layout::LEAST_RATE, layout::RATE_LIMIT, i64::from(rate)) {
         Ok(())
     } else {
         Err(Reason::Limits.at(layout::AGE_LONG_TERM_RATES_AT as u64, 0))
