@@ -3,7 +3,7 @@
 
 ghost use Rattle.std.specs.Prelude.{◌≡◌};
 ghost use Rattle.history.specs.History.{basis_with, Workable};
-ghost use Rattle.grid_record.specs.Record.{record_of, answered_of};
+ghost use Rattle.grid_record.specs.Record.{question_of, record_of, answered_of};
 
 use model_points::PointAnswer;
 use question::Question;
@@ -21,34 +21,36 @@ pub struct Point {
     pub second: u64,
 }
 
+impl From<Point> for Question {
+    ghost from_gives = { λ p q. q ≡ question_of p };
+
+    fn from(p: Point) -> Question {
+        Question {
+            age: p.age,
+            deferment: p.deferment,
+            year: p.year,
+        }
+    }
+}
+
 // The record with its question unchanged, and an answer in place of what it held.
 pub fn recorded(p: Point, a: PointAnswer) -> Point
     ensures { result ≡ record_of p a }
 {
     let results = a.results;
     Point {
-        age: p.age,
-        deferment: p.deferment,
-        year: p.year,
         refusal: a.refusal.number,
         results,
         first: a.refusal.first,
         second: a.refusal.second,
+        ..p
     }
 }
 
+#[tactic(auto, unfolding(crate::specs::Record::answered_of))]
 pub fn direct_record(run: &[u8], history: &[u8], p: Point) -> Point
     requires { Workable run.now history.now }
     ensures { result ≡ answered_of (basis_with run.now history.now) p }
 {
-    let a = model_points::direct_point(
-        run,
-        history,
-        Question {
-            age: p.age,
-            deferment: p.deferment,
-            year: p.year,
-        },
-    );
-    recorded(p, a)
+    recorded(p, model_points::direct_point(run, history, p.into()))
 }
