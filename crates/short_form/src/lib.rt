@@ -27,6 +27,7 @@ fn check_short_form(run: &[u8], rate: i32) -> Result<(), Refusal>
 }
 
 // Writes the short form into the front of `out`.
+#[tactic(auto, using(crate::proofs::Checking::let_through))]
 pub fn short_form(run: &[u8], rate: i32, out: &mut [u8]) -> Result<(), Refusal>
     ensures result_value { finding result ≡ short_check run.now rate out.old }
     ensures out_after { out.new ≡ written (finding result) (short_form_of run.now rate) out.old }
