@@ -7,35 +7,28 @@ ghost use Rattle.model_points.specs.Point.{point_of};
 ghost use Rattle.small_set.specs.SmallSet.{small_set_of};
 
 use model_points::PointAnswer;
-use outcome::Refusal;
+use outcome::{NO_REFUSAL, Refusal};
 use question::Question;
 
 // The six questions of the small set.
 #[repr(C)]
-#[derive(Drop)]
+#[derive(Clone, Copy)]
 pub struct Questions {
     pub points: [Question; 6],
 }
 
 // The small set: six answers, and the refusal of the whole.
 #[repr(C)]
-#[derive(Drop)]
+#[derive(Clone, Copy)]
 pub struct SmallSet {
     pub refusal: Refusal,
     pub points: [PointAnswer; 6],
 }
 
-// No refusal.
-const NONE: Refusal = Refusal {
-    number: 0,
-    first: 0,
-    second: 0,
-};
-
 // A point that carries 0 in every result, refusal and place.
 const BLANK: PointAnswer = PointAnswer {
     results: [0; 4],
-    refusal: NONE,
+    refusal: NO_REFUSAL,
 };
 
 // The six answers on an accepted data run and its history.
@@ -62,7 +55,7 @@ pub fn small_set(run: &[u8], history: &[u8], questions: Questions) -> SmallSet
             let asked = questions.points;
             let points = six(run, history, asked);
             SmallSet {
-                refusal: NONE,
+                refusal: NO_REFUSAL,
                 points,
             }
         }

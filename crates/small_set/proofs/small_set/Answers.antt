@@ -7,13 +7,13 @@ use Rattle.small_set.proofs.small_set.Goals as goal
 pub six-points-requires : goal.six-points-requires
 six-points-requires c =
     let a = c.args in
-    accepted-workable a.run.now a.history.now (found c.check_run_and_history.ensures c.in-Passed.is)
+    accepted-workable a.run.now a.history.now (found c.check_run_and_history.ensures c.in-Ok.is)
 
-pub returns-in-Passed : goal.returns-in-Passed
+pub returns-in-Ok : goal.returns-in-Ok
 unfolding small_set_of
-returns-in-Passed c =
-    simp (found c.check_run_and_history.ensures c.in-Passed.is, c.six-points.ensures)
+returns-in-Ok c =
+    simp (found c.check_run_and_history.ensures c.in-Ok.is, c.six-points.ensures)
 
-pub returns-in-Refused : goal.returns-in-Refused
+pub returns-in-Err : goal.returns-in-Err
 unfolding small_set_of
-returns-in-Refused c = simp (found c.check_run_and_history.ensures c.in-Refused.is)
+returns-in-Err c = simp (found c.check_run_and_history.ensures c.in-Err.is)
