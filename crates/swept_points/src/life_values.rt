@@ -10,14 +10,15 @@ ghost use Rattle.swept_points.specs.LifeValues.{LifeFrom, life_expectation, life
 ghost use Rattle.swept_points.specs.Inner.DeferredPayment.{deferred_payment};
 
 use arithmetic::{HALF_UNIT, UNIT};
+use factor_table::discounts;
 use outcome::Refusal;
 use survivorship::Kind;
 
-// The expectation from the age itself, and the annuity; or the first refusal, which is that of both.
-#[derive(Drop)]
-pub enum LifeValues {
-    Values(u64, u64),
-    Refused(Refusal),
+// The expectation from the age itself, and the annuity.
+#[derive(Clone, Copy)]
+pub struct LifeValues {
+    pub expectation: u64,
+    pub annuity: u64,
 }
 
 // The survivors after a year at an age, by the factor of the table.
@@ -47,7 +48,8 @@ fn deferred_payment(discount: u64, deferment: u32, j: u32, s: u64) -> u64
     valuation::annuity::payment(discount, s)
 }
 
-// From an age in a year to age 150, with an annuity whose payments begin after a deferment.
+// From an age in a year to age 150, with an annuity whose payments begin after a deferment; or the first refusal, which is that
+// of both.
 pub fn life_values_from(
     run: &[u8],
     history: &[u8],
@@ -56,38 +58,29 @@ pub fn life_values_from(
     age: u32,
     deferment: u32,
     year: u32,
-) -> LifeValues
+) -> Result<LifeValues, Refusal>
     requires { LifeFrom run.now history.now table.now age deferment year }
     ensures expectation { life_expectation result ≡ expectation_of (basis_with run.now history.now) kind age 0 year }
     ensures annuity { life_annuity result ≡ annuity_of (basis_with run.now history.now) kind age deferment year }
 {
     let last = 150 - age;
-    let mut s: u64 = UNIT;
-    let mut j: u32 = 0;
+    let mut s = UNIT;
     let mut lives: u64 = 0;
-    let mut payments = deferred_payment(
-        factor_table::discounts::discount(table, 0),
-        deferment,
-        0,
-        UNIT,
-    );
-    while j < last {
-        match survivors_after_year(
+    let mut annuity = deferred_payment(discounts::discount(table, 0), deferment, 0, UNIT);
+    for j in 0..last {
+        s = survivors_after_year(
             run,
             history,
             table,
             age + j,
             survivorship::year_on(kind, j, year),
             s,
-        ) {
-            Ok(x) => {
-                s = x;
-            }
-            Err(r) => return LifeValues::Refused(r),
-        }
-        j += 1;
+        )?;
         lives += s;
-        payments += deferred_payment(factor_table::discounts::discount(table, j), deferment, j, s);
+        annuity += deferred_payment(discounts::discount(table, j + 1), deferment, j + 1, s);
     }
-    LifeValues::Values(HALF_UNIT + lives, payments)
+    Ok(LifeValues {
+        expectation: HALF_UNIT + lives,
+        annuity,
+    })
 }
