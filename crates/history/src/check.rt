@@ -95,9 +95,7 @@ fn check_fields(history: &[u8], years: usize) -> Result<(), Refusal>
 {
     let mut fours = Ok(());
     let mut fives = Ok(());
-    let mut k = years;
-    while 0 < k {
-        k -= 1;
+    for k in (0..years).rev() {
         let b = 2 * k;
         let zero = part_within(history, b, FIRST_REMAINING)
             & part_within(history, b + 1, SECOND_REMAINING);

@@ -14,14 +14,14 @@ pub loop-k-init : goal.loop-k-init
 loop-k-init c =
     let a = c.args in
     let none : a.years - a.years ≡ 0 = omega arith in
-    (omega arith, rw none (no-years _ _ _ _), rw none (no-years _ _ _ _))
+    (rw none (no-years _ _ _ _), rw none (no-years _ _ _ _))
 
 pub loop-k-preserved-then-zero-within : goal.loop-k-preserved-then-zero-within
 loop-k-preserved-then-zero-within c =
     let a = c.args in
     let k = c.loop-k.k - 1 in
-    let before : k < a.years = omega (arith, c.loop-k-test.true, c.loop-k.invariant.0) in
-    let next : c.loop-k.k ≡ k + 1 = omega (arith, c.loop-k-test.true) in
+    let before : k < a.years = omega arith in
+    let next : c.loop-k.k ≡ k + 1 = omega arith in
     let Z = part_check a.history.now (2 * k) first_remaining in
     let M = part_check a.history.now (2 * k + 1) second_remaining in
     let Y = part_check a.history.now (2 * k) younger_ages in
@@ -31,24 +31,22 @@ loop-k-preserved-then-zero-within c =
     let p = both-passed (first_of Z M) (first_of Y O) (says-passed _ (both-pass (first_of Z M) (first_of Y O) zero within) c.if-zero-within.true) in
     let turn-4 = year-turn a.history.now first_remaining second_remaining a.years k c.loop-k.k in
     let turn-5 = year-turn a.history.now younger_ages older_ages a.years k c.loop-k.k in (
-      omega (arith, before),
-      turn-4 (omega arith) before next (omega arith) (omega arith) refl refl (sym p.0) c.loop-k.invariant.1 refl,
-      turn-5 (omega arith) before next (omega arith) (omega arith) refl refl (sym p.1) c.loop-k.invariant.2 refl,
+      turn-4 (omega arith) before next (omega arith) (omega arith) refl refl (sym p.0) c.loop-k.invariant.0 refl,
+      turn-5 (omega arith) before next (omega arith) (omega arith) refl refl (sym p.1) c.loop-k.invariant.1 refl,
     )
 
 pub loop-k-preserved : goal.loop-k-preserved
 loop-k-preserved c =
     let a = c.args in
     let k = c.loop-k.k - 1 in
-    let before : k < a.years = omega (arith, c.loop-k-test.true, c.loop-k.invariant.0) in
-    let next : c.loop-k.k ≡ k + 1 = omega (arith, c.loop-k-test.true) in
+    let before : k < a.years = omega arith in
+    let next : c.loop-k.k ≡ k + 1 = omega arith in
     let turn-4 = year-turn a.history.now first_remaining second_remaining a.years k c.loop-k.k in
     let turn-5 = year-turn a.history.now younger_ages older_ages a.years k c.loop-k.k in (
-      omega (arith, before),
       turn-4 (omega arith) before next (omega arith) (omega arith) c.check_part.ensures c.check_part-in-loop-k.ensures
-          c.first_of-four.ensures c.loop-k.invariant.1 c.first_of-fours.ensures,
+          c.first_of-four.ensures c.loop-k.invariant.0 c.first_of-fours.ensures,
       turn-5 (omega arith) before next (omega arith) (omega arith) c.check_part-in-loop-k-2.ensures c.check_part-in-loop-k-3.ensures
-          c.first_of-five.ensures c.loop-k.invariant.2 c.first_of-fives.ensures,
+          c.first_of-five.ensures c.loop-k.invariant.1 c.first_of-fives.ensures,
     )
 
 pub returns : goal.returns
@@ -56,4 +54,4 @@ returns c =
     let a = c.args in
     let done : c.loop-k.k ≡ 0 = omega arith in
     let all : a.years - 0 ≡ a.years = omega arith in
-    c.first_of.ensures ∙ first-same (rw (done, all) at c.loop-k.invariant.1) (rw (done, all) at c.loop-k.invariant.2) ∙ sym (fields-parts _ _)
+    c.first_of.ensures ∙ first-same (rw (done, all) at c.loop-k.invariant.0) (rw (done, all) at c.loop-k.invariant.1) ∙ sym (fields-parts _ _)

@@ -1,7 +1,7 @@
 -- The years from k on give the fours and the fives so far; the whole is the first of both.
 use mathlib.Core.Path.{◌≡◌}
 use mathlib.Core.List.{List}
-use Prim.Native.Nat.{ℕ, ◌*◌, ◌-◌, ◌≤◌}
+use Prim.Native.Nat.{ℕ, ◌*◌, ◌-◌}
 use Rattle.outcome.specs.Outcome.{Finding, finding}
 use Rattle.field_check.specs.declared.Field.{Field}
 use Rattle.field_check.specs.Field.{fields_check}
@@ -15,7 +15,4 @@ From history years k first second = fields_check (parts_of (2 * years) history) 
 
 abbrev pub invariant-loop-k : goal.invariant-loop-k
 invariant-loop-k l =
-    (l.k ≤ l.years) × (finding l.fours ≡ From l.history l.years l.k first_remaining second_remaining) × (finding l.fives ≡ From l.history l.years l.k younger_ages older_ages)
-
-abbrev pub decreases-loop-k : goal.decreases-loop-k
-decreases-loop-k l = l.k
+    (finding l.fours ≡ From l.history l.years l.k first_remaining second_remaining) × (finding l.fives ≡ From l.history l.years l.k younger_ages older_ages)
