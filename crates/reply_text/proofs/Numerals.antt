@@ -1,9 +1,10 @@
 -- The laws of digits: how many there are, and what the foremost is not. Assumes nothing.
-use Prim.Native.Nat.{ℕ, zero, suc, ◌+◌, ◌*◌, ◌/◌, ◌%◌, ◌≤◌, ◌<◌}
+use Prim.Native.Nat.{ℕ, zero, suc, ◌+◌, ◌*◌, ◌/◌, ◌%◌, ◌^◌, max, ◌≤◌, ◌<◌}
 use mathlib.Core.Path.{◌≡◌, refl, ap, sym, ◌∙◌}
 use mathlib.Core.Bool.{Bool, true, false, cond}
 use mathlib.Core.List.{[], ◌∷◌}
 use native.Mathlib.Omega.{arith}
+use native.Mathlib.Numerals.{add-one, unary_clauses}
 use lib.Dec.{ltb}
 use lib.ListN.{length, get_or, length-append, get_or-append}
 use borrow.Author.Tests.{lt-ltb, le-ltb, ltb-true}
@@ -40,6 +41,21 @@ places-exact (suc g) (suc j) n l lo hi =
     let p = ten-positive j in
     let m : ten (suc j) ≤ n = lo (omega arith) in
     places-more g n (omega arith) ∙ ap suc (places-exact g j (n / 10) (omega arith) (λ z. omega arith) (omega arith))
+
+ten-is : (k : ℕ) → ten k ≡ 10 ^ k
+ten-is zero = refl
+ten-is (suc k) = let e = ten-is k in simp unary_clauses (omega arith)
+
+ten-suc-le : (n m k : ℕ) → m ≡ max n 1 → 10 ^ k ≤ m → 0 < k → ten k ≤ n
+ten-suc-le n m zero e l h = absurd (omega arith)
+ten-suc-le n m (suc k) e l h = let t = ten-is (suc k) in let p = ten-positive k in omega arith
+
+-- by the logarithm to base 10; 0 has one place too
+pub places-log : (n m k : ℕ) → m ≡ max n 1 → 10 ^ k ≤ m → m < 10 * 10 ^ k → k < 20 → k + 1 ≡ places_from 19 n
+places-log n m k e l h b =
+    let t = ten-is k in
+    let p = ten-positive k in
+    add-one k ∙ sym (places-exact 19 k n (omega arith) (λ z. ten-suc-le n m k e l z) (omega arith))
 
 pub places-hold : (f n : ℕ) → n < ten (suc f) → n < ten (places_from f n)
 unfolding places_from

@@ -6,8 +6,9 @@ use native.Mathlib.Omega.{arith}
 use lib.ListN.{length, drop, set, replicate, length-append, length-set}
 use Rattle.lent.specs.Lent.{placed}
 use Rattle.lent.proofs.Lent.{placed-none, placed_one, placed-length, placed-next}
+use Rattle.reply_text.specs.declared.Output.{Output}
 use Rattle.reply_text.specs.declared.ReplyText.{ReplyText}
-use Rattle.reply_text.specs.Put.{Put}
+use Rattle.reply_text.specs.Put.{Put, Puts}
 
 -- ---- putting
 -- what stands at a place has been put there
@@ -39,6 +40,19 @@ then {out} {after} {last} {at} {r} {s} {t} {u} p q = record {
 -- the same text and place, written otherwise
 pub being : {out after : List ℕ} {at r s : ℕ} {t u : List ℕ} → t ≡ u → r ≡ s → Put out at t after r → Put out at u after s
 being {out} {after} {at} {r} {s} {t} {u} e f p = rw (← e, ← f) p
+
+-- ---- into an output
+-- one text, then another
+pub more : {a b c : Output} {t u : List ℕ} → Puts a t b → Puts b u c → Puts a (t ++ u) c
+more p q = record { put = then p.put q.put; same = q.same ∙ p.same }
+
+-- the same text, written otherwise
+pub written : {a b : Output} {t u : List ℕ} → t ≡ u → Puts a t b → Puts a u b
+written e p = record { put = being e refl p.put; same = p.same }
+
+-- what the lent buffer holds once the output is let go
+pub lent-back : {a b : Output} {t after : List ℕ} → Puts a t b → (a.out.ghost_name ≡ b.out.ghost_name → after ≡ b.out.now) → Put a.out.now a.at t after b.at
+lent-back p back = rw (back (sym p.same)) p.put
 
 -- ---- a text at the start of zero bytes
 drop-zeros : (n m : ℕ) → drop {A = ℕ} n (replicate m 0) ≡ replicate (m - n) 0

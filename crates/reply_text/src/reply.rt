@@ -1,73 +1,71 @@
-// The lines that the points program prints, put into a lent buffer at a place with 192 bytes of room.
+// The lines that the points program prints, put into an output with 192 bytes of room.
 ghost use Rattle.std.specs.Prelude.{◌≡◌, ◌++◌, ◌+◌, ◌≤◌, length};
 ghost use Rattle.reply_text.specs.Ascii.{ascii};
-ghost use Rattle.reply_text.specs.Put.{Put};
+ghost use Rattle.reply_text.specs.Put.{Puts};
 ghost use Rattle.reply_text.specs.Reply.{header_line, question_text, results_text, refusal_line, reply_of, by_value};
 
-use crate::{ReplyText, digits};
+use crate::{Output, ReplyText};
 use model_points::PointAnswer;
 use outcome::Refusal;
 use question::Question;
 
-pub fn put_header(out: &mut [u8], at: usize) -> usize
-    requires { at + 192 ≤ length out.old }
-    ensures { Put out.old at header_line out.new result }
-{
-    digits::put_text(
-        out,
-        at,
-        b"age deferment year period_ex cohort_ex period_annuity cohort_annuity\n",
-    )
-}
-
-// `refused`, the number and the two places.
-pub fn put_refusal(out: &mut [u8], at: usize, x: Refusal) -> usize
-    requires { at + 192 ≤ length out.old }
-    ensures put { Put out.old at (refusal_line x) out.new result }
-    ensures upper_bound { result ≤ at + 192 }
-{
-    let a = digits::put_text(out, at, b"refused ");
-    let b = digits::put_number(out, a, x.number as u64, b' ');
-    let c = digits::put_number(out, b, x.first, b' ');
-    digits::put_number(out, c, x.second, b'\n')
-}
-
-// The three numbers that were asked, each with a space after it.
-fn put_question(out: &mut [u8], at: usize, q: Question) -> usize
-    requires { at + 63 ≤ length out.old }
-    ensures put { Put out.old at (question_text q ++ ascii " ") out.new result }
-    ensures upper_bound { result ≤ at + 63 }
-{
-    let a = digits::put_number(out, at, q.age as u64, b' ');
-    let b = digits::put_number(out, a, q.deferment as u64, b' ');
-    digits::put_number(out, b, q.year as u64, b' ')
-}
-
-// The four results, a space between two and byte 10 after the last.
-fn put_results(out: &mut [u8], at: usize, v: [u64; 4]) -> usize
-    requires { at + 124 ≤ length out.old }
-    ensures put { Put out.old at (results_text v ++ ascii "\n") out.new result }
-    ensures upper_bound { result ≤ at + 124 }
-{
-    let a = digits::put_units(out, at, v[0], b' ');
-    let b = digits::put_units(out, a, v[1], b' ');
-    let c = digits::put_units(out, b, v[2], b' ');
-    digits::put_units(out, c, v[3], b'\n')
-}
-
-// The reply to a question.
-pub fn put_reply(out: &mut [u8], at: usize, q: Question, a: PointAnswer) -> usize
-    requires { at + 192 ≤ length out.old }
-    ensures put { Put out.old at (reply_of q a) out.new result }
-    ensures upper_bound { result ≤ at + 192 }
-{
-    let refusal = a.refusal;
-    let results = a.results;
-    if refusal.number == 0 {
-        let p = put_question(out, at, q);
-        return put_results(out, p, results);
+impl Output<'_> {
+    pub fn header(&mut self)
+        requires { self.old.at + 192 ≤ length self.old.out.now }
+        ensures { Puts self.old header_line self.new }
+    {
+        self.text(b"age deferment year period_ex cohort_ex period_annuity cohort_annuity\n");
     }
-    put_refusal(out, at, refusal)
+
+    // `refused`, the number and the two places.
+    pub fn refusal(&mut self, x: Refusal)
+        requires { self.old.at + 192 ≤ length self.old.out.now }
+        ensures put { Puts self.old (refusal_line x) self.new }
+        ensures upper_bound { self.new.at ≤ self.old.at + 192 }
+    {
+        self.text(b"refused ");
+        self.number(x.number as u64, b' ');
+        self.number(x.first, b' ');
+        self.number(x.second, b'\n');
+    }
+
+    // The three numbers that were asked, each with a space after it.
+    fn question(&mut self, q: Question)
+        requires { self.old.at + 63 ≤ length self.old.out.now }
+        ensures put { Puts self.old (question_text q ++ ascii " ") self.new }
+        ensures upper_bound { self.new.at ≤ self.old.at + 63 }
+    {
+        self.number(q.age as u64, b' ');
+        self.number(q.deferment as u64, b' ');
+        self.number(q.year as u64, b' ');
+    }
+
+    // The four results, a space between two and byte 10 after the last.
+    fn results(&mut self, v: [u64; 4])
+        requires { self.old.at + 124 ≤ length self.old.out.now }
+        ensures put { Puts self.old (results_text v ++ ascii "\n") self.new }
+        ensures upper_bound { self.new.at ≤ self.old.at + 124 }
+    {
+        self.units(v[0], b' ');
+        self.units(v[1], b' ');
+        self.units(v[2], b' ');
+        self.units(v[3], b'\n');
+    }
+
+    // The reply to a question.
+    pub fn reply(&mut self, q: Question, a: PointAnswer)
+        requires { self.old.at + 192 ≤ length self.old.out.now }
+        ensures put { Puts self.old (reply_of q a) self.new }
+        ensures upper_bound { self.new.at ≤ self.old.at + 192 }
+    {
+        let PointAnswer { results, refusal } = a;
+        if refusal.number == 0 {
+            self.question(q);
+            self.results(results);
+        } else {
+            self.refusal(refusal);
+        }
+    }
 }
 
 // The same by value, with no precondition; the bytes behind the reply are 0.
@@ -75,9 +73,11 @@ pub fn reply_of(q: Question, a: PointAnswer) -> ReplyText
     ensures { result ≡ by_value (reply_of q a) }
 {
     let mut bytes = [0u8; 192];
-    let len = put_reply(&mut bytes, 0, q, a);
-    ReplyText {
-        bytes: bytes,
-        len: len,
-    }
+    let mut output = Output {
+        out: &mut bytes,
+        at: 0,
+    };
+    output.reply(q, a);
+    let len = output.at;
+    ReplyText { bytes, len }
 }
