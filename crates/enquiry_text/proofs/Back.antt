@@ -17,7 +17,7 @@ use Rattle.reply_text.specs.Reply.{question_text}
 use Rattle.reply_text.proofs.Numerals.{ten, digits-length, places-exact, places-hold, no-leading-zero}
 use Rattle.enquiry_text.specs.Line.{numeral, words_from, digits_from, is_padded, number_of, line_of}
 use Rattle.enquiry_text.specs.Said.{FourDigits}
-use Rattle.enquiry_text.proofs.Words.{three, line-is}
+use Rattle.enquiry_text.proofs.Words.{three, line-is, Spaceless, last_word, first_word}
 
 -- ---- what digits read as, after those of a
 last-digit : (b n : ℕ) (s : List ℕ) → digits_from (b + n / 10) ((48 + n % 10) ∷ s) ≡ digits_from (10 * b + n) s
@@ -62,17 +62,10 @@ unfolding digits
 digits-all zero n = tt
 digits-all (suc k) n = one_more (digits k (n / 10)) (48 + n % 10) (digits-all k (n / 10)) (omega arith) (omega arith)
 
-last_word : (v w : List ℕ) → AllDigits w → words_from v w ≡ (v ++ w) ∷ []
-unfolding words_from
-last_word v [] h = ap (λ x. x ∷ []) (sym (append-nil v))
-last_word v (d ∷ w) h =
-    rw (ne_eqb d 32 (λ e. omega (arith, h.0))) (last_word (v ++ d ∷ []) w h.2 ∙ ap (λ x. x ∷ []) (append_assoc v (d ∷ []) w))
-
-first_word : (v w s : List ℕ) → AllDigits w → words_from v (w ++ 32 ∷ s) ≡ (v ++ w) ∷ words_from [] s
-unfolding words_from
-first_word v [] s h = ap (λ x. x ∷ words_from [] s) (sym (append-nil v))
-first_word v (d ∷ w) s h =
-    rw (ne_eqb d 32 (λ e. omega (arith, h.0))) (first_word (v ++ d ∷ []) w s h.2 ∙ ap (λ x. x ∷ words_from [] s) (append_assoc v (d ∷ []) w))
+spaceless : (w : List ℕ) → AllDigits w → Spaceless w
+spaceless [] h k l e = elim l [ ]
+spaceless (d ∷ w) h zero l e = omega (arith, h.0)
+spaceless (d ∷ w) h (suc k) l e = spaceless w h.2 k (omega arith) e
 
 -- ---- a number of four digits
 unpadded : (k n : ℕ) → (0 < k → ten k ≤ n) → n < ten (suc k) → is_padded (digits (suc k) n) ≡ false
@@ -102,7 +95,8 @@ number-back n h = by (ltb n 10) (ltb n 100) (ltb n 1000) refl refl refl
 
 -- ---- a question
 three-words : (a d y : List ℕ) → AllDigits a → AllDigits d → AllDigits y → words_from [] (a ++ 32 ∷ (d ++ 32 ∷ y)) ≡ a ∷ d ∷ y ∷ []
-three-words a d y h i j = first_word [] a (d ++ 32 ∷ y) h ∙ ap (λ ws. a ∷ ws) (first_word [] d y i ∙ ap (λ ws. d ∷ ws) (last_word [] y j))
+three-words a d y h i j =
+    first_word [] a (d ++ 32 ∷ y) (spaceless a h) ∙ ap (λ ws. a ∷ ws) (first_word [] d y (spaceless d i) ∙ ap (λ ws. d ∷ ws) (last_word [] y (spaceless y j)))
 
 -- A question that is printed reads back.
 pub question-back : (number : ℕ) (q : Question) → FourDigits q → line_of number (question_text q) ≡ value q

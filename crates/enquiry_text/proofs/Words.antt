@@ -1,41 +1,91 @@
 -- The laws of a line's words and numbers, by the places at which the code looks. Assumes nothing.
-use Prim.Native.Nat.{ℕ, zero, suc, ◌+◌, ◌*◌, ◌-◌, ◌≤◌, ◌<◌}
+use Prim.Native.Nat.{ℕ, zero, suc, ◌+◌, ◌*◌, ◌-◌, ◌≤◌, ◌<◌, zero-le}
 use mathlib.Core.Path.{◌≡◌, refl, ap, sym, ◌∙◌}
 use mathlib.Core.Bool.{Bool, true, false, cond}
-use mathlib.Core.List.{List, [], ◌∷◌, ◌++◌}
+use mathlib.Core.Logic.{◌⊎◌, inl, inr}
+use mathlib.Core.List.{List, [], ◌∷◌, ◌++◌, append_assoc, append-nil}
 use native.Mathlib.Omega.{arith}
-use native.Mathlib.Numerals.{add-one}
-use lib.Dec.{ltb, eqb}
-use lib.ListN.{length, get_or, take, drop, length-drop, drop_of_length-le}
-use lib.Seq.{drop-cons, take-suc, take_all}
-use borrow.Author.Tests.{eq-eqb, ne_eqb, lt-ltb, le-ltb}
-use Rattle.outcome.specs.Outcome.{Outcome}
+use lib.Dec.{eqb}
+use lib.ListN.{length, get_or, drop, length-append, get_or-append, drop_of_length-le}
+use lib.Seq.{drop-cons}
+use borrow.Author.Tests.{ne_eqb, lt-ltb, le-ltb, eqb-true, eqb-false}
+use denote.Param.Members.{Mut}
+use denote.Ref.{Bor}
+use Rattle.std.specs.Bool.{MatchBool}
+use Rattle.std.specs.Fn.{ComputesKey, Called}
+use Rattle.std.specs.List.{IsFirstMatchOrLen}
+use Rattle.std.specs.Slice.Iter.{split_rest, split_done, split_callee}
+use Rattle.std.specs.declared.slice.Split.{Split}
+use Rattle.std.proofs.lemmas.Fn.{always_returns_same}
+use Rattle.outcome.specs.Outcome.{Outcome, value}
 use Rattle.question.specs.declared.Question.{Question}
-use Rattle.enquiry_text.specs.Line.{numeral, other, words_from, digits_from, number_of, malformed, enquiry_of, line_of}
+use Rattle.enquiry_text.specs.Line.{Reading, numeral, other, words_from, digits_from, number_of, malformed, enquiry_of, line_of}
 
--- ---- the first word, of which i bytes are passed: a space, another byte, or the end
-module _ (s : List ℕ) (i : ℕ) where
-  pub ends-here : i < length s → get_or s i 0 ≡ 32 → words_from (take i s) (drop i s) ≡ take i s ∷ words_from [] (drop (i + 1) s)
-  unfolding words_from
-  ends-here h e = rw (drop-cons s i 0 h, add-one i) (simp (eq-eqb _ _ e))
+-- ---- words with no space in them
+abbrev pub Spaceless : List ℕ → Type 0
+Spaceless w = (k : ℕ) → k < length w → get_or w k 0 ≡ 32 → ⊥
 
-  pub goes_on : i < length s → (get_or s i 0 ≡ 32 → ⊥) → words_from (take (i + 1) s) (drop (i + 1) s) ≡ words_from (take i s) (drop i s)
-  unfolding words_from
-  goes_on h e = rw (drop-cons s i 0 h, add-one i, take-suc s i 0 h) (simp (ne_eqb _ _ e))
+fewer : (d : ℕ) (w : List ℕ) → Spaceless (d ∷ w) → Spaceless w
+fewer d w h k l = h (suc k) (omega arith)
 
-  pub is_last : length s ≤ i → words_from (take i s) (drop i s) ≡ take i s ∷ []
-  unfolding words_from
-  is_last h = rw (drop_of_length-le s {i = i} h) refl
+pub last_word : (v w : List ℕ) → Spaceless w → words_from v w ≡ (v ++ w) ∷ []
+unfolding words_from
+last_word v [] h = ap (λ x. x ∷ []) (sym (append-nil v))
+last_word v (d ∷ w) h =
+    rw (ne_eqb d 32 (h 0 (omega arith))) (last_word (v ++ d ∷ []) w (fewer d w h) ∙ ap (λ x. x ∷ []) (append_assoc v (d ∷ []) w))
+
+pub first_word : (v w s : List ℕ) → Spaceless w → words_from v (w ++ 32 ∷ s) ≡ (v ++ w) ∷ words_from [] s
+unfolding words_from
+first_word v [] s h = ap (λ x. x ∷ words_from [] s) (sym (append-nil v))
+first_word v (d ∷ w) s h =
+    rw (ne_eqb d 32 (h 0 (omega arith)))
+    (first_word (v ++ d ∷ []) w s (fewer d w h) ∙ ap (λ x. x ∷ words_from [] s) (append_assoc v (d ∷ []) w))
+
+-- ---- a split at spaces has these words left, before and after one is taken
+abbrev pub left : {F : Type 0} → Split ℕ F → List (List ℕ)
+left s = cond (split_done s) [] (words_from [] (split_rest s))
+
+module _ {F : Type 0} (s : Split ℕ F) where
+  pub begins : {text : List ℕ} → split_rest s ≡ text → split_done s ≡ false → words_from [] text ≡ left s
+  begins e d = ap (words_from []) (sym e) ∙ sym (ap (λ b. cond b [] (words_from [] (split_rest s))) d)
+
+  pub ended : split_done s ≡ true → left s ≡ []
+  ended d = ap (λ b. cond b [] (words_from [] (split_rest s))) d
+
+here : (w s : List ℕ) (b d : ℕ) → get_or (w ++ b ∷ s) (length w) d ≡ b
+here [] s b d = refl
+here (x ∷ w) s b d = here w s b d
+
+cut : (s w rest : List ℕ) (done : Bool) → MatchBool done (s ≡ w) ((y : ℕ) × (s ≡ w ++ y ∷ rest)) → IsFirstMatchOrLen (λ b. eqb b 32) s (length w) →
+    words_from [] s ≡ w ∷ cond done [] (words_from [] rest)
+cut s w rest true e h = rw e (last_word [] w (λ k l. eqb-false _ 32 (rw e at (h.0 k 0 zero-le l))))
+cut s w rest false e h =
+    let y = e.0 in
+    let t = w ++ y ∷ rest in
+    let long : length w < length t = rw length-append (omega arith) in
+    let before : Spaceless w = (λ k l. eqb-false _ 32 (rw (e.1, get_or-append w (y ∷ rest) 0 k l) at (h.0 k 0 zero-le l))) in
+    let space : y ≡ 32 = sym (here w rest y 0) ∙ eqb-true _ 32 (rw e.1 at h.1 long 0) in
+    ap (words_from []) (e.1 ∙ ap (λ b. w ++ b ∷ rest) space) ∙ first_word [] w rest before
+
+-- a step of the split, by a test of which it is known that it looks for spaces
+pub taken : {F : Type 0} {g : Mut F (Bor ℕ × Unit {0}) Bool} (s t : Split ℕ F) {w : List ℕ} →
+    (split_done s ≡ false) × MatchBool (split_done t) (split_rest s ≡ w) ((y : ℕ) × (split_rest s ≡ w ++ y ∷ split_rest t))
+    × ((p : ℕ → Bool) → ComputesKey g p (split_callee s) → ComputesKey g p (split_callee t) × IsFirstMatchOrLen p (split_rest s) (length w)) →
+    ((a : Bor ℕ) (r : Bool) (q : F) → Called g (split_callee s) (a, tt) r q → (r ≡ eqb a.now 32) × (q ≡ split_callee s)) → left s ≡ w ∷ left t
+taken {g = g} s t {w} k tests =
+    let key = always_returns_same g (λ a r. r ≡ eqb a.0.now 32) (split_callee s) (λ a r q k. tests a.0 r q k) in
+    ap (λ b. cond b [] (words_from [] (split_rest s))) k.0 ∙ cut (split_rest s) w (split_rest t) (split_done t) k.1 (k.2 (λ b. eqb b 32) key).1
 
 -- ---- digits
-module _ (v : ℕ) (w : List ℕ) (i : ℕ) where
-  pub digit_low : i < length w → get_or w i 0 < 48 → digits_from v (drop i w) ≡ other
-  unfolding digits_from
-  digit_low h e = rw (drop-cons w i 0) (simp (lt-ltb _ _ e))
+no-digit : (v d : ℕ) (w : List ℕ) → (d < 48) ⊎ (57 < d) → digits_from v (d ∷ w) ≡ other
+unfolding digits_from
+no-digit v d w (inl h) = simp (lt-ltb _ _ h)
+no-digit v d w (inr h) = simp (le-ltb d 48 (omega arith), lt-ltb _ _ h)
 
-  pub digit-high : i < length w → 48 ≤ get_or w i 0 → 57 < get_or w i 0 → digits_from v (drop i w) ≡ other
+module _ (v : ℕ) (w : List ℕ) (i : ℕ) where
+  pub digit-none : i < length w → (get_or w i 0 < 48) ⊎ (57 < get_or w i 0) → digits_from v (drop i w) ≡ other
   unfolding digits_from
-  digit-high h e f = rw (drop-cons w i 0) (simp (le-ltb _ _ e, lt-ltb _ _ f))
+  digit-none h e = rw (drop-cons w i 0) (no-digit v (get_or w i 0) (drop (suc i) w) e)
 
   pub digit-next : i < length w → 48 ≤ get_or w i 0 → get_or w i 0 ≤ 57 → digits_from v (drop i w) ≡ digits_from (10 * v + (get_or w i 0 - 48)) (drop (suc i) w)
   unfolding digits_from
@@ -57,27 +107,7 @@ most-four (suc (suc zero)) h = omega arith
 most-four (suc (suc (suc zero))) h = omega arith
 most-four (suc (suc (suc (suc i)))) h = absurd (omega arith)
 
--- ---- a text whose first word is its first r bytes
-abbrev pub First : List ℕ → ℕ → Type 0
-First s r = words_from [] s ≡ take r s ∷ cond (ltb r (length s)) (words_from [] (drop (r + 1) s)) []
-
--- what follows a place, as `&s[r + 1..]` reads
-abbrev pub rest : List ℕ → ℕ → List ℕ
-rest s r = take (length s - (r + 1)) (drop (r + 1) s)
-
-rest-is : (s : List ℕ) (r : ℕ) → rest s r ≡ drop (r + 1) s
-rest-is s r = take_all (length s - (r + 1)) (drop (r + 1) s) (rw length-drop (omega arith))
-
-module _ (s : List ℕ) (r : ℕ) (e : First s r) where
-  more : r < length s → words_from [] s ≡ take r s ∷ words_from [] (rest s r)
-  more h = rw (rest-is s r) (e ∙ ap (λ b. take r s ∷ cond b (words_from [] (drop (r + 1) s)) []) (lt-ltb r (length s) h))
-
-  alone : r ≡ length s → words_from [] s ≡ s ∷ []
-  alone h =
-      let whole : take r s ≡ s = take_all r s (omega arith) in
-      e ∙ ap (λ b. take r s ∷ cond b (words_from [] (drop (r + 1) s)) []) (le-ltb r (length s) (omega arith)) ∙ ap (λ w. w ∷ []) whole
-
--- ---- a line by its words: one, two, three, more
+-- ---- a line by its words
 abbrev pub three : ℕ → List (List ℕ) → Outcome Question
 three number w = cond (eqb (length w) 3) (enquiry_of number (number_of (get_or w 0 [])) (number_of (get_or w 1 [])) (number_of (get_or w 2 []))) (malformed number)
 
@@ -95,28 +125,36 @@ words-some w (b ∷ s) = by (eqb b 32) (words-some [] s) (words-some (w ++ b ∷
     by true h k = omega arith
     by false h k = k
 
-many : (number : ℕ) (a d y s : List ℕ) → three number (a ∷ d ∷ y ∷ words_from [] s) ≡ malformed number
-many number a d y s = let h = words-some [] s in simp (ne_eqb (length (a ∷ d ∷ y ∷ words_from [] s)) 3 (λ z. omega arith))
+-- a line that has these words
+pub line-words : (number : ℕ) (s : List ℕ) {ws : List (List ℕ)} → words_from [] s ≡ ws → three number ws ≡ line_of number s
+line-words number s e = ap (three number) (sym e) ∙ line-is number s
 
-module _ (number : ℕ) (s : List ℕ) (a : ℕ) (e : First s a) where
-  pub one_word : a ≡ length s → malformed number ≡ line_of number s
-  one_word f = sym (ap (three number) (alone s a e f)) ∙ line-is number s
+-- a word of the first three that is no number, or a word behind them
+either : (t : Bool) (x y : Outcome Question) → x ≡ y → y ≡ cond t x y
+either true x y e = sym e
+either false x y e = refl
 
-  module _ (l : a < length s) (d : ℕ) (g : First (rest s a) d) where
-    pub two-words : d ≡ length (rest s a) → malformed number ≡ line_of number s
-    two-words f = sym (ap (three number) (more s a e l ∙ ap (λ ws. take a s ∷ ws) (alone (rest s a) d g f))) ∙ line-is number s
+module _ (number : ℕ) (s : List ℕ) {a : List ℕ} where
+  unasked : (d y : Reading) {ws : List (List ℕ)} → words_from [] s ≡ a ∷ ws → d ≡ number_of (get_or ws 0 []) → y ≡ number_of (get_or ws 1 []) →
+      enquiry_of number (number_of a) d y ≡ malformed number → malformed number ≡ line_of number s
+  unasked d y {ws} e f g h = either (eqb (length (a ∷ ws)) 3) _ _ (rw (f, g) at h) ∙ line-words number s e
 
-    module _ (m : d < length (rest s a)) (y : ℕ) (h : First (rest (rest s a) d) y) where
-      after_two : words_from [] s ≡ take a s ∷ take d (rest s a) ∷ words_from [] (rest (rest s a) d)
-      after_two = more s a e l ∙ ap (λ ws. take a s ∷ ws) (more (rest s a) d g m)
+  pub first-none : {ws : List (List ℕ)} → words_from [] s ≡ a ∷ ws → other ≡ number_of a → malformed number ≡ line_of number s
+  first-none e x = unasked _ _ e refl refl (rw (← x) refl)
 
-      behind : {ws : List (List ℕ)} → words_from [] (rest (rest s a) d) ≡ ws → three number (take a s ∷ take d (rest s a) ∷ ws) ≡ line_of number s
-      behind {ws} f = sym (ap (three number) (after_two ∙ ap (λ ws. take a s ∷ take d (rest s a) ∷ ws) f)) ∙ line-is number s
+  module _ {d : List ℕ} where
+    pub second-none : {ws : List (List ℕ)} {m : ℕ} → words_from [] s ≡ a ∷ d ∷ ws → numeral m ≡ number_of a → other ≡ number_of d →
+        malformed number ≡ line_of number s
+    second-none e x y = unasked other _ e y refl (rw (← x) refl)
 
-      pub four-words : y < length (rest (rest s a) d) → malformed number ≡ line_of number s
-      four-words f =
-          sym (many number (take a s) (take d (rest s a)) (take y (rest (rest s a) d)) (rest (rest (rest s a) d) y)) ∙ behind (more (rest (rest s a) d) y h f)
+    pub third-none : {y : List ℕ} {ws : List (List ℕ)} {m n : ℕ} → words_from [] s ≡ a ∷ d ∷ y ∷ ws → numeral m ≡ number_of a → numeral n ≡ number_of d →
+        other ≡ number_of y → malformed number ≡ line_of number s
+    third-none {n = n} e x y z = unasked (numeral n) other e y z (rw (← x) refl)
 
-      pub three-words : y ≡ length (rest (rest s a) d) →
-          enquiry_of number (number_of (take a s)) (number_of (take d (rest s a))) (number_of (rest (rest s a) d)) ≡ line_of number s
-      three-words f = behind (alone (rest (rest s a) d) y h f)
+    pub fourth : {y z : List ℕ} {ws : List (List ℕ)} → words_from [] s ≡ a ∷ d ∷ y ∷ z ∷ ws → malformed number ≡ line_of number s
+    fourth {y} {z} {ws} e = sym (simp (ne_eqb (length (a ∷ d ∷ y ∷ z ∷ ws)) 3 (λ z. omega arith))) ∙ line-words number s e
+
+    -- three numbers, and no more
+    pub all-three : {y : List ℕ} {m n k : ℕ} → words_from [] s ≡ a ∷ d ∷ y ∷ [] → numeral m ≡ number_of a → numeral n ≡ number_of d → numeral k ≡ number_of y →
+        value (record { age = m; deferment = n; year = k }) ≡ line_of number s
+    all-three e x y z = rw (← x, ← y, ← z) at (line-words number s e)

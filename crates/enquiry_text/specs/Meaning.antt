@@ -1,19 +1,15 @@
 -- What the code's answers stand for, in the paper's number and values for every case.
-use Rattle.std.specs.Prelude.{ℕ}
+use Rattle.std.specs.Prelude.{ℕ, Option, None, Some}
 use Rattle.outcome.specs.Outcome.{Outcome, value}
 use Rattle.question.specs.declared.Question.{Question}
-use Rattle.enquiry_text.specs.declared.Word.{Word}
-use Rattle.enquiry_text.specs.declared.Word.TheVariants.{Number, Other}
-use Rattle.enquiry_text.specs.declared.Line.{Line}
-use Rattle.enquiry_text.specs.declared.Line.TheVariants.{Enquiry, Malformed}
 use Rattle.enquiry_text.specs.Line.{Reading, numeral, other, malformed}
 
--- a word
-abbrev pub word_meaning : Word → Reading
-word_meaning (Number n) = numeral n
-word_meaning Other = other
+-- a word: the number that it is, or none
+abbrev pub word_meaning : Option ℕ → Reading
+word_meaning (Some n) = numeral n
+word_meaning None = other
 
--- a line by its number, counted from 1
-abbrev pub line_meaning : ℕ → Line → Outcome Question
-line_meaning number (Enquiry q) = value q
-line_meaning number Malformed = malformed number
+-- a line by its number, counted from 1: the question that it asks, or none
+abbrev pub line_meaning : ℕ → Option Question → Outcome Question
+line_meaning number (Some q) = value q
+line_meaning number None = malformed number

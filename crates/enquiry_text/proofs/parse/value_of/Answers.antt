@@ -2,25 +2,21 @@
 use mathlib.Core.Path.{sym, ◌∙◌}
 use native.Mathlib.Omega.{arith}
 use native.Mathlib.Numerals.{add-one}
-use Rattle.enquiry_text.proofs.Words.{digit_low, digit-high, digit-next, digits-end}
+use Rattle.enquiry_text.proofs.Words.{digit-none, digit-next, digits-end}
 use Rattle.enquiry_text.proofs.parse.value_of.Goals as goal
 
-pub returns-then-d-lt48 : goal.returns-then-d-lt48
-returns-then-d-lt48 c =
-    let w = c.args.word.now in
-    sym (digit_low c.loop-i.value w c.loop-i.i (omega arith) c.if-d-lt48.true) ∙ c.loop-i.invariant.1
+pub returns-then-not-is_ascii_digit : goal.returns-then-not-is_ascii_digit
+returns-then-not-is_ascii_digit c =
+    let l = c.loop-d in
+    sym (digit-none l.value c.args.word.now l.d-index (omega arith) c.if-not-is_ascii_digit.ensures.cases) ∙ l.invariant.0
 
-pub returns-then-d-gt57 : goal.returns-then-d-gt57
-returns-then-d-gt57 c =
-    let w = c.args.word.now in
-    sym (digit-high c.loop-i.value w c.loop-i.i (omega arith) (omega arith) c.if-d-gt57.true) ∙ c.loop-i.invariant.1
-
-pub loop-i-preserved : goal.loop-i-preserved
-loop-i-preserved c =
-    let w = c.args.word.now in
-    let e = digit-next c.loop-i.value w c.loop-i.i (omega arith) (omega arith) (omega arith) in
-    (omega arith, rw add-one (sym e ∙ c.loop-i.invariant.1), rw add-one (omega arith))
+pub loop-d-preserved : goal.loop-d-preserved
+loop-d-preserved c =
+    let l = c.loop-d in
+    let is = c.if-not-is_ascii_digit.ensures.cases in
+    let e = digit-next l.value c.args.word.now l.d-index (omega arith) is.0 is.1 in
+    rw (c.from.ensures, add-one) (sym e ∙ l.invariant.0, omega (arith, is.0, is.1))
 
 pub returns : goal.returns
 returns c =
-    sym (digits-end c.loop-i.value c.args.word.now c.loop-i.i (omega arith)) ∙ c.loop-i.invariant.1
+    sym (digits-end c.loop-d.value c.args.word.now c.loop-d.d-index (omega arith)) ∙ c.loop-d.invariant.0
