@@ -1,12 +1,11 @@
 -- The grid (01, "a lent list of 119 point records whose results are filled in place").
 use Rattle.std.specs.Prelude.{ℕ, zero, suc, List, [], ◌∷◌, length}
 use Rattle.basis.specs.Basis.{Basis}
-use Rattle.outcome.specs.Outcome.{Finding, passed, refused_by, first_of, finding}
+use Rattle.outcome.specs.Outcome.{Finding, passed, refused_by, first_of}
 use Rattle.history.specs.History.{basis_with, run_and_history_check}
 use Rattle.lent.specs.Lent.{count_check}
 use Rattle.grid_record.specs.declared.Point.{Point}
 use Rattle.grid_record.specs.Record.{answered_of}
-use Rattle.grid.specs.declared.GridStart.{GridStart}
 
 -- a list shorter than 119 is refused as 11 with 119 for the bytes, before the basis and its history are looked at
 unfoldable pub grid_check : List ℕ → List ℕ → ℕ → Finding
@@ -16,13 +15,6 @@ grid_check run history count = first_of (count_check 119 count) (run_and_history
 abbrev pub records_of : Finding → ℕ
 records_of passed = 119
 records_of (refused_by r) = 0
-
-abbrev pub grid_start : Finding → Finding × ℕ
-grid_start check = (check, records_of check)
-
--- what a start of the grid stands for
-abbrev pub grid_start_meaning : GridStart → Finding × ℕ
-grid_start_meaning s = (finding s.check, s.records)
 
 -- each of the first n records answered; further records are kept
 unfoldable pub answers : Basis → ℕ → List Point → List Point

@@ -1,19 +1,49 @@
--- The records that are answered are as many as the checks say, and these are at most the list's.
-use Rattle.std.proofs.Common.{◌∙◌, ap, ℕ, length, arith}
+-- What the checks let pass is all that the table and the records ask for; each turn answers one record more, and a refusal changes none.
+use Rattle.std.proofs.Common.{◌≡◌, ◌∙◌, ap, sym, subst, rules, ℕ, ◌+◌, List, [], ◌++◌, get_or, set, arith, add-one, length-take, take, drop}
 use Rattle.history.specs.History.{basis_with}
-use Rattle.outcome.specs.Outcome.{Finding}
+use Rattle.grid_record.specs.declared.Point.{Point}
+use Rattle.grid_record.specs.Record.{answered_of}
 use Rattle.grid.specs.Grid.{answers}
-use Rattle.grid.proofs.Filled.{records-fit, grid-is}
+use Rattle.grid.proofs.Filled.{answers-none, answers_set, answers_front, grid-filled, grid-kept, enough_records}
 use Rattle.grid.proofs.fill.Goals as goal
 
-pub fill_records-requires : goal.fill_records-requires
-fill_records-requires c =
-    let records = ap (λ (p : Finding × ℕ). p.1) c.begin_grid-start.ensures.result_value in
-    (omega (arith, records, records-fit c.args.run.now c.args.history.now (length c.args.points.now)), c.begin_grid-start.ensures.tabled)
+-- what stands past the end of a list of records: any record serves
+abbrev blank : Point
+blank = record { age = 0; deferment = 0; year = 0; refusal = 0; results = []; first = 0; second = 0 }
+
+pub returns-in_err-check_grid-clause-points_after : goal.returns-in_err-check_grid-clause-points_after
+returns-in_err-check_grid-clause-points_after c = grid-kept _ _ _ c.in_err-check_grid.ensures
+
+pub slice_bounds-p-items-end-2 : goal.slice_bounds-p-items-end-2
+slice_bounds-p-items-end-2 c =
+    let room = enough_records c.args.run.now c.args.history.now _ c.in_ok-check_grid.ensures in
+    search rules
+
+pub loop-p-init : goal.loop-p-init
+loop-p-init c = sym (answers-none _ _)
+
+pub offset_bounds-p-items-p-index : goal.offset_bounds-p-items-p-index
+offset_bounds-p-items-p-index c =
+    let few = c.loop-p-test.true in
+    let most = simp length-take at few in
+    record { fits = omega (arith, most) }
+
+pub loop-p-preserved : goal.loop-p-preserved
+loop-p-preserved c =
+    let b = basis_with c.args.run.now c.args.history.now in
+    let i = c.loop-p.p-index in
+    let asked = take 119 c.args.points.now in
+    let here = answers_set b i asked blank c.loop-p-test.true ∙ ap (λ (k : ℕ). answers b k asked) (sym (add-one i)) in
+    ap (λ (p : Point). set c.loop-p.p-items i p) c.swept_record.ensures
+    ∙ subst (λ (points : List Point). set points i (answered_of b (get_or points i blank)) ≡ answers b (i + 1) asked) (sym c.loop-p.invariant) here
 
 pub returns-clause-points_after : goal.returns-clause-points_after
 returns-clause-points_after c =
-    let records = ap (λ (p : Finding × ℕ). p.1) c.begin_grid-start.ensures.result_value in
-    c.fill_records.ensures
-    ∙ ap (λ n. answers (basis_with c.args.run.now c.args.history.now) n c.args.points.now) records
-    ∙ grid-is c.args.run.now c.args.history.now c.args.points.now
+    let b = basis_with c.args.run.now c.args.history.now in
+    let points = c.args.points.now in
+    let passes = c.in_ok-check_grid.ensures in
+    let room = enough_records c.args.run.now c.args.history.now _ passes in
+    let size = length-take 119 points in
+    let all : c.loop-p.p-index ≡ 119 = omega (arith, c.loop-p-test.false, c.loop-p.auto.p-index-end, size, room) in
+    ap (λ (items : List Point). items ++ drop 119 points) (c.loop-p.invariant ∙ ap (λ (n : ℕ). answers b n (take 119 points)) all)
+    ∙ answers_front b 119 points ∙ grid-filled _ _ _ passes
