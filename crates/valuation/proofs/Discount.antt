@@ -53,3 +53,5 @@ module _ (b : Basis) (limits : Limited b) where
     omega (arith, e, accumulation-low b limits),
     omega (arith, e, accumulation-high b limits),
   )
+
+pub ruleset year_by_year = (discount-turn, discount-ranges)

@@ -69,6 +69,8 @@ module _ (b : Basis) (kind : Kind) (age from year : ℕ) where
   unfolding annuity_of
   paid-last j total e q = sym (rw e at q)
 
+pub ruleset within_deferment = (refused-before)
+
 -- ---- what the loop knows after j years: survivors, discount and the payments so far
 pub record Paying (b : Basis) (kind : Kind) (age from year j s v total : ℕ) : Type 0 where
   pub begun : from ≤ j

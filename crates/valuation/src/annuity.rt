@@ -20,6 +20,7 @@ pub fn discount_next(v: u64, accumulation: u64) -> u64
 }
 
 // The discount after n years.
+#[tactic(auto, using(crate::proofs::Discount::year_by_year), unfolding(crate::specs::Valuation::discount_after))]
 fn discount_after(run: &[u8], n: u32) -> u64
     requires { Accepted run.now × (n ≤ 130) }
     ensures { pos result ≡ discount_after (basis_of run.now) n }
@@ -69,6 +70,7 @@ fn annuity_from(
 }
 
 // The annuity at an age in a year, with a deferment.
+#[tactic(auto, using(crate::proofs::Payments::within_deferment))]
 pub fn annuity_at(
     run: &[u8],
     history: &[u8],
