@@ -2,7 +2,7 @@
 // Every function is total: any slice, any number. engine_c exports them to C.
 #![tactic(auto)]
 
-pub mod answers;
+mod answers;
 pub mod cells;
 pub mod files;
 pub mod lifelines;
@@ -15,7 +15,7 @@ use outcome::Refusal;
 
 // The answer of an enquiry: a value and a refusal of number 0, or a refusal and value 0.
 #[repr(C)]
-#[derive(Drop)]
+#[derive(Clone, Copy)]
 pub struct CAnswer {
     pub refusal: Refusal,
     pub value: u64,
@@ -23,7 +23,7 @@ pub struct CAnswer {
 
 // The same where the value may be below zero.
 #[repr(C)]
-#[derive(Drop)]
+#[derive(Clone, Copy)]
 pub struct CSignedAnswer {
     pub refusal: Refusal,
     pub value: i64,
@@ -31,7 +31,7 @@ pub struct CSignedAnswer {
 
 // Where a lifeline stands after a start or a step, and whether it has ended (1).
 #[repr(C)]
-#[derive(Drop)]
+#[derive(Clone, Copy)]
 pub struct CLifeline {
     pub refusal: Refusal,
     pub survivors: u64,

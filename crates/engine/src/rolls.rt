@@ -27,18 +27,18 @@ pub fn parvusek_roll_join(
     ensures roll_after { roll.new ≡ after_call roll.old
         (joined_roll roll.old run.now history.now number age pension) }
 {
-    answers::answer_of(calls::join(run, history, roll, number, age, pension))
+    CAnswer::from(calls::join(run, history, roll, number, age, pension))
 }
 
 pub fn parvusek_roll_leave(roll: &mut [u64], number: u32) -> CAnswer
     ensures value { result ≡ answer_of (total_said (left_roll roll.old number)) }
     ensures roll_after { roll.new ≡ after_call roll.old (left_roll roll.old number) }
 {
-    answers::answer_of(calls::leave(roll, number))
+    CAnswer::from(calls::leave(roll, number))
 }
 
 pub fn parvusek_roll_total(roll: &[u64]) -> CAnswer
     ensures { result ≡ answer_of (total_answer roll.now) }
 {
-    answers::answer_of(calls::total(roll))
+    CAnswer::from(calls::total(roll))
 }

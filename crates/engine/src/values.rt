@@ -4,7 +4,7 @@ ghost use Rattle.survivorship.specs.declared.Kind.TheVariants.{Period, Cohort};
 ghost use Rattle.enquiry.specs.Enquiry.{survivorship_enquiry, expectation_enquiry, annuity_enquiry};
 ghost use Rattle.engine.specs.Enquiry.{answer_of};
 
-use crate::{CAnswer, answers};
+use crate::CAnswer;
 use enquiry::values;
 use survivorship::Kind;
 
@@ -18,7 +18,7 @@ pub fn parvusek_period_survivorship(
 ) -> CAnswer
     ensures { result ≡ answer_of (survivorship_enquiry run.now history.now Period age deferment year) }
 {
-    answers::answer_of(values::survivorship(run, history, Kind::Period, age, deferment, year))
+    CAnswer::from(values::survivorship(run, history, Kind::Period, age, deferment, year))
 }
 
 pub fn parvusek_cohort_survivorship(
@@ -30,7 +30,7 @@ pub fn parvusek_cohort_survivorship(
 ) -> CAnswer
     ensures { result ≡ answer_of (survivorship_enquiry run.now history.now Cohort age deferment year) }
 {
-    answers::answer_of(values::survivorship(run, history, Kind::Cohort, age, deferment, year))
+    CAnswer::from(values::survivorship(run, history, Kind::Cohort, age, deferment, year))
 }
 
 pub fn parvusek_period_expectation(
@@ -42,7 +42,7 @@ pub fn parvusek_period_expectation(
 ) -> CAnswer
     ensures { result ≡ answer_of (expectation_enquiry run.now history.now Period age deferment year) }
 {
-    answers::answer_of(values::expectation(run, history, Kind::Period, age, deferment, year))
+    CAnswer::from(values::expectation(run, history, Kind::Period, age, deferment, year))
 }
 
 pub fn parvusek_cohort_expectation(
@@ -54,7 +54,7 @@ pub fn parvusek_cohort_expectation(
 ) -> CAnswer
     ensures { result ≡ answer_of (expectation_enquiry run.now history.now Cohort age deferment year) }
 {
-    answers::answer_of(values::expectation(run, history, Kind::Cohort, age, deferment, year))
+    CAnswer::from(values::expectation(run, history, Kind::Cohort, age, deferment, year))
 }
 
 pub fn parvusek_period_annuity(
@@ -66,7 +66,7 @@ pub fn parvusek_period_annuity(
 ) -> CAnswer
     ensures { result ≡ answer_of (annuity_enquiry run.now history.now Period age deferment year) }
 {
-    answers::answer_of(values::annuity(run, history, Kind::Period, age, deferment, year))
+    CAnswer::from(values::annuity(run, history, Kind::Period, age, deferment, year))
 }
 
 pub fn parvusek_cohort_annuity(
@@ -78,5 +78,5 @@ pub fn parvusek_cohort_annuity(
 ) -> CAnswer
     ensures { result ≡ answer_of (annuity_enquiry run.now history.now Cohort age deferment year) }
 {
-    answers::answer_of(values::annuity(run, history, Kind::Cohort, age, deferment, year))
+    CAnswer::from(values::annuity(run, history, Kind::Cohort, age, deferment, year))
 }
