@@ -1,55 +1,54 @@
--- After i turns the first i records are answered; the count is that of the grid's checks, which are also its premise.
-use mathlib.Core.Path.{◌≡◌, ◌∙◌, ap, sym, subst}
-use mathlib.Core.List.{List, []}
-use Prim.Native.Nat.{ℕ, ◌+◌, ◌<◌}
-use native.Mathlib.Omega.{arith}
-use native.Mathlib.Numerals.{add-one}
-use lib.ListN.{length, get_or, set}
-use borrow.Author.Rules.{rules}
+-- The checks decide: where they pass, each turn answers one record more, and where they refuse, the records are kept.
+use Rattle.std.proofs.Common.{◌≡◌, ◌∙◌, ap, sym, subst, rules, true, false, ℕ, ◌+◌, ◌<◌, List, [], length, get_or, set, arith, add-one}
+use Rattle.std.specs.Prelude.{Result, Ok, Err}
+use Rattle.std.specs.Result.{is_ok}
 use Rattle.history.specs.History.{basis_with}
 use Rattle.grid_record.specs.declared.Point.{Point}
 use Rattle.grid_record.specs.Record.{answered_of}
-use Rattle.outcome.specs.Outcome.{Finding}
-use Rattle.grid.specs.Grid.{grid_check, records_of, answers}
-use Rattle.grid.proofs.Filled.{answers-none, answers_set, records-fit, turn-accepted, grid-is}
+use Rattle.outcome.specs.declared.Refusal.{Refusal}
+use Rattle.outcome.specs.Outcome.{Finding, passed, refused_by, finding}
+use Rattle.grid.specs.Grid.{grid_check, answers}
+use Rattle.grid.proofs.Filled.{answers-none, answers_set, grid-filled, grid-kept}
 use Rattle.direct_grid.proofs.answer_all.Goals as goal
 
 -- what stands past the end of a list of records: any record serves
 abbrev blank : Point
 blank = record { age = 0; deferment = 0; year = 0; refusal = 0; results = []; first = 0; second = 0 }
 
-pub loop-i-init : goal.loop-i-init
-loop-i-init c =
-    let a = c.args in (
-      omega arith,
-      ap (λ (p : Finding × ℕ). p.1) c.start_grid-start.ensures,
-      sym (answers-none (basis_with a.run.now a.history.now) a.records),
-      search rules,
-    )
+-- what a check's `is_ok` says of the definition
+when_ok : (r : Result (Unit {0}) Refusal) (f : Finding) → is_ok r ≡ true → finding r ≡ f → passed ≡ f
+when_ok (Ok _) f e h = h
+when_ok (Err r) f e h = cc
 
-pub direct_record-requires : goal.direct_record-requires
-direct_record-requires c =
-    let a = c.args in
-    turn-accepted a.run.now a.history.now 119 c.loop-i.i (omega (arith, c.loop-i.invariant.1))
+when_err : (r : Result (Unit {0}) Refusal) (f : Finding) → is_ok r ≡ false → finding r ≡ f → (why : Refusal) × (refused_by why ≡ f)
+when_err (Ok _) f e h = absurd (cc)
+when_err (Err r) f e h = (r, h)
 
-pub loop-i-preserved : goal.loop-i-preserved
-loop-i-preserved c =
-    let a = c.args in
-    let b = basis_with a.run.now a.history.now in
-    let i = c.loop-i.i in
-    let few : i < length a.records = omega (arith, c.loop-i.invariant.1, c.loop-i.invariant.3, records-fit a.run.now a.history.now 119) in
-    let here = answers_set b i a.records blank few ∙ ap (λ (k : ℕ). answers b k a.records) (sym (add-one i)) in (
-      omega arith,
-      c.loop-i.invariant.1,
-      ap (λ (p : Point). set c.loop-i.points i p) c.direct_record.ensures
-          ∙ subst (λ (points : List Point). set points i (answered_of b (get_or points i blank)) ≡ answers b (i + 1) a.records) (sym c.loop-i.invariant.2) here,
-      c.loop-i.invariant.3,
-    )
+pub loop-p-init : goal.loop-p-init
+loop-p-init c = sym (answers-none _ _)
 
-pub returns : goal.returns
-returns c =
-    let a = c.args in
-    let b = basis_with a.run.now a.history.now in
-    let e : c.loop-i.i ≡ records_of (grid_check a.run.now a.history.now (length a.records)) =
-    (omega (arith, c.loop-i.invariant.1)) ∙ ap (λ (m : ℕ). records_of (grid_check a.run.now a.history.now m)) (sym c.loop-i.invariant.3) in
-    c.loop-i.invariant.2 ∙ ap (λ (k : ℕ). answers b k a.records) e ∙ grid-is a.run.now a.history.now a.records
+pub loop-p-preserved : goal.loop-p-preserved
+loop-p-preserved c =
+    let b = basis_with c.args.run.now c.args.history.now in
+    let i = c.loop-p.p-index in
+    let asked = c.args.records in
+    let few : i < length asked = omega arith in
+    let here = answers_set b i asked blank few ∙ ap (λ (k : ℕ). answers b k asked) (sym (add-one i)) in
+    ap (λ (p : Point). set c.loop-p.p-items i p) c.direct_record.ensures
+    ∙ subst (λ (points : List Point). set points i (answered_of b (get_or points i blank)) ≡ answers b (i + 1) asked) (sym c.loop-p.invariant) here
+
+pub returns-after-loop-p : goal.returns-after-loop-p
+returns-after-loop-p c =
+    let b = basis_with c.args.run.now c.args.history.now in
+    let size : length c.args.records ≡ 119 = search rules in
+    let all : c.loop-p.p-index ≡ 119 = omega arith in
+    let passes = when_ok _ _ (sym c.is_ok.ensures.value ∙ c.if-is_ok.true) c.check_grid.ensures in
+    let same : passed ≡ grid_check c.args.run.now c.args.history.now (length c.args.records) = rw size passes in
+    c.loop-p.invariant ∙ ap (λ (n : ℕ). answers b n c.args.records) all ∙ grid-filled _ _ _ same
+
+pub returns-else-is_ok : goal.returns-else-is_ok
+returns-else-is_ok c =
+    let size : length c.args.records ≡ 119 = search rules in
+    let refuses = when_err _ _ (sym c.is_ok.ensures.value ∙ c.if-is_ok.false) c.check_grid.ensures in
+    let same : refused_by refuses.0 ≡ grid_check c.args.run.now c.args.history.now (length c.args.records) = rw size refuses.1 in
+    grid-kept _ _ _ same
