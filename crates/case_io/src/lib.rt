@@ -6,7 +6,7 @@ ghost use Rattle.reply_text.specs.Reply.{refusal_line, by_value};
 ghost use Rattle.case_io.specs.Lines.{named_line, numbers_line};
 
 use outcome::Refusal;
-use reply_text::{ReplyText, digits, reply};
+use reply_text::{Output, ReplyText};
 
 // Nothing says that the input ends, so the cases are counted up to this number, which no run reaches.
 pub const MOST_CASES: u64 = 1_000_000_000_000_000;
@@ -32,10 +32,7 @@ fn print(rt: &impl Print, bytes: [u8; 192], length: usize) -> ReplyText
     ensures { result ≡ record { bytes = bytes; len = length } }
 {
     let _ = rt.write_all(&bytes[..length]);
-    ReplyText {
-        bytes: bytes,
-        len: length,
-    }
+    ReplyText { bytes, len: length }
 }
 
 // `refused`, the refusal's number and its places.
@@ -43,7 +40,12 @@ pub fn print_refused(rt: &impl Print, x: Refusal) -> ReplyText
     ensures { result ≡ by_value (refusal_line x) }
 {
     let mut line = [0u8; 192];
-    let end = reply::put_refusal(&mut line, 0, x);
+    let mut output = Output {
+        out: &mut line,
+        at: 0,
+    };
+    output.refusal(x);
+    let end = output.at;
     print(rt, line, end)
 }
 
@@ -53,8 +55,13 @@ pub fn print_named(rt: &impl Print, word: &[u8], n: u64) -> ReplyText
     ensures { result ≡ by_value (named_line word.now n) }
 {
     let mut line = [0u8; 192];
-    let at = digits::put_text(&mut line, 0, word);
-    let end = digits::put_number(&mut line, at, n, b'\n');
+    let mut output = Output {
+        out: &mut line,
+        at: 0,
+    };
+    output.text(word);
+    output.number(n, b'\n');
+    let end = output.at;
     print(rt, line, end)
 }
 
@@ -71,9 +78,13 @@ pub fn print_numbers(rt: &impl Print, numbers: &[u64]) -> ReplyText
     ensures { result ≡ by_value (numbers_line numbers.now) }
 {
     let mut line = [0u8; 192];
-    let mut at: usize = 0;
-    for i in 0..numbers.len() {
-        at = digits::put_number(&mut line, at, numbers[i], separator(i + 1 == numbers.len()));
+    let mut output = Output {
+        out: &mut line,
+        at: 0,
+    };
+    for (i, n) in numbers.iter().enumerate() {
+        output.number(*n, separator(i + 1 == numbers.len()));
     }
-    print(rt, line, at)
+    let end = output.at;
+    print(rt, line, end)
 }
