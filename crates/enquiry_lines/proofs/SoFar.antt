@@ -94,6 +94,18 @@ module _ {run history numbers part first : List ℕ} {from : ℕ} {s : Pending} 
         let grown = sym (take-add i n part) ∙ ap (λ k. take (i + k) part) (sym size) in
         rw size at (turns t grown (omega arith) next (left-part a) a.put a.most (left-sound a))
 
+    -- the first n of the bytes that are left, and those behind them
+    module _ {rest : List ℕ} (e : rest ≡ drop i part) where
+      left-long : length rest ≡ length part - i
+      left-long = ap length e ∙ length-drop i part
+
+      pub ready-for : (n : ℕ) → n ≤ length rest → Ready run history numbers r.pending n out r.at
+      ready-for n l = let m = left-long in record { tabled = h.ready.tabled; room = omega arith; sound = h.ready.sound; countable = omega arith }
+
+      pub front-turns : (n : ℕ) → n ≤ length rest → {front after : List ℕ} {next : Fed} → front ≡ take n rest →
+          Answered (basis_with run history) r.pending front out r.at after next → SoFar run history numbers part first from s after next (i + n)
+      front-turns n l f a = let m = left-long in part-turns n (rw (f, e) at a) (omega arith)
+
     -- all of it
     pub ends : length part ≤ i → Answered (basis_with run history) s part first from out r
     ends l =
@@ -140,3 +152,10 @@ module _ {run history numbers part first : List ℕ} {from : ℕ} {s : Pending} 
 
         pub byte-dropped : 16 ≤ r.pending.len → SoFar run history numbers part first from s out r (i + 1)
         byte-dropped k = byte-turns r (line-full r.pending _ h.ready.sound e k) no-reply (omega arith) h.ready.sound
+
+  -- all that are left
+  pub rest-turns : {out after : List ℕ} {r next : Fed} {i : ℕ} (h : SoFar run history numbers part first from s out r i) {rest : List ℕ} → rest ≡ drop i part →
+      Answered (basis_with run history) r.pending rest out r.at after next → Answered (basis_with run history) s part first from after next
+  rest-turns h {rest} e a =
+      let m = left-long h e in
+      ends (front-turns h e (length rest) (omega arith) (sym (take_all (length rest) rest (omega arith))) a) (omega arith)

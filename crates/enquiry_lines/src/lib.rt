@@ -10,7 +10,7 @@ pub mod whole;
 
 // An unfinished line: its first 16 bytes, which tell whether it can be an enquiry, and how many lines were complete
 // before it.
-#[derive(Drop)]
+#[derive(Clone, Copy)]
 pub struct Pending {
     pub bytes: [u8; 16],
     pub len: usize,
@@ -18,14 +18,14 @@ pub struct Pending {
 }
 
 // What a part of the input leaves: the unfinished line, and the place behind the replies.
-#[derive(Drop)]
+#[derive(Clone, Copy)]
 pub struct Fed {
     pub pending: Pending,
     pub at: usize,
 }
 
 // What the basis file leaves: its check, and the place behind the opening line.
-#[derive(Drop)]
+#[derive(Clone, Copy)]
 pub struct Opening {
     pub check: Result<(), Refusal>,
     pub at: usize,

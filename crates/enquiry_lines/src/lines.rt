@@ -9,9 +9,9 @@ ghost use Rattle.enquiry_lines.specs.Lines.{last_line, reply_to, replies};
 ghost use Rattle.enquiry_lines.specs.State.{kept, empty_after, reply_room, Ready, Answered};
 
 use crate::{Fed, Pending};
-use enquiry_text::{Line, parse};
+use enquiry_text::parse;
 use outcome::Reason;
-use reply_text::reply;
+use reply_text::Output;
 
 // The reply to a line by its number from 1.
 fn put_line(
@@ -29,16 +29,14 @@ fn put_line(
         (reply_to (basis_with run.now history.now) (line_of number text.now)) out.new result }
     ensures upper_bound { result ≤ at + reply_room }
 {
-    match parse::parse_line(text) {
-        Line::Enquiry(q) => {
-            let a = swept_points::points::swept_point(run, history, table, q);
-            reply::put_reply(out, at, q, a)
-        }
-        Line::Malformed => {
-            let x = Reason::Line.at(number, 0);
-            reply::put_refusal(out, at, x)
-        }
-    }
+    let mut output = Output { out, at };
+    let Some(q) = parse::parse_line(text) else {
+        output.refusal(Reason::Line.at(number, 0));
+        return output.at;
+    };
+    let a = swept_points::points::swept_point(run, history, table, q);
+    output.reply(q, a);
+    output.at
 }
 
 // Nothing read yet.
@@ -67,34 +65,30 @@ pub fn feed(
     ensures { Answered (basis_with run.now history.now) s part.now out.old from
         out.new result }
 {
-    let mut bytes = s.bytes;
-    let mut len = s.len;
-    let mut complete = s.complete;
+    let Pending {
+        mut bytes,
+        mut len,
+        mut complete,
+    } = s;
     let mut at = from;
-    let mut i: usize = 0;
-    while i < part.len() {
-        let b = part[i];
-        i += 1;
+    for &b in part {
         if b == b'\n' {
             at = put_line(run, history, table, out, at, complete + 1, &bytes[..len]);
             bytes = [0; 16];
             len = 0;
             complete += 1;
-            continue;
+        } else if len < bytes.len() {
+            bytes[len] = b;
+            len += 1;
         }
-        if 16 <= len {
-            continue;
-        }
-        bytes[len] = b;
-        len += 1;
     }
     Fed {
         pending: Pending {
-            bytes: bytes,
-            len: len,
-            complete: complete,
+            bytes,
+            len,
+            complete,
         },
-        at: at,
+        at,
     }
 }
 
@@ -111,18 +105,13 @@ pub fn finish(
     ensures { Put out.old from
         (replies (basis_with run.now history.now) (s.complete + 1) (last_line (kept s))) out.new result }
 {
-    let len = s.len;
+    let Pending {
+        bytes,
+        len,
+        complete,
+    } = s;
     if len == 0 {
         return from;
     }
-    let bytes = s.bytes;
-    put_line(
-        run,
-        history,
-        table,
-        out,
-        from,
-        s.complete + 1,
-        &bytes[..len],
-    )
+    put_line(run, history, table, out, from, complete + 1, &bytes[..len])
 }

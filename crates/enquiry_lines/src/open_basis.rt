@@ -10,7 +10,7 @@ ghost use Rattle.enquiry_lines.specs.State.{reply_room};
 use crate::Opening;
 use basis_file::read;
 use outcome::Refusal;
-use reply_text::reply;
+use reply_text::Output;
 
 // The file's data run, put into the front of `run` where neither the file nor the history is refused. There is room for
 // either form. It is read into an array of its own first, since the history is checked against it.
@@ -22,11 +22,9 @@ fn read_files(file: &[u8], history: &[u8], run: &mut [u8]) -> Result<(), Refusal
     let mut room = [0u8; layout::MPB2_RUN_LENGTH];
     read::read_file(file, &mut room)?;
     let read = &room[..read::length_needed(file)];
-    let h = history::check::check_history(read, history);
-    if let Ok(()) = h {
-        lent::put(read, run, 0);
-    }
-    h
+    history::check::check_history(read, history)?;
+    lent::put(read, run, 0);
+    Ok(())
 }
 
 // The same, and the opening line at the start of `out`.
@@ -35,25 +33,14 @@ pub fn open_files(file: &[u8], history: &[u8], run: &mut [u8], out: &mut [u8]) -
     requires reply_room_in_bounds { reply_room ≤ length out.old }
     ensures { Opened file.now history.now run.old out.old run.new out.new result }
 {
-    match read_files(file, history, run) {
-        Ok(()) => {
-            let at = reply::put_header(out, 0);
-            Opening {
-                check: Ok(()),
-                at: at,
-            }
-        }
-        Err(x) => {
-            let told = Refusal {
-                number: x.number,
-                first: x.first,
-                second: x.second,
-            };
-            let at = reply::put_refusal(out, 0, told);
-            Opening {
-                check: Err(x),
-                at: at,
-            }
-        }
+    let check = read_files(file, history, run);
+    let mut output = Output { out, at: 0 };
+    match check {
+        Ok(()) => output.header(),
+        Err(x) => output.refusal(x),
+    }
+    Opening {
+        check,
+        at: output.at,
     }
 }

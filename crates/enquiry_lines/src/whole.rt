@@ -9,12 +9,6 @@ use crate::{Fed, lines, open_basis};
 use basis_file::read;
 use factor_table::TABLE_LENGTH;
 
-fn least(a: usize, b: usize) -> usize
-    ensures { (result ≤ a) × (result ≤ b) }
-{
-    if a < b { a } else { b }
-}
-
 // The text in parts of the lengths given, as far as it goes, and then what is left of it.
 fn feed_parts(
     run: &[u8],
@@ -31,18 +25,15 @@ fn feed_parts(
 {
     let mut pending = lines::begin();
     let mut at = from;
-    let mut i: usize = 0;
-    let mut k: usize = 0;
-    while k < lengths.len() {
-        let end = i + least(lengths[k], text.len() - i);
-        let f = lines::feed(run, history, table, pending, &text[i..end], out, at);
-        let next = f.pending;
-        pending = next;
+    let mut rest = text;
+    for &length in lengths {
+        let (part, more) = rest.split_at(rest.len().min(length));
+        let f = lines::feed(run, history, table, pending, part, out, at);
+        pending = f.pending;
         at = f.at;
-        i = end;
-        k += 1;
+        rest = more;
     }
-    lines::feed(run, history, table, pending, &text[i..], out, at)
+    lines::feed(run, history, table, pending, rest, out, at)
 }
 
 // What the points program prints on a basis file, a history file and a text, into the front of `out`: 192 bytes of room for
@@ -55,8 +46,7 @@ pub fn output(file: &[u8], history: &[u8], text: &[u8], lengths: &[usize], out: 
     let mut table = [0u32; TABLE_LENGTH];
     let o = open_basis::open_files(file, history, &mut room, out);
     let at = o.at;
-    let check = o.check;
-    let Ok(()) = check else {
+    let Ok(()) = o.check else {
         return at;
     };
     let run = &room[..read::length_needed(file)];

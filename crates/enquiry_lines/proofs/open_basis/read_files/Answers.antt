@@ -1,16 +1,17 @@
 -- There is room, so that the file's own check decides; its run is accepted then, and the history's check decides. The output is written
 -- only where that has passed too.
-use mathlib.Core.Path.{◌≡◌, ap, sym, ◌∙◌}
+use mathlib.Core.Path.{◌≡◌, refl, ap, sym, ◌∙◌}
 use mathlib.Core.List.{List}
 use Prim.Native.Nat.{ℕ}
 use lib.ListN.{length, take, replicate}
+use Rattle.std.proofs.lemmas.Result.{err_from_is_err_and}
 use Rattle.basis.specs.Basis.{basis_of}
 use Rattle.outcome.proofs.Outcome.{first-passed, first-refused}
 use Rattle.lent.specs.Lent.{placed, written}
 use Rattle.lent.proofs.Lent.{put-in-front}
 use Rattle.layout.specs.Layout.{mpb2, run_length, form_of_file}
 use Rattle.basis_file.specs.File.{file_check, read_check, run_in}
-use Rattle.outcome.specs.Outcome.{Finding, passed, finding}
+use Rattle.outcome.specs.Outcome.{Finding, passed}
 use Rattle.history.specs.History.{history_check}
 use Rattle.enquiry_lines.specs.Output.{files_check}
 use Rattle.enquiry_lines.proofs.Opened.{run-is-accepted, run-in-front, read-check, room-long}
@@ -32,30 +33,31 @@ module _ (file : List ℕ) (c : Finding) (e : c ≡ read_check file zeros) where
     judged : (history : List ℕ) (h : Finding) → h ≡ history_check (basis_of (take n read)) history → h ≡ files_check file history
     judged history h f = f ∙ ap (λ (r : List ℕ). history_check (basis_of r) history) holds ∙ sym (first-passed (file_check file) _ (decides ∙ p))
 
-pub returns-in-Refused-clause-result_value : goal.returns-in-Refused-clause-result_value
-returns-in-Refused-clause-result_value c =
-    let told = ap finding c.in-Refused.is in
-    told ∙ sym (first-refused _ _ _ (decides c.args.file.now _ c.read_file-c.ensures.result_value ∙ told))
+pub returns-in_err-read_file-clause-result_value : goal.returns-in_err-read_file-clause-result_value
+returns-in_err-read_file-clause-result_value c =
+    let p = err_from_is_err_and c.from_residual.result c.from_residual.ensures.1 in
+    rw (p.1, p.2) (sym (first-refused _ _ _ (decides c.args.file.now _ c.in_err-read_file.ensures.result_value)))
 
-pub check_history-h-requires : goal.check_history-h-requires
-check_history-h-requires c =
+pub check_history-requires : goal.check_history-requires
+check_history-requires c =
     let f = c.args.file.now in
-    let r = c.read_file-c in
-    let told = ap finding c.in_default.is in
-    rw (holds f _ r.ensures.result_value told _ r.ensures.run_after _ c.length_needed.ensures) (run-is-accepted f (decides f _ r.ensures.result_value ∙ told))
+    let r = c.in_ok-read_file.ensures in
+    rw (holds f passed r.result_value refl _ r.run_after _ c.length_needed.ensures) (run-is-accepted f (decides f _ r.result_value))
 
-pub returns-in-Passed-clause-result_value : goal.returns-in-Passed-clause-result_value
-returns-in-Passed-clause-result_value c =
-    let r = c.read_file-c in
-    judged c.args.file.now _ r.ensures.result_value (ap finding c.in_default.is) _ r.ensures.run_after _ c.length_needed.ensures _ _ c.check_history-h.ensures
+pub returns-in_err-check_history-clause-result_value : goal.returns-in_err-check_history-clause-result_value
+returns-in_err-check_history-clause-result_value c =
+    let r = c.in_ok-read_file.ensures in
+    let p = err_from_is_err_and c.from_residual-in_err-check_history.result c.from_residual-in_err-check_history.ensures.1 in
+    rw (p.1, p.2)
+    (judged c.args.file.now passed r.result_value refl _ r.run_after _ c.length_needed.ensures c.args.history.now _ c.in_err-check_history.ensures)
 
-pub returns-in-Passed-clause-run_after : goal.returns-in-Passed-clause-run_after
-returns-in-Passed-clause-run_after c =
-    let r = c.read_file-c in
-    let run = holds c.args.file.now _ r.ensures.result_value (ap finding c.in_default.is) _ r.ensures.run_after _ c.length_needed.ensures in
-    c.put.ensures ∙ ap (placed _ 0) run ∙ put-in-front (finding c.check_history-h.result) _ _ (ap finding c.in-Passed.is)
+pub returns-clause-result_value : goal.returns-clause-result_value
+returns-clause-result_value c =
+    let r = c.in_ok-read_file.ensures in
+    judged c.args.file.now passed r.result_value refl _ r.run_after _ c.length_needed.ensures c.args.history.now _ c.in_ok-check_history.ensures
 
-pub returns-in_default-h-clause-result_value : goal.returns-in_default-h-clause-result_value
-returns-in_default-h-clause-result_value c =
-    let r = c.read_file-c in
-    judged c.args.file.now _ r.ensures.result_value (ap finding c.in_default.is) _ r.ensures.run_after _ c.length_needed.ensures _ _ c.check_history-h.ensures
+pub returns-clause-run_after : goal.returns-clause-run_after
+returns-clause-run_after c =
+    let r = c.in_ok-read_file.ensures in
+    let run = holds c.args.file.now passed r.result_value refl _ r.run_after _ c.length_needed.ensures in
+    c.put.ensures ∙ ap (placed _ 0) run ∙ put-in-front passed (run_in c.args.file.now) c.args.run.now refl

@@ -18,13 +18,13 @@ returns-in_default c =
 
 pub fill_table-requires : goal.fill_table-requires
 fill_table-requires c =
-    (opened-workable c.open_files-o.ensures (ap finding c.in-Passed.is) _ c.length_needed.ensures, length-replicate {A = ℕ} table_length 0)
+    (opened-workable c.open_files-o.ensures (ap finding c.in-Ok.is) _ c.length_needed.ensures, length-replicate {A = ℕ} table_length 0)
 
 pub feed_parts-f-requires : goal.feed_parts-f-requires
 feed_parts-f-requires c =
     let opened = c.open_files-o.ensures in
     record {
-      tabled = (opened-workable opened (ap finding c.in-Passed.is) _ c.length_needed.ensures, c.fill_table.ensures);
+      tabled = (opened-workable opened (ap finding c.in-Ok.is) _ c.length_needed.ensures, c.fill_table.ensures);
       room = omega arith;
       sound = sound_empty 0;
       countable = omega arith;
@@ -35,7 +35,7 @@ finish-requires c =
     let opened = c.open_files-o.ensures in
     let fed = c.feed_parts-f.ensures in
     record {
-      tabled = (opened-workable opened (ap finding c.in-Passed.is) _ c.length_needed.ensures, c.fill_table.ensures);
+      tabled = (opened-workable opened (ap finding c.in-Ok.is) _ c.length_needed.ensures, c.fill_table.ensures);
       room = omega arith;
       sound = left-sound fed;
       countable = omega (arith, left-few fed);
@@ -46,4 +46,4 @@ returns c =
     let opened = c.open_files-o.ensures in
     let fed = c.feed_parts-f.ensures in
     let all = then opened.put (being (last-reply fed) refl (then fed.put c.finish.ensures)) in
-    being (accepted-output opened c.args.text.now (ap finding c.in-Passed.is) _ c.length_needed.ensures) refl all
+    being (accepted-output opened c.args.text.now (ap finding c.in-Ok.is) _ c.length_needed.ensures) refl all
