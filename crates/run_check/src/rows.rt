@@ -207,16 +207,21 @@ fn check_proportions(run: &[u8], form: Form, offset: usize, count: usize) -> Res
     }
 }
 
-// The terms of improvement by age. Every count is known here too, which the loops are faster by.
+// The terms of improvement by age. Every count is known here too, which the loops are faster by, and the four tables are looked
+// at one after the other before any of them is asked for its refusal.
 #[tactic(auto, unfolding(field_check::specs::Field::fields_check))]
 pub(crate) fn check_age_terms(run: &[u8], form: Form) -> Result<(), Refusal>
     requires { fields_end (meant form) ≤ length run.now }
     ensures { finding result ≡ fields_check run.now (age_fields (meant form)) }
 {
-    check_rates(run, layout::AGE_INITIAL_RATES_AT, layout::AGES)?;
-    check_rates(run, layout::AGE_LONG_TERM_RATES_AT, layout::AGES)?;
-    check_periods(run, layout::AGE_PERIODS_AT, layout::AGES)?;
-    check_proportions(run, form, layout::AGE_PROPORTIONS_AT, layout::AGES)
+    let initials = check_rates(run, layout::AGE_INITIAL_RATES_AT, layout::AGES);
+    let longs = check_rates(run, layout::AGE_LONG_TERM_RATES_AT, layout::AGES);
+    let periods = check_periods(run, layout::AGE_PERIODS_AT, layout::AGES);
+    let proportions = check_proportions(run, form, layout::AGE_PROPORTIONS_AT, layout::AGES);
+    initials?;
+    longs?;
+    periods?;
+    proportions
 }
 
 // The same by birth year.
@@ -225,17 +230,21 @@ pub(crate) fn check_birth_year_terms(run: &[u8], form: Form) -> Result<(), Refus
     requires { fields_end (meant form) ≤ length run.now }
     ensures { finding result ≡ fields_check run.now (birth_year_fields (meant form)) }
 {
-    check_rates(run, birth_year_initial_rates_at(form), layout::BIRTH_YEARS)?;
-    check_rates(
+    let initials = check_rates(run, birth_year_initial_rates_at(form), layout::BIRTH_YEARS);
+    let longs = check_rates(
         run,
         birth_year_long_term_rates_at(form),
         layout::BIRTH_YEARS,
-    )?;
-    check_periods(run, birth_year_periods_at(form), layout::BIRTH_YEARS)?;
-    check_proportions(
+    );
+    let periods = check_periods(run, birth_year_periods_at(form), layout::BIRTH_YEARS);
+    let proportions = check_proportions(
         run,
         form,
         birth_year_proportions_at(form),
         layout::BIRTH_YEARS,
-    )
+    );
+    initials?;
+    longs?;
+    periods?;
+    proportions
 }
