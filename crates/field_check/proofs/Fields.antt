@@ -1,10 +1,9 @@
 -- A table of fields row by row; it passes exactly if every number of every row is between its limits. Assumes nothing.
 use mathlib.Core.Path.{◌≡◌, refl, sym, ap, ◌∙◌}
-use mathlib.Core.Bool.{Bool, ◌&&◌}
 use mathlib.Core.List.{List, [], ◌∷◌, ◌++◌}
 use Prim.Native.Nat.{ℕ}
-use Rattle.outcome.specs.Outcome.{Finding, passed, refused_by, first_of, passes}
-use Rattle.outcome.proofs.Outcome.{both-passed, both-pass, first-together}
+use Rattle.outcome.specs.Outcome.{Finding, passed, first_of}
+use Rattle.outcome.proofs.Outcome.{both-passed, first-together}
 use Rattle.field_check.specs.declared.Field.{Field}
 use Rattle.field_check.specs.Field.{field_check, fields_check}
 use Rattle.field_check.proofs.Holds.{Holds, field-holds, field-passes}
@@ -27,32 +26,8 @@ module _ (run : List ℕ) where
   all_pass none = refl
   all_pass (◌and◌ {f} {fs} h hs) = rw (field-passes run f h) (all_pass hs)
 
--- a row before others: the first refusal of both is that of the longer table
-pub row_first : (run : List ℕ) (f : Field) (fs : List Field) {c rest r : Finding}
-    → c ≡ field_check run f → rest ≡ fields_check run fs → r ≡ first_of c rest → r ≡ fields_check run (f ∷ fs)
-unfolding fields_check
-row_first run f fs e g h = h ∙ rw (e, g) refl
-
-pub no_rows : (run : List ℕ) → passed ≡ fields_check run []
-unfolding fields_check
-no_rows run = refl
-
 -- two tables, one after the other
 pub rows_join : (run : List ℕ) (fs gs : List Field) → fields_check run (fs ++ gs) ≡ first_of (fields_check run fs) (fields_check run gs)
 unfolding fields_check
 rows_join run [] gs = refl
 rows_join run (f ∷ fs) gs = ap (λ (c : Finding). first_of (field_check run f) c) (rows_join run fs gs) ∙ sym (first-together (field_check run f) _ _)
-
--- two tables pass where each does, row by row
-pub row-passes : (run : List ℕ) (f : Field) (fs : List Field) {ok rest : Bool}
-    → ok ≡ passes (field_check run f) → rest ≡ passes (fields_check run fs) → (ok && rest) ≡ passes (fields_check run (f ∷ fs))
-unfolding fields_check
-row-passes run f fs e g = both-pass (field_check run f) (fields_check run fs) e g
-
-pub last-passes : (run : List ℕ) (f : Field) {ok : Bool} → ok ≡ passes (field_check run f) → ok ≡ passes (fields_check run (f ∷ []))
-unfolding fields_check
-last-passes run f e = e ∙ by (field_check run f)
-  where
-    by : (c : Finding) → passes c ≡ passes (first_of c passed)
-    by passed = refl
-    by (refused_by r) = refl
