@@ -14,7 +14,7 @@ ghost use Rattle.layout.specs.Layout.{mpb1, mpb2, file_length};
 
 use basis_file::{read, write};
 use case_io::MOST_CASES;
-use outcome::Refusal;
+use outcome::{NO_REFUSAL, Refusal};
 use reading::read_full;
 use std::io::Read;
 
@@ -31,26 +31,42 @@ fn new_file_room() -> [u8; layout::MPB2_FILE_LENGTH]
     [0; layout::MPB2_FILE_LENGTH]
 }
 
-fn byte_or_none(s: &[u8], i: usize) -> u8 {
-    if i < s.len() { s[i] } else { 0 }
+// What a case asks for.
+#[derive(Clone, Copy)]
+enum Kind {
+    Read,
+    Write,
+    ShortForm,
+    OldForm,
 }
 
-// A byte of the file, or of its data run, and 0 beyond the end.
-fn base_byte(file: &[u8], kind: u8, i: usize) -> u8
-    requires { i < 5200 }
-{
-    if kind == 0 {
-        byte_or_none(file, i)
-    } else {
-        byte_or_none(file, 512 * (i / 506) + 2 + i % 506)
+impl From<u8> for Kind {
+    fn from(number: u8) -> Kind {
+        match number {
+            0 => Kind::Read,
+            1 => Kind::Write,
+            3 => Kind::OldForm,
+            _ => Kind::ShortForm,
+        }
     }
 }
 
-fn lay_base(file: &[u8], kind: u8, input: &mut [u8])
+// Where a byte of the file stands, or one of its data run.
+fn place_in_file(kind: Kind, i: usize) -> usize
+    requires { i < 5200 }
+{
+    match kind {
+        Kind::Read => i,
+        _ => 512 * (i / 506) + 2 + i % 506,
+    }
+}
+
+// The bytes of the file, or of its data run, and 0 beyond the end.
+fn lay_base(file: &[u8], kind: Kind, input: &mut [u8])
     requires { length input.old ≤ 5200 }
 {
-    for i in 0..input.len() {
-        input[i] = base_byte(file, kind, i);
+    for (i, byte) in input.iter_mut().enumerate() {
+        *byte = file.get(place_in_file(kind, i)).copied().unwrap_or(0);
     }
 }
 
@@ -71,51 +87,41 @@ fn patch_all(stdin: &mut impl Read, input: &mut [u8], patches: u32) {
 }
 
 fn fill(output: &mut [u8]) {
-    for i in 0..output.len() {
-        output[i] = (i % 251) as u8;
+    for (i, byte) in output.iter_mut().enumerate() {
+        *byte = (i % 251) as u8;
     }
 }
 
 // ---- a case
-fn weighed(place: usize, byte: u8) -> u32
-    requires { place < 5200 }
-{
-    (place as u32 + 1) * (byte as u32)
-}
-
 fn sum_of(output: &[u8]) -> u32
     requires { length output.now ≤ 5200 }
 {
     let mut sum: u32 = 0;
-    for i in 0..output.len() {
-        sum = sum.wrapping_add(weighed(i, output[i]));
+    for (i, byte) in output.iter().enumerate() {
+        sum = sum.wrapping_add((i as u32 + 1) * u32::from(*byte));
     }
     sum
 }
 
 // The refusal's number and places, or zeros, and the sum.
-fn print_answer(rt: &impl Print, c: Result<(), Refusal>, sum: u32) {
-    match c {
-        Ok(()) => {
-            case_io::print_numbers(rt, &[0, 0, 0, sum as u64]);
-        }
-        Err(r) => {
-            case_io::print_numbers(rt, &[r.number as u64, r.first, r.second, sum as u64]);
-        }
-    }
+fn print_answer(rt: &impl Print, answer: Result<(), Refusal>, sum: u32) {
+    let r = match answer {
+        Ok(()) => NO_REFUSAL,
+        Err(r) => r,
+    };
+    case_io::print_numbers(
+        rt,
+        &[u64::from(r.number), r.first, r.second, u64::from(sum)],
+    );
 }
 
-fn answer(kind: u8, rate: i32, input: &[u8], output: &mut [u8]) -> Result<(), Refusal> {
-    if kind == 0 {
-        return read::read_file(input, output);
+fn answer(kind: Kind, rate: i32, input: &[u8], output: &mut [u8]) -> Result<(), Refusal> {
+    match kind {
+        Kind::Read => read::read_file(input, output),
+        Kind::Write => write::write_file(input, output),
+        Kind::ShortForm => short_form::short_form(input, rate, output),
+        Kind::OldForm => old_form::write_old_form(input, output),
     }
-    if kind == 1 {
-        return write::write_file(input, output);
-    }
-    if kind == 3 {
-        return old_form::write_old_form(input, output);
-    }
-    short_form::short_form(input, rate, output)
 }
 
 fn work(
@@ -128,7 +134,7 @@ fn work(
 )
     requires { (length header.now ≡ 12) × (length input.old ≤ 5200) × (length output.old ≤ 5200) }
 {
-    let kind = header[0];
+    let kind = Kind::from(header[0]);
     lay_base(file, kind, input);
     patch_all(stdin, input, little_endian::read_u16(header, 10));
     fill(output);
@@ -159,20 +165,19 @@ fn next_case(rt: &impl Print, stdin: &mut impl Read, old: &[u8], new: &[u8]) -> 
     if read_full(stdin, &mut header) < 12 {
         return false;
     }
-    if header[1] == 0 {
-        run_case(rt, stdin, old, &header);
-    } else {
-        run_case(rt, stdin, new, &header);
-    }
+    let file = if header[1] == 0 { old } else { new };
+    run_case(rt, stdin, file, &header);
     true
 }
 
+// How many cases there are.
 fn run_cases(rt: &impl Print, stdin: &mut impl Read, old: &[u8], new: &[u8]) -> u64 {
-    let mut cases: u64 = 0;
-    while cases < MOST_CASES && next_case(rt, stdin, old, new) {
-        cases += 1;
+    for cases in 0..MOST_CASES {
+        if !next_case(rt, stdin, old, new) {
+            return cases;
+        }
     }
-    cases
+    MOST_CASES
 }
 
 fn main(rt: HostRuntime) {

@@ -13,39 +13,32 @@ use std::io::Read;
 use tables::Table;
 
 // ---- the tables
-fn wide(b: u8) -> u32 {
-    b as u32
-}
-
-fn print_sums(rt: &impl Print, length: usize, sum: u32, sums: u32) {
-    case_io::print_numbers(rt, &[length as u64, sum as u64, sums as u64]);
-}
-
 // The length of a stretch, the sum of its bytes and the sum of those sums, which tells their order.
 fn print_stretch(rt: &impl Print, stretch: &[u8]) {
     let mut sum: u32 = 0;
     let mut sums: u32 = 0;
-    for i in 0..stretch.len() {
-        sum = sum.wrapping_add(wide(stretch[i]));
+    for byte in stretch {
+        sum = sum.wrapping_add(u32::from(*byte));
         sums = sums.wrapping_add(sum);
     }
-    print_sums(rt, stretch.len(), sum, sums);
-}
-
-fn print_table(rt: &impl Print, run: &[u8], table: Table) {
-    print_stretch(rt, tables::table_of(run, table));
+    case_io::print_numbers(rt, &[stretch.len() as u64, u64::from(sum), u64::from(sums)]);
 }
 
 fn print_tables(rt: &impl Print, run: &[u8]) {
-    print_table(rt, run, Table::BaseRates);
-    print_table(rt, run, Table::AgeInitialRates);
-    print_table(rt, run, Table::AgeLongTermRates);
-    print_table(rt, run, Table::AgePeriods);
-    print_table(rt, run, Table::AgeProportions);
-    print_table(rt, run, Table::BirthYearInitialRates);
-    print_table(rt, run, Table::BirthYearLongTermRates);
-    print_table(rt, run, Table::BirthYearPeriods);
-    print_table(rt, run, Table::BirthYearProportions);
+    let tables = [
+        Table::BaseRates,
+        Table::AgeInitialRates,
+        Table::AgeLongTermRates,
+        Table::AgePeriods,
+        Table::AgeProportions,
+        Table::BirthYearInitialRates,
+        Table::BirthYearLongTermRates,
+        Table::BirthYearPeriods,
+        Table::BirthYearProportions,
+    ];
+    for table in tables {
+        print_stretch(rt, tables::table_of(run, table));
+    }
 }
 
 // ---- the lifelines
@@ -57,7 +50,7 @@ fn follow(rt: &impl Print, stdin: &mut impl Read, run: &[u8], history: &[u8]) {
     let year = little_endian::read_u32(&asked, 4);
     let steps = little_endian::read_u32(&asked, 8);
     let p = lifeline_reader::position_after(run, history, age, year, steps);
-    case_io::print_numbers(rt, &[p.age as u64, p.year as u64, p.survivors]);
+    case_io::print_numbers(rt, &[u64::from(p.age), u64::from(p.year), p.survivors]);
 }
 
 fn follow_all(rt: &impl Print, stdin: &mut impl Read, run: &[u8], history: &[u8]) {
@@ -92,8 +85,9 @@ fn next_case(rt: &impl Print, stdin: &mut impl Read) -> bool {
 
 fn main(rt: HostRuntime) {
     let mut stdin = rt.stdin();
-    let mut cases: u64 = 0;
-    while cases < MOST_CASES && next_case(&rt, &mut stdin) {
-        cases += 1;
+    for _ in 0..MOST_CASES {
+        if !next_case(&rt, &mut stdin) {
+            break;
+        }
     }
 }

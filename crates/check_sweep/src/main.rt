@@ -13,28 +13,13 @@ use case_io::MOST_CASES;
 use reading::read_full;
 use std::io::Read;
 
-fn wide(n: u32) -> u64
-    ensures { result ≤ 4294967295 }
-{
-    n as u64
-}
-
-fn weight(age: u64, number: u64) -> u64
-    requires { (age ≤ 150) × (number ≤ 4294967295) }
-    ensures { result ≤ 644245094250 }
-{
-    age * number
-}
-
 // The sum of age × number over the ages.
 fn weighed(state: &[u32]) -> u64
     requires { length state.now ≡ 131 }
 {
     let mut sum: u64 = 0;
-    let mut i: usize = 0;
-    while i < 131 {
-        sum += weight(20 + i as u64, wide(state[i]));
-        i += 1;
+    for (i, number) in state.iter().enumerate() {
+        sum += (20 + i as u64) * u64::from(*number);
     }
     sum
 }
@@ -42,7 +27,7 @@ fn weighed(state: &[u32]) -> u64
 fn print_state(rt: &impl Print, year: u32, state: &[u32])
     requires { length state.now ≡ 131 }
 {
-    case_io::print_numbers(rt, &[year as u64, weighed(state)]);
+    case_io::print_numbers(rt, &[u64::from(year), weighed(state)]);
 }
 
 // The states of all years, and the step after the last year.
@@ -50,13 +35,11 @@ fn sweep_years(rt: &impl Print, run: &[u8], history: &[u8])
     requires { Workable run.now history.now }
 {
     let mut state = sweep::start();
-    let mut year = basis::fields::base_year(run);
-    while year <= 2260 {
+    for year in basis::fields::base_year(run)..2261 {
         print_state(rt, year, &state);
         sweep::step(run, history, year, &mut state);
-        year += 1;
     }
-    print_state(rt, year, &state);
+    print_state(rt, 2261, &state);
 }
 
 fn sweep_case(rt: &impl Print, run: &[u8], history: &[u8]) {
@@ -90,8 +73,9 @@ fn read_case(rt: &impl Print, stdin: &mut impl Read, run: &mut [u8], history: &m
 
 fn main(rt: HostRuntime) {
     let mut stdin = rt.stdin();
-    let mut cases: u64 = 0;
-    while cases < MOST_CASES && next_case(&rt, &mut stdin) {
-        cases += 1;
+    for _ in 0..MOST_CASES {
+        if !next_case(&rt, &mut stdin) {
+            break;
+        }
     }
 }

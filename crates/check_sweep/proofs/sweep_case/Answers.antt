@@ -4,4 +4,4 @@ use Rattle.history.proofs.Acceptance.{accepted-workable}
 use Rattle.check_sweep.proofs.sweep_case.Goals as goal
 
 pub sweep_years-requires : goal.sweep_years-requires
-sweep_years-requires g c = accepted-workable c.args.run.now c.args.history.now (found c.check_run_and_history.ensures c.in-Passed.is)
+sweep_years-requires g c = accepted-workable c.args.run.now c.args.history.now (found c.check_run_and_history.ensures c.in-Ok.is)

@@ -1,9 +1,0 @@
--- The cases are counted up to a number, so the loop ends.
-use Prim.Native.Nat.{◌-◌, ◌≤◌}
-use Rattle.check_sweep.proofs.main.Given as goal
-
-abbrev pub invariant-loop-cases : goal.invariant-loop-cases
-invariant-loop-cases l = l.cases ≤ 1000000000000000
-
-abbrev pub decreases-loop-cases : goal.decreases-loop-cases
-decreases-loop-cases l = 1000000000000000 - l.cases
