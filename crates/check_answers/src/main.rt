@@ -7,10 +7,10 @@
 // `refused` and the refusal's number and places.
 #![tactic(auto)]
 
-ghost use Rattle.std.specs.Prelude.{◌≡◌, ◌≤◌, length, nat_abs};
+ghost use Rattle.std.specs.Prelude.{◌≡◌, ◌≤◌, length};
 
 use case_io::MOST_CASES;
-use outcome::Refusal;
+use outcome::{NO_REFUSAL, Refusal};
 use reading::read_full;
 use std::io::Read;
 use survivorship::Kind;
@@ -25,105 +25,92 @@ fn room() -> [u8; ROOM]
     [0; ROOM]
 }
 
-// Reads the number of bytes that are lent, at most those there is room for.
+// Reads the number of bytes that are lent.
 fn read_length(stdin: &mut impl Read) -> u32 {
     let mut bytes = [0u8; 4];
     read_full(stdin, &mut bytes);
-    let length = little_endian::read_u32(&bytes, 0);
-    if length < ROOM as u32 {
-        length
-    } else {
-        ROOM as u32
-    }
+    little_endian::read_u32(&bytes, 0)
 }
 
 // A stretch of the bytes; where they have no such stretch, no bytes.
 fn stretch(bytes: &[u8], start: usize, length: usize) -> &[u8]
     requires { (start ≤ 4294967295) × (length ≤ 4294967295) }
 {
-    let end = start + length;
-    if end <= bytes.len() {
-        &bytes[start..end]
-    } else {
-        &bytes[..0]
-    }
+    bytes.get(start..start + length).unwrap_or(&[])
 }
 
 // ---- a case
-fn print_answer(rt: &impl Print, a: Result<u64, Refusal>) {
-    match a {
-        Ok(n) => {
-            case_io::print_named(rt, b"value ", n);
-        }
-        Err(r) => {
-            case_io::print_refused(rt, r);
-        }
+// What a case asks for.
+#[derive(Clone, Copy)]
+enum Asked {
+    Improvement,
+    Factor,
+    Rate,
+    Survivorship(Kind),
+    Expectation(Kind),
+    Annuity(Kind),
+}
+
+// The kinds of case by their numbers.
+fn asked_of(number: u8) -> Option<Asked> {
+    match number {
+        0 => Some(Asked::Improvement),
+        1 => Some(Asked::Factor),
+        2 => Some(Asked::Rate),
+        3 => Some(Asked::Survivorship(Kind::Period)),
+        4 => Some(Asked::Survivorship(Kind::Cohort)),
+        5 => Some(Asked::Expectation(Kind::Period)),
+        6 => Some(Asked::Expectation(Kind::Cohort)),
+        7 => Some(Asked::Annuity(Kind::Period)),
+        8 => Some(Asked::Annuity(Kind::Cohort)),
+        _ => None,
     }
 }
 
-// A number without its sign. The least number has no negative of its own, so it is reached from -1 downwards.
-fn magnitude(n: i64) -> u64
-    ensures { result ≡ nat_abs n }
-{
-    if n < 0 { (-1 - n) as u64 + 1 } else { n as u64 }
+fn print_answer(rt: &impl Print, answer: Result<u64, Refusal>) {
+    match answer {
+        Ok(n) => case_io::print_named(rt, b"value ", n),
+        Err(r) => case_io::print_refused(rt, r),
+    };
 }
 
-fn print_signed(rt: &impl Print, n: i64) {
-    if n < 0 {
-        case_io::print_named(rt, b"value -", magnitude(n));
-    } else {
-        case_io::print_named(rt, b"value ", magnitude(n));
-    }
-}
-
-fn print_signed_answer(rt: &impl Print, a: Result<i64, Refusal>) {
-    match a {
-        Ok(n) => print_signed(rt, n),
-        Err(r) => {
-            case_io::print_refused(rt, r);
-        }
-    }
-}
-
-// Of a kind from 3 on: the odd ones are the period kinds.
-fn kind_of(kind: u8) -> Kind {
-    if kind % 2 == 1 {
-        Kind::Period
-    } else {
-        Kind::Cohort
-    }
+fn print_signed_answer(rt: &impl Print, answer: Result<i64, Refusal>) {
+    match answer {
+        Ok(n) if n < 0 => case_io::print_named(rt, b"value -", n.unsigned_abs()),
+        Ok(n) => case_io::print_named(rt, b"value ", n.unsigned_abs()),
+        Err(r) => case_io::print_refused(rt, r),
+    };
 }
 
 // A kind that is not there is answered by a refusal that no rule has.
-fn answer(run: &[u8], history: &[u8], kind: u8, age: u32, deferment: u32, year: u32) -> Result<u64, Refusal> {
-    match kind {
-        1 => enquiry::cells::factor(run, history, age, year),
-        2 => enquiry::cells::rate(run, history, age, year),
-        3 | 4 => enquiry::values::survivorship(run, history, kind_of(kind), age, deferment, year),
-        5 | 6 => enquiry::values::expectation(run, history, kind_of(kind), age, deferment, year),
-        7 | 8 => enquiry::values::annuity(run, history, kind_of(kind), age, deferment, year),
-        _ => Err(Refusal {
-            number: 0,
-            first: 0,
-            second: 0,
-        }),
-    }
-}
-
 fn run_case(
     rt: &impl Print,
     run: &[u8],
     history: &[u8],
-    kind: u8,
+    asked: Option<Asked>,
     age: u32,
     deferment: u32,
     year: u32,
 ) {
-    if kind == 0 {
-        print_signed_answer(rt, enquiry::cells::improvement(run, history, age, year));
-    } else {
-        print_answer(rt, answer(run, history, kind, age, deferment, year));
-    }
+    let answer = match asked {
+        Some(Asked::Improvement) => {
+            print_signed_answer(rt, enquiry::cells::improvement(run, history, age, year));
+            return;
+        }
+        Some(Asked::Factor) => enquiry::cells::factor(run, history, age, year),
+        Some(Asked::Rate) => enquiry::cells::rate(run, history, age, year),
+        Some(Asked::Survivorship(kind)) => {
+            enquiry::values::survivorship(run, history, kind, age, deferment, year)
+        }
+        Some(Asked::Expectation(kind)) => {
+            enquiry::values::expectation(run, history, kind, age, deferment, year)
+        }
+        Some(Asked::Annuity(kind)) => {
+            enquiry::values::annuity(run, history, kind, age, deferment, year)
+        }
+        None => Err(NO_REFUSAL),
+    };
+    print_answer(rt, answer);
 }
 
 // Reads a case and works it; false at the end of the input.
@@ -141,16 +128,18 @@ fn next_case(rt: &impl Print, stdin: &mut impl Read, lent: &[u8]) -> bool {
     let history_length = little_endian::read_u32(&asked, 25);
     let run = stretch(lent, start as usize, length as usize);
     let history = stretch(lent, history_start as usize, history_length as usize);
-    run_case(rt, run, history, asked[0], age, deferment, year);
+    run_case(rt, run, history, asked_of(asked[0]), age, deferment, year);
     true
 }
 
+// How many cases there are.
 fn run_cases(rt: &impl Print, stdin: &mut impl Read, lent: &[u8]) -> u64 {
-    let mut cases: u64 = 0;
-    while cases < MOST_CASES && next_case(rt, stdin, lent) {
-        cases += 1;
+    for cases in 0..MOST_CASES {
+        if !next_case(rt, stdin, lent) {
+            return cases;
+        }
     }
-    cases
+    MOST_CASES
 }
 
 fn work(rt: &impl Print, stdin: &mut impl Read, lent: &mut [u8]) {
