@@ -1,7 +1,8 @@
 -- The list of the grid record by record, and what its checks say once they have passed. Nothing here is about the machine.
 use mathlib.Core.Path.{◌≡◌, refl, ap, sym}
 use mathlib.Core.List.{List, [], ◌∷◌, ◌++◌}
-use Prim.Native.Nat.{ℕ, zero, suc, ◌≤◌, ◌<◌, zero-le}
+use Prim.Native.Nat.{ℕ, zero, suc, ◌+◌, ◌≤◌, ◌<◌, zero-le}
+use native.Mathlib.Numerals.{add-one}
 use native.Mathlib.Nat.{not-suc-le-zero, le_of_suc-le-suc}
 use lib.Dec.{leb}
 use lib.ListN.{length, get_or, set, take, drop}
@@ -24,12 +25,16 @@ module _ (b : Basis) where
   answers-none points = refl
 
   -- one more record is answered
-  pub answers_set : (i : ℕ) (points : List Point) (past : Point) → i < length points
+  answers_set : (i : ℕ) (points : List Point) (past : Point) → i < length points
       → set (answers b i points) i (answered_of b (get_or (answers b i points) i past)) ≡ answers b (suc i) points
   unfolding answers
   answers_set i [] past h = absurd (not-suc-le-zero h)
   answers_set zero (p ∷ points) past h = refl
   answers_set (suc i) (p ∷ points) past h = ap (λ (rest : List Point). answered_of b p ∷ rest) (answers_set i points past (le_of_suc-le-suc h))
+
+  pub answers_turn : (points : List Point) (past : Point) {i : ℕ} {records : List Point} {p : Point} → records ≡ answers b i points → i < length points
+      → p ≡ answered_of b (get_or records i past) → set records i p ≡ answers b (i + 1) points
+  answers_turn points past {i} h l e = rw (e, h, add-one) (answers_set i points past l)
 
   -- the records behind those that are answered are kept
   pub answers_front : (n : ℕ) (points : List Point) → answers b n (take n points) ++ drop n points ≡ answers b n points

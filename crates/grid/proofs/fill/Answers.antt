@@ -1,15 +1,10 @@
 -- What the checks let pass is all that the table and the records ask for; each turn answers one record more, and a refusal changes none.
-use Rattle.std.proofs.Common.{◌≡◌, ◌∙◌, ap, sym, subst, rules, ℕ, ◌+◌, List, [], ◌++◌, get_or, set, arith, add-one, length-take, take, drop}
+use Rattle.std.proofs.Common.{◌≡◌, ◌∙◌, ap, sym, rules, ℕ, List, ◌++◌, arith, length-take, take, drop}
 use Rattle.history.specs.History.{basis_with}
 use Rattle.grid_record.specs.declared.Point.{Point}
-use Rattle.grid_record.specs.Record.{answered_of}
 use Rattle.grid.specs.Grid.{answers}
-use Rattle.grid.proofs.Filled.{answers-none, answers_set, answers_front, grid-filled, grid-kept, enough_records}
+use Rattle.grid.proofs.Filled.{answers-none, answers_turn, answers_front, grid-filled, grid-kept, enough_records}
 use Rattle.grid.proofs.fill.Goals as goal
-
--- what stands past the end of a list of records: any record serves
-abbrev blank : Point
-blank = record { age = 0; deferment = 0; year = 0; refusal = 0; results = []; first = 0; second = 0 }
 
 pub returns-in_err-check_grid-clause-points_after : goal.returns-in_err-check_grid-clause-points_after
 returns-in_err-check_grid-clause-points_after c = grid-kept _ _ _ c.in_err-check_grid.ensures
@@ -29,13 +24,7 @@ offset_bounds-p-items-p-index c =
     record { fits = omega (arith, most) }
 
 pub loop-p-preserved : goal.loop-p-preserved
-loop-p-preserved c =
-    let b = basis_with c.args.run.now c.args.history.now in
-    let i = c.loop-p.p-index in
-    let asked = take 119 c.args.points.now in
-    let here = answers_set b i asked blank c.loop-p-test.true ∙ ap (λ (k : ℕ). answers b k asked) (sym (add-one i)) in
-    ap (λ (p : Point). set c.loop-p.p-items i p) c.swept_record.ensures
-    ∙ subst (λ (points : List Point). set points i (answered_of b (get_or points i blank)) ≡ answers b (i + 1) asked) (sym c.loop-p.invariant) here
+loop-p-preserved c = answers_turn _ _ _ c.loop-p.invariant c.loop-p-test.true c.swept_record.ensures
 
 pub returns-clause-points_after : goal.returns-clause-points_after
 returns-clause-points_after c =
