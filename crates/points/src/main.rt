@@ -3,7 +3,7 @@
 #![tactic(auto)]
 
 ghost use Rattle.std.specs.Prelude.{◌≡◌, ◌+◌, ◌*◌, ◌≤◌, ◌<◌, List, ℕ, IfSome, length, take};
-ghost use Rattle.std.specs.Bool.{IsTrue, OnTrue, OnFalse};
+ghost use Rattle.std.specs.Bool.{OnTrue};
 ghost use Rattle.std.specs.Io.KnownBytes.{Appends};
 ghost use Rattle.layout.specs.Layout.{mpb2, run_length, file_length};
 ghost use Rattle.history.specs.History.{Workable, basis_with};
@@ -21,14 +21,15 @@ use std::fs::File;
 use std::io::{Error, ErrorKind, Read, Write};
 use std::rt::Files;
 
-// What a block leaves: the unfinished line, whether it was the last block, and whether it was read and its replies were
-// written.
-#[derive(Drop)]
+// What a block leaves that was read and whose replies were written: the unfinished line, and whether it was the last block.
+#[derive(Clone, Copy)]
 struct Turn {
     pending: Pending,
     is_last: bool,
-    is_whole: bool,
 }
+
+// A number of blocks that no input has.
+const MOST_BLOCKS: u64 = 1_000_000_000_000_000;
 
 // One byte longer than the longest basis file: of a longer file so much is read that its length is refused.
 const FILE_ROOM: usize = layout::MPB2_FILE_LENGTH + 1;
@@ -131,8 +132,8 @@ fn write_out<W: Write>(rt: &impl Eprint, output: &mut W, part: &[u8]) -> bool
     }
 }
 
-// Reads a block and answers the lines that end in it; `blocks` more can follow. The last block is empty, or one that cannot
-// be read or whose replies are not taken: then no further line is answered, and standard error says so.
+// Reads a block and answers the lines that end in it; `blocks` more can follow. The last block is empty. None, if it cannot
+// be read or its replies are not taken: then no further line is answered, and standard error says so.
 fn answer_block<I: Read, W: Write>(
     rt: &impl Eprint,
     input: &mut I,
@@ -144,36 +145,32 @@ fn answer_block<I: Read, W: Write>(
     part: &mut [u8],
     out: &mut [u8],
     blocks: u64,
-) -> Turn
+) -> Option<Turn>
     requires { ReadyForBlocks run.now history.now table.now s (blocks + 1) part.old out.old }
-    ensures ready { ReadyForBlocks run.now history.now table.now result.pending blocks part.new out.new }
-    ensures whole { OnFalse result.is_last (IsTrue result.is_whole) }
-    ensures answered { OnTrue result.is_whole (BlockAnswered (basis_with run.now history.now) s part.old
-        (I.remaining input.old) (I.remaining input.new) (W.contents output.old) (W.contents output.new) result) }
+    ensures ready { IfSome result (λ t. ReadyForBlocks run.now history.now table.now t.pending blocks part.new out.new) }
+    ensures answered { IfSome result (λ t. BlockAnswered (basis_with run.now history.now) s part.old
+        (I.remaining input.old) (I.remaining input.new) (W.contents output.old) (W.contents output.new) t) }
 {
     let n = match input.read(part) {
         Ok(n) => n,
         Err(error) => {
             tell(rt, "points: the input is not whole; standard input", error);
-            return Turn {
-                pending: s,
-                is_last: true,
-                is_whole: false,
-            };
+            return None;
         }
     };
     let f = lines::feed(run, history, table, s, &part[..n], out, 0);
     let at = f.at;
-    let is_written = write_out(rt, output, &out[..at]);
-    let pending = f.pending;
-    Turn {
-        pending: pending,
-        is_last: n == 0 || !is_written,
-        is_whole: is_written,
+    if !write_out(rt, output, &out[..at]) {
+        return None;
     }
+    Some(Turn {
+        pending: f.pending,
+        is_last: n == 0,
+    })
 }
 
-// Nothing says that the input ends, so the blocks are counted down from a number that no run uses up.
+// All blocks, and the unfinished line behind them, if they were read and their replies were written. Nothing says that the
+// input ends, so the blocks are counted down from a number that no run uses up.
 fn answer_blocks<I: Read, W: Write>(
     rt: &impl Eprint,
     input: &mut I,
@@ -183,32 +180,23 @@ fn answer_blocks<I: Read, W: Write>(
     table: &[u32],
     part: &mut [u8],
     out: &mut [u8],
-) -> Turn
+) -> Option<Pending>
     requires { ReadyForBlocks run.now history.now table.now (empty_after 0) 1000000000000000 part.old out.old }
-    ensures ready { Ready run.now history.now table.now result.pending 1024 out.new 0 }
-    ensures answered { OnTrue result.is_whole (BlocksAnswered (basis_with run.now history.now) part.old
-        (I.remaining input.old) (I.remaining input.new) (W.contents output.old) (W.contents output.new) result.pending) }
+    ensures ready { IfSome result (λ s. Ready run.now history.now table.now s 1024 out.new 0) }
+    ensures answered { IfSome result (λ s. BlocksAnswered (basis_with run.now history.now) part.old
+        (I.remaining input.old) (I.remaining input.new) (W.contents output.old) (W.contents output.new) s) }
 {
     let mut pending = lines::begin();
-    let mut is_whole = true;
-    let mut blocks: u64 = 1_000_000_000_000_000;
-    while 0 < blocks {
-        blocks -= 1;
+    for blocks in (0..MOST_BLOCKS).rev() {
         let t = answer_block(
             rt, input, output, run, history, table, pending, part, out, blocks,
-        );
-        let next = t.pending;
-        pending = next;
-        is_whole = t.is_whole;
+        )?;
+        pending = t.pending;
         if t.is_last {
             break;
         }
     }
-    Turn {
-        pending: pending,
-        is_last: true,
-        is_whole: is_whole,
-    }
+    Some(pending)
 }
 
 // All of standard input: its blocks, then a last line that lacks its byte 10. The basis stays the same, so that the factors
@@ -229,11 +217,10 @@ fn answer_input<I: Read, W: Write>(
         Appends (W.contents output.old) (W.contents output.new) (replies (basis_with run.now history.now) 1 (lines_of text)))) }
 {
     factor_table::fill_table(run, history, table);
-    let t = answer_blocks(rt, input, output, run, history, table, part, out);
-    if !t.is_whole {
+    let Some(pending) = answer_blocks(rt, input, output, run, history, table, part, out) else {
         return false;
-    }
-    let at = lines::finish(run, history, table, t.pending, out, 0);
+    };
+    let at = lines::finish(run, history, table, pending, out, 0);
     write_out(rt, output, &out[..at])
 }
 
@@ -254,8 +241,7 @@ fn answer<I: Read, W: Write>(
     let o = open_basis::open_files(file, history, &mut run, &mut out);
     let at = o.at;
     let is_written = write_out(rt, output, &out[..at]);
-    let check = o.check;
-    let Ok(()) = check else {
+    let Ok(()) = o.check else {
         return is_written;
     };
     if !is_written {

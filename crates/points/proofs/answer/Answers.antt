@@ -13,7 +13,7 @@ use Rattle.points.proofs.answer.Goals as goal
 
 pub answer_input-requires-clause-workable : goal.answer_input-requires-clause-workable
 answer_input-requires-clause-workable g c =
-    (opened-workable c.open_files-o.ensures (ap finding c.in-Passed.is) _ c.length_needed-length.ensures, sym c.table_room-table.ensures)
+    (opened-workable c.open_files-o.ensures (ap finding c.in-Ok.is) _ c.length_needed-length.ensures, sym c.table_room-table.ensures)
 
 pub returns-in_default : goal.returns-in_default
 returns-in_default g c =
@@ -27,4 +27,4 @@ returns g c =
     let is : w.result ≡ true = search rules in
     let a = c.answer_input in
     accepted-answered c.open_files-o.ensures (g.I.Read.remaining c.args.input.now) (g.W.Write.contents c.args.output.now) (g.W.Write.contents w.new.output) a.result
-    (g.W.Write.contents a.new.output) (ap finding c.in-Passed.is) _ c.length_needed-length.ensures (at-true _ is w.ensures) (length c.block_room-part.result) (omega (arith, c.block_room-part.ensures)) a.ensures
+    (g.W.Write.contents a.new.output) (ap finding c.in-Ok.is) _ c.length_needed-length.ensures (at-true _ is w.ensures) (length c.block_room-part.result) (omega (arith, c.block_room-part.ensures)) a.ensures

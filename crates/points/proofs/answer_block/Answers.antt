@@ -24,8 +24,5 @@ fed r a few same whole =
       among = omega arith;
     }
 
-pub returns-then-n-eq0-clause-ready : goal.returns-then-n-eq0-clause-ready
-returns-then-n-eq0-clause-ready g c = fed c.requires c.feed-f.ensures (omega (arith, c.in-Ok.ensures.bound)) (omega arith) (omega arith)
-
-pub returns-else-n-eq0-clause-ready : goal.returns-else-n-eq0-clause-ready
-returns-else-n-eq0-clause-ready g c = fed c.requires c.feed-f.ensures (omega (arith, c.in-Ok.ensures.bound)) (omega arith) (omega arith)
+pub returns-clause-ready : goal.returns-clause-ready
+returns-clause-ready g c = fed c.requires c.feed-f.ensures (omega (arith, c.in-Ok.ensures.bound)) (omega arith) (omega arith)

@@ -4,7 +4,6 @@ use Prim.Native.Nat.{ℕ, ◌+◌, ◌≤◌}
 use mathlib.Core.List.{List}
 use lib.ListN.{length}
 use Rattle.std.proofs.Common.{Option}
-use Rattle.std.specs.Bool.{IsTrue}
 use Rattle.basis.specs.Basis.{Basis}
 use Rattle.history.specs.History.{basis_with}
 use Rattle.enquiry_lines.specs.State.{empty_after}
@@ -20,8 +19,5 @@ pub record SoFar (basis : Basis) (given left held holds : Option (List ℕ)) (s 
 
 abbrev pub invariant-loop-blocks : goal.invariant-loop-blocks
 invariant-loop-blocks g l =
-    (length l.part ≡ length l.initial.part) × (length l.out ≡ length l.initial.out) × ReadyForBlocks l.run l.history l.table l.pending l.blocks l.part l.out × IsTrue l.is_whole
+    (length l.part ≡ length l.initial.part) × (length l.out ≡ length l.initial.out) × ReadyForBlocks l.run l.history l.table l.pending l.blocks l.part l.out
     × SoFar (basis_with l.run l.history) (g.I.Read.remaining l.initial.input) (g.I.Read.remaining l.input) (g.W.Write.contents l.initial.output) (g.W.Write.contents l.output) l.pending l.blocks
-
-abbrev pub decreases-loop-blocks : goal.decreases-loop-blocks
-decreases-loop-blocks g l = l.blocks
