@@ -1,4 +1,5 @@
-// What the programs that run the cases of the reference model share: room for a basis and a history, and the lines they print.
+// What the programs that run the cases of the reference model share: the count of the cases, room for a basis and a history, and
+// the lines they print.
 #![tactic(auto)]
 
 ghost use Rattle.std.specs.Prelude.{◌≡◌, ◌≤◌, length, cond};
@@ -9,7 +10,20 @@ use outcome::Refusal;
 use reply_text::{Output, ReplyText};
 
 // Nothing says that the input ends, so the cases are counted up to this number, which no run reaches.
-pub const MOST_CASES: u64 = 1_000_000_000_000_000;
+const MOST_CASES: u64 = 1_000_000_000_000_000;
+
+// How many cases there are: `next` runs one, and says whether it was there.
+pub fn count_cases<F: FnMut() -> bool>(mut next: F) -> u64
+    requires { F.IsAlwaysCallable next }
+    ensures { result ≤ 1_000_000_000_000_000 }
+{
+    for cases in 0..MOST_CASES {
+        if !next() {
+            return cases;
+        }
+    }
+    MOST_CASES
+}
 
 // Room for a file or a data run of either form, and for one that is too long.
 pub fn basis_room() -> [u8; 5200]

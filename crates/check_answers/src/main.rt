@@ -9,7 +9,6 @@
 
 ghost use Rattle.std.specs.Prelude.{◌≡◌, ◌≤◌, length};
 
-use case_io::MOST_CASES;
 use outcome::{NO_REFUSAL, Refusal};
 use reading::read_full;
 use std::io::Read;
@@ -134,12 +133,7 @@ fn next_case(rt: &impl Print, stdin: &mut impl Read, lent: &[u8]) -> bool {
 
 // How many cases there are.
 fn run_cases(rt: &impl Print, stdin: &mut impl Read, lent: &[u8]) -> u64 {
-    for cases in 0..MOST_CASES {
-        if !next_case(rt, stdin, lent) {
-            return cases;
-        }
-    }
-    MOST_CASES
+    case_io::count_cases(|| next_case(rt, stdin, lent))
 }
 
 fn work(rt: &impl Print, stdin: &mut impl Read, lent: &mut [u8]) {

@@ -13,7 +13,6 @@ ghost use Rattle.std.specs.Prelude.{◌≡◌, ◌<◌, ◌≤◌, length};
 ghost use Rattle.layout.specs.Layout.{mpb1, mpb2, file_length};
 
 use basis_file::{read, write};
-use case_io::MOST_CASES;
 use outcome::{NO_REFUSAL, Refusal};
 use reading::read_full;
 use std::io::Read;
@@ -172,12 +171,7 @@ fn next_case(rt: &impl Print, stdin: &mut impl Read, old: &[u8], new: &[u8]) -> 
 
 // How many cases there are.
 fn run_cases(rt: &impl Print, stdin: &mut impl Read, old: &[u8], new: &[u8]) -> u64 {
-    for cases in 0..MOST_CASES {
-        if !next_case(rt, stdin, old, new) {
-            return cases;
-        }
-    }
-    MOST_CASES
+    case_io::count_cases(|| next_case(rt, stdin, old, new))
 }
 
 fn main(rt: HostRuntime) {

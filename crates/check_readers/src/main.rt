@@ -7,7 +7,6 @@
 // survivors.
 #![tactic(auto)]
 
-use case_io::MOST_CASES;
 use reading::read_full;
 use std::io::Read;
 use tables::Table;
@@ -85,9 +84,5 @@ fn next_case(rt: &impl Print, stdin: &mut impl Read) -> bool {
 
 fn main(rt: HostRuntime) {
     let mut stdin = rt.stdin();
-    for _ in 0..MOST_CASES {
-        if !next_case(&rt, &mut stdin) {
-            break;
-        }
-    }
+    case_io::count_cases(|| next_case(&rt, &mut stdin));
 }

@@ -9,7 +9,6 @@
 ghost use Rattle.std.specs.Prelude.{◌≡◌, ◌≤◌, length};
 ghost use Rattle.history.specs.History.{Workable};
 
-use case_io::MOST_CASES;
 use reading::read_full;
 use std::io::Read;
 
@@ -73,9 +72,5 @@ fn read_case(rt: &impl Print, stdin: &mut impl Read, run: &mut [u8], history: &m
 
 fn main(rt: HostRuntime) {
     let mut stdin = rt.stdin();
-    for _ in 0..MOST_CASES {
-        if !next_case(&rt, &mut stdin) {
-            break;
-        }
-    }
+    case_io::count_cases(|| next_case(&rt, &mut stdin));
 }
