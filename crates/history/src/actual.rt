@@ -1,7 +1,9 @@
 // The actual improvements of an accepted history. They are read where they stand in the file, as its blocks are not joined.
 ghost use Rattle.std.specs.Prelude.{◌≡◌, cond, ◌+◌, ◌*◌, ◌-◌, ◌≤◌, ◌<◌, leb};
 ghost use Rattle.basis.specs.Basis.{basis_of};
-ghost use Rattle.history.specs.History.{actual_of, Workable};
+ghost use Rattle.history.specs.History.{actual_of};
+
+use crate::LentBasis;
 
 // Where an age stands in the two blocks of a year.
 fn place_in_blocks(age: u32) -> usize
@@ -16,10 +18,10 @@ fn place_in_blocks(age: u32) -> usize
 }
 
 // The actual improvement at an age in a year from B + 1 to F.
-pub fn actual_improvement(run: &[u8], history: &[u8], age: u32, year: u32) -> i32
-    requires { Workable run.now history.now × (20 ≤ age) × (age ≤ 150) × ((basis_of run.now).base < year) × (year ≤ (basis_of run.now).foundation) }
-    ensures { result ≡ actual_of (basis_of run.now) history.now age year }
+pub fn actual_improvement(b: LentBasis, age: u32, year: u32) -> i32
+    requires { (20 ≤ age) × (age ≤ 150) × ((basis_of b.run.now).base < year) × (year ≤ (basis_of b.run.now).foundation) }
+    ensures { result ≡ actual_of (basis_of b.entry.run.now) b.entry.history.now age year }
 {
-    let years = (year - basis::fields::base_year(run) - 1) as usize;
-    little_endian::read_i32(history, 1024 * years + place_in_blocks(age))
+    let years = (year - basis::fields::base_year(b.run) - 1) as usize;
+    little_endian::read_i32(b.history, 1024 * years + place_in_blocks(age))
 }

@@ -5,12 +5,13 @@
 ghost use Rattle.std.specs.Prelude.{◌≡◌, ◌+ℤ◌};
 ghost use Rattle.arithmetic.specs.Fraction.{◌+ᶠ◌, round};
 ghost use Rattle.basis.specs.Basis.{basis_of, Accepted, ConvergenceLimits};
-ghost use Rattle.history.specs.History.{basis_with};
+ghost use Rattle.history.specs.Held.{held};
 ghost use Rattle.outcome.specs.Outcome.{signed_meaning};
 ghost use Rattle.component.specs.Component.{component_of};
 ghost use Rattle.improvement.specs.Improvement.{addition_of, birth_terms, projected_of, is_actual, first_year, improvement_of, improvement_needed, usable};
 ghost use Rattle.improvement.specs.Checked.{ImprovedCell, ProjectedCell};
 
+use history::LentBasis;
 use basis::Convergence;
 use outcome::{Reason, Refusal};
 
@@ -68,14 +69,14 @@ fn is_actual(run: &[u8], year: u32) -> bool
 
 // The improvement at an age, whose terms the caller has read, in a year that has one.
 #[tactic(auto, using(crate::proofs::Cases::projected_with), unfolding(crate::specs::Improvement::improvement_of, crate::specs::Improvement::first_year))]
-pub fn improvement_at(run: &[u8], history: &[u8], terms: Convergence, age: u32, year: u32) -> i64
-    requires { ImprovedCell run.now history.now age year × (terms ≡ (basis_of run.now).by_age age) }
-    ensures { result ≡ improvement_of (basis_with run.now history.now) age year }
+pub fn improvement_at(b: LentBasis, terms: Convergence, age: u32, year: u32) -> i64
+    requires { ImprovedCell b.run.now b.history.now age year × (terms ≡ (basis_of b.run.now).by_age age) }
+    ensures { result ≡ improvement_of (held b.entry) age year }
 {
-    if is_actual(run, year) {
-        i64::from(history::actual::actual_improvement(run, history, age, year))
+    if is_actual(b.run, year) {
+        i64::from(history::actual::actual_improvement(b, age, year))
     } else {
-        projected_at(run, terms, age, year)
+        projected_at(b.run, terms, age, year)
     }
 }
 
@@ -108,10 +109,10 @@ pub fn checked_improvement(age: u32, year: u32, improvement: i64) -> Result<i64,
 }
 
 // The improvement at an age in a year that has one, with refusal 9.
-pub fn improvement_needed(run: &[u8], history: &[u8], age: u32, year: u32) -> Result<i64, Refusal>
-    requires { ImprovedCell run.now history.now age year }
-    ensures { signed_meaning result ≡ improvement_needed age year (improvement_of (basis_with run.now history.now) age year) }
+pub fn improvement_needed(b: LentBasis, age: u32, year: u32) -> Result<i64, Refusal>
+    requires { ImprovedCell b.run.now b.history.now age year }
+    ensures { signed_meaning result ≡ improvement_needed age year (improvement_of (held b.entry) age year) }
 {
-    let terms = basis::fields::age_terms(run, age);
-    checked_improvement(age, year, improvement_at(run, history, terms, age, year))
+    let terms = basis::fields::age_terms(b.run, age);
+    checked_improvement(age, year, improvement_at(b, terms, age, year))
 }

@@ -1,12 +1,13 @@
 // The reduction factor at an age: U in year B, then reduced year by year by the improvements of that age.
 ghost use Rattle.std.specs.Prelude.{◌≡◌, ◌≤◌, pos, nat_abs};
 ghost use Rattle.history.specs.Checked.{Cell};
-ghost use Rattle.history.specs.History.{basis_with};
+ghost use Rattle.history.specs.Held.{held};
 ghost use Rattle.outcome.specs.Outcome.{meaning};
 ghost use Rattle.improvement.specs.Improvement.{improvement_of};
 ghost use Rattle.improvement.specs.Checked.{ImprovedCell};
 ghost use Rattle.projection.specs.Projection.{factor_next, factor_needed, factor_from, factor_of};
 
+use history::LentBasis;
 use arithmetic::UNIT;
 use basis::Convergence;
 use outcome::{Reason, Refusal};
@@ -44,35 +45,34 @@ fn factor_from(age: u32, year: u32, improvement: i64, factor: u64) -> Result<u64
 
 // The same at an age whose terms the caller has read.
 pub fn factor_in(
-    run: &[u8],
-    history: &[u8],
+    b: LentBasis,
     terms: Convergence,
     age: u32,
     year: u32,
     factor: u64,
 ) -> Result<u64, Refusal>
-    requires { ImprovedCell run.now history.now age year × (terms ≡ (basis_with run.now history.now).by_age age) × (factor ≤ 4_000_000_000) }
-    ensures { meaning result ≡ factor_from age year (improvement_of (basis_with run.now history.now) age year) (pos factor) }
+    requires { ImprovedCell b.run.now b.history.now age year × (terms ≡ (held b).by_age age) × (factor ≤ 4_000_000_000) }
+    ensures { meaning result ≡ factor_from age year (improvement_of (held b.entry) age year) (pos factor) }
 {
     factor_from(
         age,
         year,
-        improvement::improvement_at(run, history, terms, age, year),
+        improvement::improvement_at(b, terms, age, year),
         factor,
     )
 }
 
 // The factor at an age in a year from B on.
-pub fn factor_at(run: &[u8], history: &[u8], age: u32, year: u32) -> Result<u64, Refusal>
-    requires { Cell run.now history.now age year }
-    ensures { meaning result ≡ factor_of (basis_with run.now history.now) age year }
+pub fn factor_at(b: LentBasis, age: u32, year: u32) -> Result<u64, Refusal>
+    requires { Cell b.run.now b.history.now age year }
+    ensures { meaning result ≡ factor_of (held b.entry) age year }
 {
-    let terms = basis::fields::age_terms(run, age);
-    let base = basis::fields::base_year(run);
+    let terms = basis::fields::age_terms(b.run, age);
+    let base = basis::fields::base_year(b.run);
     let years = year - base;
     let mut factor = UNIT;
     for k in 0..years {
-        factor = factor_in(run, history, terms, age, base + 1 + k, factor)?;
+        factor = factor_in(b, terms, age, base + 1 + k, factor)?;
     }
     Ok(factor)
 }

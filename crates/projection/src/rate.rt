@@ -3,10 +3,11 @@ ghost use Rattle.std.specs.Prelude.{◌≡◌, ◌≤◌, pos};
 ghost use Rattle.basis.specs.Basis.{basis_of, Accepted};
 ghost use Rattle.outcome.specs.Outcome.{value, and_then, meaning};
 ghost use Rattle.history.specs.Checked.{Cell};
-ghost use Rattle.history.specs.History.{basis_with};
+ghost use Rattle.history.specs.Held.{held};
 ghost use Rattle.projection.specs.Bounded.{AtMost};
 ghost use Rattle.projection.specs.Projection.{rate_from, rate_of};
 
+use history::LentBasis;
 use crate::factor;
 use arithmetic::UNIT;
 use outcome::Refusal;
@@ -30,9 +31,9 @@ pub fn rate_by(run: &[u8], age: u32, factor: Result<u64, Refusal>) -> Result<u64
 
 // The mortality rate at an age in a year from B on.
 #[tactic(auto, using(crate::proofs::Years::factor_small), unfolding(crate::specs::Projection::rate_of))]
-pub fn rate_at(run: &[u8], history: &[u8], age: u32, year: u32) -> Result<u64, Refusal>
-    requires { Cell run.now history.now age year }
-    ensures { meaning result ≡ rate_of (basis_with run.now history.now) age year }
+pub fn rate_at(b: LentBasis, age: u32, year: u32) -> Result<u64, Refusal>
+    requires { Cell b.run.now b.history.now age year }
+    ensures { meaning result ≡ rate_of (held b.entry) age year }
 {
-    rate_by(run, age, factor::factor_at(run, history, age, year))
+    rate_by(b.run, age, factor::factor_at(b, age, year))
 }

@@ -3,11 +3,12 @@
 
 ghost use Rattle.std.specs.Prelude.{◌≡◌, ◌+◌, ◌≤◌, pos};
 ghost use Rattle.history.specs.Checked.{Cell, Life};
-ghost use Rattle.history.specs.History.{basis_with};
+ghost use Rattle.history.specs.Held.{held};
 ghost use Rattle.outcome.specs.Outcome.{value, and_then, meaning};
 ghost use Rattle.projection.specs.Bounded.{AtMost};
 ghost use Rattle.survivorship.specs.Survivorship.{year_on, survivors_next, survivors_after_year, survivors_of};
 
+use history::LentBasis;
 use arithmetic::UNIT;
 use outcome::Refusal;
 
@@ -48,33 +49,31 @@ pub fn survivors_by(rate: Result<u64, Refusal>, s: u64) -> Result<u64, Refusal>
 // The same at an age in a year from B on.
 #[tactic(auto, using(projection::proofs::Years::rate_at_most), unfolding(crate::specs::Survivorship::survivors_after_year))]
 pub fn survivors_after_year(
-    run: &[u8],
-    history: &[u8],
+    b: LentBasis,
     age: u32,
     year: u32,
     s: u64,
 ) -> Result<u64, Refusal>
-    requires { Cell run.now history.now age year × (s ≤ 1_000_000_000) }
-    ensures { meaning result ≡ survivors_after_year (basis_with run.now history.now) age year (pos s) }
+    requires { Cell b.run.now b.history.now age year × (s ≤ 1_000_000_000) }
+    ensures { meaning result ≡ survivors_after_year (held b.entry) age year (pos s) }
 {
-    survivors_by(projection::rate::rate_at(run, history, age, year), s)
+    survivors_by(projection::rate::rate_at(b, age, year), s)
 }
 
 // The survivors after n years.
 pub fn survivors_at(
-    run: &[u8],
-    history: &[u8],
+    b: LentBasis,
     kind: Kind,
     age: u32,
     n: u32,
     year: u32,
 ) -> Result<u64, Refusal>
-    requires { Life run.now history.now age n year }
-    ensures { meaning result ≡ survivors_of (basis_with run.now history.now) kind age n year }
+    requires { Life b.run.now b.history.now age n year }
+    ensures { meaning result ≡ survivors_of (held b.entry) kind age n year }
 {
     let mut s = UNIT;
     for j in 0..n {
-        s = survivors_after_year(run, history, age + j, year_on(kind, j, year), s)?;
+        s = survivors_after_year(b, age + j, year_on(kind, j, year), s)?;
     }
     Ok(s)
 }

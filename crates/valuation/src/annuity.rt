@@ -3,10 +3,11 @@ ghost use Rattle.std.specs.Prelude.{◌≡◌, ◌+◌, ◌≤◌, pos};
 ghost use Rattle.basis.specs.Basis.{basis_of, Accepted};
 ghost use Rattle.outcome.specs.Outcome.{meaning, value};
 ghost use Rattle.history.specs.Checked.{Life};
-ghost use Rattle.history.specs.History.{basis_with};
+ghost use Rattle.history.specs.Held.{held};
 ghost use Rattle.survivorship.specs.Survivorship.{survivors_of};
 ghost use Rattle.valuation.specs.Valuation.{discount_next, discount_after, payment, annuity_of};
 
+use history::LentBasis;
 use arithmetic::UNIT;
 use outcome::Refusal;
 use survivorship::Kind;
@@ -43,26 +44,25 @@ pub fn payment(v: u64, s: u64) -> u64
 
 // The annuity from the survivors at the deferment's end.
 fn annuity_from(
-    run: &[u8],
-    history: &[u8],
+    b: LentBasis,
     kind: Kind,
     age: u32,
     deferment: u32,
     year: u32,
     first: u64,
 ) -> Result<u64, Refusal>
-    requires { Life run.now history.now age deferment year
-        × (survivors_of (basis_with run.now history.now) kind age deferment year ≡ value (pos first)) }
-    ensures { meaning result ≡ annuity_of (basis_with run.now history.now) kind age deferment year }
+    requires { Life b.run.now b.history.now age deferment year
+        × (survivors_of (held b) kind age deferment year ≡ value (pos first)) }
+    ensures { meaning result ≡ annuity_of (held b.entry) kind age deferment year }
 {
-    let accumulation = basis::fields::accumulation(run);
+    let accumulation = basis::fields::accumulation(b.run);
     let last = 150 - age;
-    let mut v = discount_after(run, deferment);
+    let mut v = discount_after(b.run, deferment);
     let mut s = first;
     let mut total = payment(v, s);
     for j in deferment..last {
         let year = survivorship::year_on(kind, j, year);
-        s = survivorship::survivors_after_year(run, history, age + j, year, s)?;
+        s = survivorship::survivors_after_year(b, age + j, year, s)?;
         v = discount_next(v, accumulation);
         total += payment(v, s);
     }
@@ -72,16 +72,15 @@ fn annuity_from(
 // The annuity at an age in a year, with a deferment.
 #[tactic(auto, using(crate::proofs::Payments::within_deferment))]
 pub fn annuity_at(
-    run: &[u8],
-    history: &[u8],
+    b: LentBasis,
     kind: Kind,
     age: u32,
     deferment: u32,
     year: u32,
 ) -> Result<u64, Refusal>
-    requires { Life run.now history.now age deferment year }
-    ensures { meaning result ≡ annuity_of (basis_with run.now history.now) kind age deferment year }
+    requires { Life b.run.now b.history.now age deferment year }
+    ensures { meaning result ≡ annuity_of (held b.entry) kind age deferment year }
 {
-    let first = survivorship::survivors_at(run, history, kind, age, deferment, year)?;
-    annuity_from(run, history, kind, age, deferment, year, first)
+    let first = survivorship::survivors_at(b, kind, age, deferment, year)?;
+    annuity_from(b, kind, age, deferment, year, first)
 }

@@ -22,7 +22,7 @@ pub returns-in_err-s : goal.returns-in_err-s
 returns-in_err-s c =
     let a = c.args in
     let h = survivors-answered _ _ _ _ _ _ c.year_on.ensures c.loop-j.invariant c.in_err-s.ensures in
-    let e : refused c.in_err-s.field-0.0 ≡ survivors_of (basis_with a.run.now a.history.now) a.kind a.age a.n a.year =
+    let e : refused c.in_err-s.field-0.0 ≡ survivors_of (basis_with a.b.run.now a.b.history.now) a.kind a.age a.n a.year =
     sym (survivors-refused _ _ _ _ _ _ _ (omega arith) h) in
     search rules
 

@@ -7,4 +7,4 @@ use Rattle.survivorship.specs.Survivorship.{survivors_of}
 use Rattle.survivorship.proofs.survivors_at.Given as goal
 
 abbrev pub invariant-loop-j : goal.invariant-loop-j
-invariant-loop-j l = survivors_of (basis_with l.run l.history) l.kind l.age l.j l.year ≡ value (pos l.s)
+invariant-loop-j l = survivors_of (basis_with l.b.run.now l.b.history.now) l.kind l.age l.j l.year ≡ value (pos l.s)

@@ -10,5 +10,5 @@ pub returns : goal.returns
 returns c =
     let a = c.args in
     let p = c.requires in
-    let there = actual-there (basis_of a.run.now) a.history.now p.0.size a.age a.year p.2 p.3 p.4 in
+    let there = actual-there (basis_of a.b.run.now) a.b.history.now a.b.workable.size a.age a.year p.1 p.2 p.3 in
     got w32 c.read_i32.type_inv (c.read_i32.ensures ∙ there c.base_year.ensures c.place_in_blocks.ensures)

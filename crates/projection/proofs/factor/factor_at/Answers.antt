@@ -24,7 +24,7 @@ factor_in-requires c =
         usable = c.requires.usable;
         age_low = c.requires.age_low;
         age_high = c.requires.age_high;
-        year_low = omega (arith, base, first-early (basis_with c.args.run.now c.args.history.now));
+        year_low = omega (arith, base, first-early (basis_with c.args.b.run.now c.args.b.history.now));
         birth_high = omega (arith, base, c.requires.birth_high);
       },
       c.age_terms-terms.ensures,
@@ -36,7 +36,7 @@ returns-in_err-factor c =
     let a = c.args in
     let n = a.year - c.base_year-base.result in
     let here = turn _ _ _ _ c.base_year-base.ensures c.loop-k.invariant.1 c.in_err-factor.ensures in
-    let e : refused c.in_err-factor.field-0.0 ≡ factor_of (basis_with a.run.now a.history.now) a.age a.year =
+    let e : refused c.in_err-factor.field-0.0 ≡ factor_of (basis_with a.b.run.now a.b.history.now) a.age a.year =
     ended _ _ _ n _ (omega (arith, c.base_year-base.ensures)) (persists _ _ _ _ _ (omega arith) here) in
     search rules
 

@@ -10,4 +10,4 @@ use Rattle.projection.proofs.factor.factor_at.Given as goal
 
 abbrev pub invariant-loop-k : goal.invariant-loop-k
 invariant-loop-k l =
-    (l.factor ≤ 4_000_000_000) × (steps (factor_step (basis_with l.run l.history) l.age) (pos U) l.k ≡ value (pos l.factor))
+    (l.factor ≤ 4_000_000_000) × (steps (factor_step (basis_with l.b.run.now l.b.history.now) l.age) (pos U) l.k ≡ value (pos l.factor))

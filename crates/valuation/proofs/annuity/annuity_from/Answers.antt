@@ -14,7 +14,7 @@ use Rattle.valuation.proofs.annuity.annuity_from.Goals as goal
 pub payment-total-requires : goal.payment-total-requires
 payment-total-requires c =
     let a = c.args in
-    let b = basis_with a.run.now a.history.now in
+    let b = basis_with a.b.run.now a.b.history.now in
     let small = discount-small b (limits-with (search rules)) _ _ (omega arith) (sym (c.discount_after-v.ensures ∙ discount-with _ _ _)) in
     (omega (arith, small), survivors-small b a.kind a.age a.deferment a.year a.first (search rules))
 
@@ -26,7 +26,7 @@ returns-in_err-s c =
     let a = c.args in
     let i = c.loop-j.invariant in
     let h = survivors-answered _ _ _ _ _ _ c.year_on-year.ensures i.survivors c.in_err-s.ensures in
-    let e : refused c.in_err-s.field-0.0 ≡ annuity_of (basis_with a.run.now a.history.now) a.kind a.age a.deferment a.year =
+    let e : refused c.in_err-s.field-0.0 ≡ annuity_of (basis_with a.b.run.now a.b.history.now) a.kind a.age a.deferment a.year =
     paid-refused _ _ _ _ _ _ _ _ i.begun (omega arith) i.paid h in
     search rules
 

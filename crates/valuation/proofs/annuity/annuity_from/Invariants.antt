@@ -5,4 +5,4 @@ use Rattle.valuation.proofs.annuity.annuity_from.Given as goal
 
 abbrev pub invariant-loop-j : goal.invariant-loop-j
 invariant-loop-j l =
-    Paying (basis_with l.run l.history) l.kind l.age l.deferment l.year l.j l.s l.v l.total
+    Paying (basis_with l.b.run.now l.b.history.now) l.kind l.age l.deferment l.year l.j l.s l.v l.total

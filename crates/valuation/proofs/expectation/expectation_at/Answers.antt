@@ -14,7 +14,7 @@ use Rattle.valuation.proofs.expectation.expectation_at.Goals as goal
 living : (c : goal.In_ok-s) →
     let a = c.args in
     let x = c.in_ok-s.s in
-    Living (basis_with a.run.now a.history.now) a.kind (a.age + a.deferment) (a.year + a.deferment) (c.loop-j.j + 1) x (c.loop-j.total + x)
+    Living (basis_with a.b.run.now a.b.history.now) a.kind (a.age + a.deferment) (a.year + a.deferment) (c.loop-j.j + 1) x (c.loop-j.total + x)
 living c =
     let i = c.loop-j.invariant in
     living-next _ _ _ _ i (survivors-answered _ _ _ _ _ _ c.year_on-year.ensures i.survivors c.in_ok-s.ensures)
@@ -27,7 +27,7 @@ returns-in_err-s c =
     let a = c.args in
     let i = c.loop-j.invariant in
     let h = survivors-answered _ _ _ _ _ _ c.year_on-year.ensures i.survivors c.in_err-s.ensures in
-    let e : refused c.in_err-s.field-0.0 ≡ expectation_of (basis_with a.run.now a.history.now) a.kind a.age a.deferment a.year =
+    let e : refused c.in_err-s.field-0.0 ≡ expectation_of (basis_with a.b.run.now a.b.history.now) a.kind a.age a.deferment a.year =
     lived-refused _ _ _ _ _ refl refl i (omega arith) h in
     search rules
 

@@ -4,4 +4,4 @@ use Rattle.valuation.proofs.Lives.{Living}
 use Rattle.valuation.proofs.expectation.expectation_at.Given as goal
 
 abbrev pub invariant-loop-j : goal.invariant-loop-j
-invariant-loop-j l = Living (basis_with l.run l.history) l.kind l.from l.start l.j l.s l.total
+invariant-loop-j l = Living (basis_with l.b.run.now l.b.history.now) l.kind l.from l.start l.j l.s l.total
