@@ -70,4 +70,7 @@ module _ (run history : List ℕ) (fresh : passed ≡ run_and_history_check run 
 pub asked_life : (run history : List ℕ) (age deferment year : ℕ) → passed ≡ valuation_check run history age deferment year → Life run history age deferment year
 asked_life run history age deferment year h = valuation-passed run history age deferment year (sym h)
 
-pub ruleset asked = (accepted, asked_cell, improved_cell, asked_life, first_with)
+pub asked_workable : (run history : List ℕ) (age deferment year : ℕ) → passed ≡ valuation_check run history age deferment year → Workable run history
+asked_workable run history age deferment year h = (asked_life run history age deferment year h).usable
+
+pub ruleset asked = (workable, asked_workable, accepted, asked_cell, improved_cell, asked_life, first_with)

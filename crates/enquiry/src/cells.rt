@@ -3,6 +3,7 @@ ghost use Rattle.std.specs.Prelude.{◌≡◌};
 ghost use Rattle.outcome.specs.Outcome.{meaning, signed_meaning};
 ghost use Rattle.enquiry.specs.Enquiry.{improvement_enquiry, factor_enquiry, rate_enquiry};
 
+use history::LentBasis;
 use outcome::Refusal;
 
 // An improvement, in a year from the first that has one. As in every enquiry the data run and its history are checked afresh, and
@@ -13,7 +14,8 @@ pub fn improvement(run: &[u8], history: &[u8], age: u32, year: u32) -> Result<i6
 {
     history::check::check_run_and_history(run, history)?;
     question::check_cell(improvement::first_year(run), age, year)?;
-    improvement::improvement_needed(run, history, age, year)
+    let b = LentBasis { run, history };
+    improvement::improvement_needed(b, age, year)
 }
 
 // A factor, in a year from B on.
@@ -23,7 +25,8 @@ pub fn factor(run: &[u8], history: &[u8], age: u32, year: u32) -> Result<u64, Re
 {
     history::check::check_run_and_history(run, history)?;
     question::check_cell(basis::fields::base_year(run), age, year)?;
-    projection::factor::factor_at(run, history, age, year)
+    let b = LentBasis { run, history };
+    projection::factor::factor_at(b, age, year)
 }
 
 // A rate, in a year from the first that has one.
@@ -33,5 +36,6 @@ pub fn rate(run: &[u8], history: &[u8], age: u32, year: u32) -> Result<u64, Refu
 {
     history::check::check_run_and_history(run, history)?;
     question::check_cell(basis::fields::rated_from(run), age, year)?;
-    projection::rate::rate_at(run, history, age, year)
+    let b = LentBasis { run, history };
+    projection::rate::rate_at(b, age, year)
 }

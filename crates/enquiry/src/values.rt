@@ -3,6 +3,7 @@ ghost use Rattle.std.specs.Prelude.{◌≡◌};
 ghost use Rattle.outcome.specs.Outcome.{meaning, finding};
 ghost use Rattle.enquiry.specs.Enquiry.{valuation_check, survivorship_enquiry, expectation_enquiry, annuity_enquiry};
 
+use history::LentBasis;
 use outcome::Refusal;
 use survivorship::Kind;
 
@@ -33,7 +34,8 @@ pub fn survivorship(
     ensures { meaning result ≡ survivorship_enquiry run.now history.now kind age deferment year }
 {
     check_valuation(run, history, age, deferment, year)?;
-    survivorship::survivors_at(run, history, kind, age, deferment, year)
+    let b = LentBasis { run, history };
+    survivorship::survivors_at(b, kind, age, deferment, year)
 }
 
 #[tactic(auto, using(crate::proofs::Passed::asked), unfolding(crate::specs::Enquiry::expectation_enquiry))]
@@ -48,7 +50,8 @@ pub fn expectation(
     ensures { meaning result ≡ expectation_enquiry run.now history.now kind age deferment year }
 {
     check_valuation(run, history, age, deferment, year)?;
-    valuation::expectation::expectation_at(run, history, kind, age, deferment, year)
+    let b = LentBasis { run, history };
+    valuation::expectation::expectation_at(b, kind, age, deferment, year)
 }
 
 #[tactic(auto, using(crate::proofs::Passed::asked), unfolding(crate::specs::Enquiry::annuity_enquiry))]
@@ -63,5 +66,6 @@ pub fn annuity(
     ensures { meaning result ≡ annuity_enquiry run.now history.now kind age deferment year }
 {
     check_valuation(run, history, age, deferment, year)?;
-    valuation::annuity::annuity_at(run, history, kind, age, deferment, year)
+    let b = LentBasis { run, history };
+    valuation::annuity::annuity_at(b, kind, age, deferment, year)
 }
