@@ -1,12 +1,13 @@
 // The factors of the years from B to 2129: the state of the sweep in each of them, stored.
 ghost use Rattle.std.specs.Prelude.{◌≡◌, ◌+◌, ◌*◌, ◌≤◌, length};
 ghost use Rattle.basis.specs.Basis.{basis_of, Accepted};
-ghost use Rattle.history.specs.History.{basis_with, Workable};
+ghost use Rattle.history.specs.Held.{held};
 ghost use Rattle.sweep.specs.Sweep.{sweep_after};
 ghost use Rattle.sweep.specs.Encoding.{Encodes};
 ghost use Rattle.factor_table.specs.Inner.Storing.{StandsAt, KeptBefore};
 ghost use Rattle.factor_table.specs.FactorTable.{early_years, table_length, YearsStored, RestIsZero};
 
+use history::LentBasis;
 use crate::EARLY_LENGTH;
 
 // From this year on only every second one is stored.
@@ -22,17 +23,17 @@ pub(crate) fn store_state(state: &[u32], from: usize, at: usize, numbers: &mut [
 }
 
 // The sweep goes through the years once; its state in 2130 is the answer.
-pub(crate) fn store_years(run: &[u8], history: &[u8], numbers: &mut [u32]) -> [u32; 131]
-    requires { Workable run.now history.now × (length numbers.old ≡ table_length) }
-    ensures encodes { Encodes result (sweep_after (basis_with run.now history.now) (early_years (basis_with run.now history.now))) }
-    ensures years_stored { YearsStored (basis_with run.now history.now) numbers.new
-        (early_years (basis_with run.now history.now)) }
+pub(crate) fn store_years(b: LentBasis, numbers: &mut [u32]) -> [u32; 131]
+    requires { length numbers.old ≡ table_length }
+    ensures encodes { Encodes result (sweep_after (held b.entry) (early_years (held b.entry))) }
+    ensures years_stored { YearsStored (held b.entry) numbers.new
+        (early_years (held b.entry)) }
 {
-    let base = basis::fields::base_year(run);
+    let base = basis::fields::base_year(b.run);
     let mut state = sweep::start();
     for year in base..LATER_FROM {
         store_state(&state, 0, 131 * (year - base) as usize, numbers);
-        sweep::step(run, history, year, &mut state);
+        sweep::step(b, year, &mut state);
     }
     state
 }

@@ -9,8 +9,10 @@ pub mod later_years;
 pub mod reading;
 
 ghost use Rattle.std.specs.Prelude.{◌≡◌, length};
-ghost use Rattle.history.specs.History.{basis_with, Workable};
+ghost use Rattle.history.specs.Held.{held};
 ghost use Rattle.factor_table.specs.FactorTable.{table_length, FactorTable};
+
+use history::LentBasis;
 
 // 131 numbers for each of the 138 years from 1992 to 2129.
 pub const EARLY_LENGTH: usize = 18078;
@@ -21,12 +23,12 @@ pub const FACTORS_LENGTH: usize = 22434;
 // The same with the discounts of 0 to 130 years behind them.
 pub const TABLE_LENGTH: usize = 22565;
 
-pub fn fill_table(run: &[u8], history: &[u8], numbers: &mut [u32])
-    requires { Workable run.now history.now × (length numbers.old ≡ table_length) }
-    ensures { FactorTable (basis_with run.now history.now) numbers.new }
+pub fn fill_table(b: LentBasis, numbers: &mut [u32])
+    requires { length numbers.old ≡ table_length }
+    ensures { FactorTable (held b.entry) numbers.new }
 {
-    let from_2130 = factors::store_years(run, history, numbers);
-    factors::clear_rest(run, numbers);
-    later_years::store_later_years(run, history, from_2130, numbers);
-    discounts::store_discounts(run, numbers);
+    let from_2130 = factors::store_years(b, numbers);
+    factors::clear_rest(b.run, numbers);
+    later_years::store_later_years(b, from_2130, numbers);
+    discounts::store_discounts(b.run, numbers);
 }

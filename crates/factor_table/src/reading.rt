@@ -2,12 +2,13 @@
 ghost use Rattle.std.specs.Prelude.{◌≡◌, ◌+◌, ◌≤◌, ◌<◌, length};
 ghost use Rattle.basis.specs.Basis.{basis_of, Accepted};
 ghost use Rattle.history.specs.Checked.{Cell};
-ghost use Rattle.history.specs.History.{basis_with};
+ghost use Rattle.history.specs.Held.{held};
 ghost use Rattle.outcome.specs.Outcome.{meaning};
 ghost use Rattle.projection.specs.Projection.{factor_of};
 ghost use Rattle.factor_table.specs.Inner.Reading.{is_stored, place_of, stored_factor};
 ghost use Rattle.factor_table.specs.FactorTable.{factors_length, table_length, FactorTable};
 
+use history::LentBasis;
 use crate::EARLY_LENGTH;
 use outcome::Refusal;
 
@@ -43,19 +44,18 @@ fn stored(run: &[u8], numbers: &[u32], age: u32, year: u32) -> Result<u64, Refus
 
 // The factor at an age in a year from B on.
 pub fn factor(
-    run: &[u8],
-    history: &[u8],
+    b: LentBasis,
     numbers: &[u32],
     age: u32,
     year: u32,
 ) -> Result<u64, Refusal>
-    requires { Cell run.now history.now age year × FactorTable (basis_with run.now history.now) numbers.now }
-    ensures { meaning result ≡ factor_of (basis_with run.now history.now) age year }
+    requires { Cell b.run.now b.history.now age year × FactorTable (held b) numbers.now }
+    ensures { meaning result ≡ factor_of (held b.entry) age year }
 {
-    let last = stored(run, numbers, age, year)?;
+    let last = stored(b.run, numbers, age, year)?;
     if is_stored(year) {
         return Ok(last);
     }
-    let terms = basis::fields::age_terms(run, age);
-    projection::factor::factor_in(run, history, terms, age, year, last)
+    let terms = basis::fields::age_terms(b.run, age);
+    projection::factor::factor_in(b, terms, age, year, last)
 }

@@ -2,9 +2,10 @@
 #![tactic(auto)]
 
 ghost use Rattle.std.specs.Prelude.{◌≡◌};
-ghost use Rattle.history.specs.History.{basis_with, Workable};
+ghost use Rattle.history.specs.Held.{held};
 ghost use Rattle.grid_record.specs.Record.{question_of, record_of, answered_of};
 
+use history::LentBasis;
 use model_points::PointAnswer;
 use question::Question;
 
@@ -48,9 +49,8 @@ pub fn recorded(p: Point, a: PointAnswer) -> Point
 }
 
 #[tactic(auto, unfolding(crate::specs::Record::answered_of))]
-pub fn direct_record(run: &[u8], history: &[u8], p: Point) -> Point
-    requires { Workable run.now history.now }
-    ensures { result ≡ answered_of (basis_with run.now history.now) p }
+pub fn direct_record(b: LentBasis, p: Point) -> Point
+    ensures { result ≡ answered_of (held b.entry) p }
 {
-    recorded(p, model_points::direct_point(run, history, p.into()))
+    recorded(p, model_points::direct_point(b, p.into()))
 }

@@ -8,6 +8,7 @@ ghost use Rattle.lifeline.specs.Lifeline.{start_at, last_year_at, step_year_chec
 
 use crate::{LifelineStart, LifelineStep, Position, Status};
 use arithmetic::UNIT;
+use history::LentBasis;
 use outcome::{Reason, Refusal};
 
 // U at an age and year, checked as an enquiry with deferment 0.
@@ -100,7 +101,8 @@ fn step_or_refusal(run: &[u8], history: &[u8], position: Position) -> Result<Lif
             status: Status::Ended,
         });
     }
-    let survivors = survivorship::survivors_after_year(run, history, age, year, survivors)?;
+    let b = LentBasis { run, history };
+    let survivors = survivorship::survivors_after_year(b, age, year, survivors)?;
     Ok(LifelineStep {
         position: Position {
             age: age + 1,

@@ -2,9 +2,10 @@
 #![tactic(auto)]
 
 ghost use Rattle.std.specs.Prelude.{◌≡◌};
-ghost use Rattle.history.specs.History.{basis_with, Workable};
+ghost use Rattle.history.specs.Held.{held};
 ghost use Rattle.model_points.specs.Point.{results_meaning, checked_results_of, point_answer_of, point_of};
 
+use history::LentBasis;
 use outcome::{NO_REFUSAL, Refusal};
 use question::Question;
 use survivorship::Kind;
@@ -38,28 +39,26 @@ impl From<Result<[u64; 4], Refusal>> for PointAnswer {
 
 // The four results in their order, or the first refusal: of the question's own checks, then of the four.
 #[tactic(auto, using(crate::proofs::Points::asks_life), unfolding(basis::specs::Basis::rated_from, crate::specs::Point::results_of, crate::specs::Point::four_results_of))]
-fn direct_results(run: &[u8], history: &[u8], q: Question) -> Result<[u64; 4], Refusal>
-    requires { Workable run.now history.now }
-    ensures { results_meaning result ≡ checked_results_of (basis_with run.now history.now) q }
+fn direct_results(b: LentBasis, q: Question) -> Result<[u64; 4], Refusal>
+    ensures { results_meaning result ≡ checked_results_of (held b.entry) q }
 {
     let Question {
         age,
         deferment,
         year,
     } = q;
-    question::check_question(run, age, deferment, year)?;
+    question::check_question(b.run, age, deferment, year)?;
     Ok([
-        expectation::expectation_at(run, history, Kind::Period, age, deferment, year)?,
-        expectation::expectation_at(run, history, Kind::Cohort, age, deferment, year)?,
-        annuity::annuity_at(run, history, Kind::Period, age, deferment, year)?,
-        annuity::annuity_at(run, history, Kind::Cohort, age, deferment, year)?,
+        expectation::expectation_at(b, Kind::Period, age, deferment, year)?,
+        expectation::expectation_at(b, Kind::Cohort, age, deferment, year)?,
+        annuity::annuity_at(b, Kind::Period, age, deferment, year)?,
+        annuity::annuity_at(b, Kind::Cohort, age, deferment, year)?,
     ])
 }
 
 #[tactic(auto, unfolding(crate::specs::Point::point_of))]
-pub fn direct_point(run: &[u8], history: &[u8], q: Question) -> PointAnswer
-    requires { Workable run.now history.now }
-    ensures { result ≡ point_of (basis_with run.now history.now) q }
+pub fn direct_point(b: LentBasis, q: Question) -> PointAnswer
+    ensures { result ≡ point_of (held b.entry) q }
 {
-    direct_results(run, history, q).into()
+    direct_results(b, q).into()
 }

@@ -2,10 +2,11 @@
 #![tactic(auto)]
 
 ghost use Rattle.std.specs.Prelude.{◌≡◌, map};
-ghost use Rattle.history.specs.History.{basis_with, Workable};
+ghost use Rattle.history.specs.Held.{held};
 ghost use Rattle.model_points.specs.Point.{point_of};
 ghost use Rattle.small_set.specs.SmallSet.{small_set_of};
 
+use history::LentBasis;
 use model_points::PointAnswer;
 use outcome::{NO_REFUSAL, Refusal};
 use question::Question;
@@ -32,17 +33,16 @@ const BLANK: PointAnswer = PointAnswer {
 };
 
 // The six answers on an accepted data run and its history.
-fn six(run: &[u8], history: &[u8], questions: [Question; 6]) -> [PointAnswer; 6]
-    requires { Workable run.now history.now }
-    ensures { result ≡ map (point_of (basis_with run.now history.now)) questions }
+fn six(b: LentBasis, questions: [Question; 6]) -> [PointAnswer; 6]
+    ensures { result ≡ map (point_of (held b.entry)) questions }
 {
     [
-        model_points::direct_point(run, history, questions[0]),
-        model_points::direct_point(run, history, questions[1]),
-        model_points::direct_point(run, history, questions[2]),
-        model_points::direct_point(run, history, questions[3]),
-        model_points::direct_point(run, history, questions[4]),
-        model_points::direct_point(run, history, questions[5]),
+        model_points::direct_point(b, questions[0]),
+        model_points::direct_point(b, questions[1]),
+        model_points::direct_point(b, questions[2]),
+        model_points::direct_point(b, questions[3]),
+        model_points::direct_point(b, questions[4]),
+        model_points::direct_point(b, questions[5]),
     ]
 }
 
@@ -53,7 +53,7 @@ pub fn small_set(run: &[u8], history: &[u8], questions: Questions) -> SmallSet
     match history::check::check_run_and_history(run, history) {
         Ok(()) => {
             let asked = questions.points;
-            let points = six(run, history, asked);
+            let points = six(LentBasis { run, history }, asked);
             SmallSet {
                 refusal: NO_REFUSAL,
                 points,

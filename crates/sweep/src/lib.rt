@@ -5,10 +5,11 @@
 ghost use Rattle.std.specs.Prelude.{◌≡◌, ◌+◌, ◌≤◌, ◌<◌, pos, ltb, length};
 ghost use Rattle.outcome.specs.Outcome.{meaning};
 ghost use Rattle.history.specs.Checked.{Cell};
-ghost use Rattle.history.specs.History.{basis_with, Workable};
+ghost use Rattle.history.specs.Held.{held};
 ghost use Rattle.sweep.specs.Sweep.{sweep_start, factor_on, advanced_factor, sweep_step};
 ghost use Rattle.sweep.specs.Encoding.{refused_number, decoded, state_in, Encodes};
 
+use history::LentBasis;
 use outcome::Refusal;
 
 // The number of a refusal that is given in a year.
@@ -43,12 +44,12 @@ pub fn start() -> [u32; 131]
 }
 
 // The number of the next year's factor at an age, or of its refusal.
-fn next_factor(run: &[u8], history: &[u8], age: u32, year: u32, n: u32) -> u32
-    requires { Cell run.now history.now age year × (year < 2110 + age) × (n ≤ 4_000_000_000) }
-    ensures { decoded age result ≡ factor_on (basis_with run.now history.now) age year (pos n) }
+fn next_factor(b: LentBasis, age: u32, year: u32, n: u32) -> u32
+    requires { Cell b.run.now b.history.now age year × (year < 2110 + age) × (n ≤ 4_000_000_000) }
+    ensures { decoded age result ≡ factor_on (held b.entry) age year (pos n) }
 {
-    let terms = basis::fields::age_terms(run, age);
-    match projection::factor::factor_in(run, history, terms, age, year + 1, n as u64) {
+    let terms = basis::fields::age_terms(b.run, age);
+    match projection::factor::factor_in(b, terms, age, year + 1, n as u64) {
         Ok(factor) => factor as u32,
         Err(r) => refused_number(r.number, year + 1),
     }
@@ -56,28 +57,28 @@ fn next_factor(run: &[u8], history: &[u8], age: u32, year: u32, n: u32) -> u32
 
 // One age from a year to the next: a refusal stays, and from the birth year 2110 on a factor does too.
 #[tactic(auto, unfolding(crate::specs::Sweep::advanced_factor, crate::specs::Encoding::decoded))]
-fn advanced_factor(run: &[u8], history: &[u8], age: u32, year: u32, n: u32) -> u32
-    requires { Workable run.now history.now × (20 ≤ age) × (age ≤ 150) × ((basis_with run.now history.now).base ≤ year) }
-    ensures { decoded age result ≡ advanced_factor (basis_with run.now history.now) age year (decoded age n) }
+fn advanced_factor(b: LentBasis, age: u32, year: u32, n: u32) -> u32
+    requires { (20 ≤ age) × (age ≤ 150) × ((held b).base ≤ year) }
+    ensures { decoded age result ≡ advanced_factor (held b.entry) age year (decoded age n) }
 {
     if 4_000_000_000 < n {
         return n;
     }
     if year < 2110 + age {
-        next_factor(run, history, age, year, n)
+        next_factor(b, age, year, n)
     } else {
         n
     }
 }
 
 // One step: every age by itself. A step from 2260 on is none, which the answer says.
-pub fn step(run: &[u8], history: &[u8], year: u32, state: &mut [u32]) -> bool
-    requires { Workable run.now history.now × (length state.old ≡ 131) × ((basis_with run.now history.now).base ≤ year) }
+pub fn step(b: LentBasis, year: u32, state: &mut [u32]) -> bool
+    requires { (length state.old ≡ 131) × ((held b).base ≤ year) }
     ensures value { result ≡ ltb year 2260 }
-    ensures encodes { Encodes state.new (sweep_step (basis_with run.now history.now) year (state_in state.old)) }
+    ensures encodes { Encodes state.new (sweep_step (held b.entry) year (state_in state.old)) }
 {
     for (i, n) in state.iter_mut().enumerate() {
-        *n = advanced_factor(run, history, 20 + i as u32, year, *n);
+        *n = advanced_factor(b, 20 + i as u32, year, *n);
     }
     year < 2260
 }

@@ -15,4 +15,4 @@ returns c =
       c.direct_point-2.ensures,
       c.direct_point.ensures,
     )
-    (six-list (point_of (basis_with c.args.run.now c.args.history.now)) c.args.questions (record { age = 0; deferment = 0; year = 0 }) (search rules))
+    (six-list (point_of (basis_with c.args.b.run.now c.args.b.history.now)) c.args.questions (record { age = 0; deferment = 0; year = 0 }) (search rules))

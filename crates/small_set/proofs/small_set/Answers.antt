@@ -4,10 +4,10 @@ use Rattle.history.proofs.Acceptance.{accepted-workable}
 use Rattle.small_set.specs.SmallSet.{small_set_of}
 use Rattle.small_set.proofs.small_set.Goals as goal
 
-pub six-points-requires : goal.six-points-requires
-six-points-requires c =
+pub invariant_of-six : goal.invariant_of-six
+invariant_of-six c =
     let a = c.args in
-    accepted-workable a.run.now a.history.now (found c.check_run_and_history.ensures c.in-Ok.is)
+    record { workable = accepted-workable a.run.now a.history.now (found c.check_run_and_history.ensures c.in-Ok.is) }
 
 pub returns-in-Ok : goal.returns-in-Ok
 unfolding small_set_of

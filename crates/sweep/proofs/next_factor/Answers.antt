@@ -13,7 +13,7 @@ use Rattle.sweep.proofs.next_factor.Goals as goal
 pub factor_in-requires : goal.factor_in-requires
 factor_in-requires c =
     let a = c.args in
-    let early = first-early (basis_with a.run.now a.history.now) in (
+    let early = first-early (basis_with a.b.run.now a.b.history.now) in (
       record { usable = search rules; age_low = search rules; age_high = search rules; year_low = omega arith; birth_high = omega arith },
       search rules,
       search rules,

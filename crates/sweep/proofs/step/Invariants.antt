@@ -9,6 +9,6 @@ abbrev pub invariant-loop-i : goal.invariant-loop-i
 invariant-loop-i l =
     record {
       done : (k : ℕ) → k < l.i
-          → decoded (20 + k) (get_or l.state k 0) ≡ advanced_factor (basis_with l.run l.history) (20 + k) l.year (decoded (20 + k) (get_or l.initial.state k 0));
+          → decoded (20 + k) (get_or l.state k 0) ≡ advanced_factor (basis_with l.b.run.now l.b.history.now) (20 + k) l.year (decoded (20 + k) (get_or l.initial.state k 0));
       left : (k : ℕ) → l.i ≤ k → get_or l.state k 0 ≡ get_or l.initial.state k 0;
     }

@@ -6,4 +6,4 @@ use Rattle.factor_table.proofs.Sweeping.{Sweeping}
 use Rattle.factor_table.proofs.factors.store_years.Given as goal
 
 abbrev pub invariant-loop-year : goal.invariant-loop-year
-invariant-loop-year l = Sweeping (basis_with l.run l.history) l.numbers l.state (l.year - (basis_of l.run).base)
+invariant-loop-year l = Sweeping (basis_with l.b.run.now l.b.history.now) l.numbers l.state (l.year - (basis_of l.b.run.now).base)

@@ -13,6 +13,6 @@ store_state-requires c =
 pub loop-m-preserved : goal.loop-m-preserved
 loop-m-preserved c = (
   search rules,
-  later_more c.loop-m.invariant.1 c.requires.0.basis.limits.base_high (omega arith) c.store_state.ensures.stands_at c.store_state.ensures.kept_before (search rules)
+  later_more c.loop-m.invariant.1 c.args.b.workable.basis.limits.base_high (omega arith) c.store_state.ensures.stands_at c.store_state.ensures.kept_before (search rules)
       c.step.ensures.encodes c.step-in-loop-m.ensures.encodes,
 )

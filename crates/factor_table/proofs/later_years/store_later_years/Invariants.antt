@@ -8,4 +8,4 @@ use Rattle.factor_table.proofs.later_years.store_later_years.Given as goal
 
 abbrev pub invariant-loop-m : goal.invariant-loop-m
 invariant-loop-m l =
-    (length l.numbers ≡ table_length) × LaterSweeping (basis_with l.run l.history) l.initial.numbers l.numbers l.state l.m l.at
+    (length l.numbers ≡ table_length) × LaterSweeping (basis_with l.b.run.now l.b.history.now) l.initial.numbers l.numbers l.state l.m l.at
