@@ -23,6 +23,14 @@ pub const FACTORS_LENGTH: usize = 22434;
 // The same with the discounts of 0 to 130 years behind them.
 pub const TABLE_LENGTH: usize = 22565;
 
+// A basis that may be worked with, and what was worked out of it once.
+#[derive(Clone, Copy)]
+pub struct TabledBasis<'a> {
+    pub basis: LentBasis<'a>,
+    pub numbers: &'a [u32],
+    ghost filled: { FactorTable (held basis) numbers.now },
+}
+
 pub fn fill_table(b: LentBasis, numbers: &mut [u32])
     requires { length numbers.old ≡ table_length }
     ensures { FactorTable (held b.entry) numbers.new }

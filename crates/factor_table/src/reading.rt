@@ -6,10 +6,9 @@ ghost use Rattle.history.specs.Held.{held};
 ghost use Rattle.outcome.specs.Outcome.{meaning};
 ghost use Rattle.projection.specs.Projection.{factor_of};
 ghost use Rattle.factor_table.specs.Inner.Reading.{is_stored, place_of, stored_factor};
-ghost use Rattle.factor_table.specs.FactorTable.{factors_length, table_length, FactorTable};
+ghost use Rattle.factor_table.specs.FactorTable.{factors_length, table_length};
 
-use history::LentBasis;
-use crate::EARLY_LENGTH;
+use crate::{EARLY_LENGTH, TabledBasis};
 use outcome::Refusal;
 
 // Is a year itself stored, and not the one before it?
@@ -43,19 +42,14 @@ fn stored(run: &[u8], numbers: &[u32], age: u32, year: u32) -> Result<u64, Refus
 }
 
 // The factor at an age in a year from B on.
-pub fn factor(
-    b: LentBasis,
-    numbers: &[u32],
-    age: u32,
-    year: u32,
-) -> Result<u64, Refusal>
-    requires { Cell b.run.now b.history.now age year × FactorTable (held b) numbers.now }
-    ensures { meaning result ≡ factor_of (held b.entry) age year }
+pub fn factor(t: TabledBasis, age: u32, year: u32) -> Result<u64, Refusal>
+    requires { Cell t.basis.run.now t.basis.history.now age year }
+    ensures { meaning result ≡ factor_of (held t.entry.basis) age year }
 {
-    let last = stored(b.run, numbers, age, year)?;
+    let last = stored(t.basis.run, t.numbers, age, year)?;
     if is_stored(year) {
         return Ok(last);
     }
-    let terms = basis::fields::age_terms(b.run, age);
-    projection::factor::factor_in(b, terms, age, year, last)
+    let terms = basis::fields::age_terms(t.basis.run, age);
+    projection::factor::factor_in(t.basis, terms, age, year, last)
 }

@@ -2,14 +2,14 @@
 ghost use Rattle.std.specs.Prelude.{◌≡◌};
 ghost use Rattle.outcome.specs.Outcome.{meaning};
 ghost use Rattle.history.specs.Checked.{Life};
-ghost use Rattle.history.specs.History.{basis_with, Workable};
+ghost use Rattle.history.specs.Held.{held};
 ghost use Rattle.valuation.specs.Valuation.{expectation_of};
-ghost use Rattle.factor_table.specs.FactorTable.{FactorTable, Tabled};
 ghost use Rattle.model_points.specs.Point.{results_meaning, checked_results_of, point_of};
 ghost use Rattle.grid_record.specs.Record.{answered_of};
 ghost use Rattle.swept_points.specs.LifeValues.{life_expectation};
 
 use crate::life_values::{LifeValues, life_values_from};
+use factor_table::TabledBasis;
 use grid_record::Point;
 use model_points::PointAnswer;
 use outcome::Refusal;
@@ -20,47 +20,42 @@ use survivorship::Kind;
 // from the later age.
 #[tactic(auto, using(crate::proofs::SoFar::deferred))]
 fn expectation(
-    run: &[u8],
-    history: &[u8],
-    table: &[u32],
+    t: TabledBasis,
     kind: Kind,
     q: Question,
     known: Result<LifeValues, Refusal>,
 ) -> Result<u64, Refusal>
-    requires { Life run.now history.now q.age q.deferment q.year × FactorTable (basis_with run.now history.now) table.now
-        × (life_expectation known ≡ expectation_of (basis_with run.now history.now) kind q.age 0 q.year) }
-    ensures { meaning result ≡ expectation_of (basis_with run.now history.now) kind q.age q.deferment q.year }
+    requires { Life t.basis.run.now t.basis.history.now q.age q.deferment q.year
+        × (life_expectation known ≡ expectation_of (held t.basis) kind q.age 0 q.year) }
+    ensures { meaning result ≡ expectation_of (held t.entry.basis) kind q.age q.deferment q.year }
 {
     if q.deferment == 0 {
         return Ok(known?.expectation);
     }
     let age = q.age + q.deferment;
     let year = q.year + q.deferment;
-    Ok(life_values_from(run, history, table, kind, age, 0, year)?.expectation)
+    Ok(life_values_from(t, kind, age, 0, year)?.expectation)
 }
 
 // The four results in their order, or the first refusal: of the question's own checks, then of the four.
 #[tactic(auto, using(model_points::proofs::Points::asks_life), unfolding(basis::specs::Basis::rated_from, model_points::specs::Point::results_of, model_points::specs::Point::four_results_of))]
 fn swept_results(
-    run: &[u8],
-    history: &[u8],
-    table: &[u32],
+    t: TabledBasis,
     q: Question,
 ) -> Result<[u64; 4], Refusal>
-    requires { Tabled run.now history.now table.now }
-    ensures { results_meaning result ≡ checked_results_of (basis_with run.now history.now) q }
+    ensures { results_meaning result ≡ checked_results_of (held t.entry.basis) q }
 {
     let Question {
         age,
         deferment,
         year,
     } = q;
-    question::check_question(run, age, deferment, year)?;
-    let period = life_values_from(run, history, table, Kind::Period, age, deferment, year);
-    let cohort = life_values_from(run, history, table, Kind::Cohort, age, deferment, year);
+    question::check_question(t.basis.run, age, deferment, year)?;
+    let period = life_values_from(t, Kind::Period, age, deferment, year);
+    let cohort = life_values_from(t, Kind::Cohort, age, deferment, year);
     Ok([
-        expectation(run, history, table, Kind::Period, q, period)?,
-        expectation(run, history, table, Kind::Cohort, q, cohort)?,
+        expectation(t, Kind::Period, q, period)?,
+        expectation(t, Kind::Cohort, q, cohort)?,
         period?.annuity,
         cohort?.annuity,
     ])
@@ -68,18 +63,16 @@ fn swept_results(
 
 // The answer of a point.
 #[tactic(auto, unfolding(model_points::specs::Point::point_of))]
-pub fn swept_point(run: &[u8], history: &[u8], table: &[u32], q: Question) -> PointAnswer
-    requires { Tabled run.now history.now table.now }
-    ensures { result ≡ point_of (basis_with run.now history.now) q }
+pub fn swept_point(t: TabledBasis, q: Question) -> PointAnswer
+    ensures { result ≡ point_of (held t.entry.basis) q }
 {
-    swept_results(run, history, table, q).into()
+    swept_results(t, q).into()
 }
 
 // A record of the grid with its answer in place of what it held.
 #[tactic(auto, unfolding(grid_record::specs::Record::answered_of))]
-pub fn swept_record(run: &[u8], history: &[u8], table: &[u32], p: Point) -> Point
-    requires { Tabled run.now history.now table.now }
-    ensures { result ≡ answered_of (basis_with run.now history.now) p }
+pub fn swept_record(t: TabledBasis, p: Point) -> Point
+    ensures { result ≡ answered_of (held t.entry.basis) p }
 {
-    grid_record::recorded(p, swept_point(run, history, table, p.into()))
+    grid_record::recorded(p, swept_point(t, p.into()))
 }

@@ -18,12 +18,12 @@ use Rattle.swept_points.proofs.life_values.life_values_from.Goals as goal
 
 pub deferred_payment-annuity-requires : goal.deferred_payment-annuity-requires
 deferred_payment-annuity-requires c =
-    let worth = ap pos c.discount.ensures ∙ c.requires.table.discounts 0 (omega arith) in
+    let worth = ap pos c.discount.ensures ∙ c.args.t.filled.discounts 0 (omega arith) in
     (omega (arith, discount-small _ (limits-with c.requires.start.usable) _ _ (omega arith) (sym worth)), omega arith)
 
 pub loop-j-init : goal.loop-j-init
 loop-j-init c =
-    let worth = ap pos c.discount.ensures ∙ c.requires.table.discounts 0 (omega arith) in
+    let worth = ap pos c.discount.ensures ∙ c.args.t.filled.discounts 0 (omega arith) in
     let paid = c.deferred_payment-annuity.ensures in
     so-far-first (paid.0 ∙ ap (λ v. deferred_payment v c.args.deferment 0 (pos U)) worth, paid.1)
 
@@ -33,7 +33,7 @@ returns-in_err-s-clause-expectation c =
     let a = c.args in
     let i = c.loop-j.invariant in
     let h = survivors-answered _ _ _ _ _ _ c.year_on.ensures i.living.survivors c.in_err-s.ensures in
-    let e : refused c.in_err-s.field-0.0 ≡ expectation_of (basis_with a.run.now a.history.now) a.kind a.age 0 a.year = expectation-refused i (omega arith) h in
+    let e : refused c.in_err-s.field-0.0 ≡ expectation_of (basis_with a.t.basis.run.now a.t.basis.history.now) a.kind a.age 0 a.year = expectation-refused i (omega arith) h in
     search rules
 
 pub returns-in_err-s-clause-annuity : goal.returns-in_err-s-clause-annuity
@@ -41,7 +41,7 @@ returns-in_err-s-clause-annuity c =
     let a = c.args in
     let i = c.loop-j.invariant in
     let h = survivors-answered _ _ _ _ _ _ c.year_on.ensures i.living.survivors c.in_err-s.ensures in
-    let e : refused c.in_err-s.field-0.0 ≡ annuity_of (basis_with a.run.now a.history.now) a.kind a.age a.deferment a.year =
+    let e : refused c.in_err-s.field-0.0 ≡ annuity_of (basis_with a.t.basis.run.now a.t.basis.history.now) a.kind a.age a.deferment a.year =
     annuity-refused i (omega arith) h (omega arith) in
     search rules
 
@@ -57,14 +57,14 @@ pub deferred_payment-annuity-requires-in-loop-j : goal.deferred_payment-annuity-
 deferred_payment-annuity-requires-in-loop-j c =
     let i = c.loop-j.invariant in
     let living = living-next _ _ _ _ i.living (survivors-answered _ _ _ _ _ _ c.year_on.ensures i.living.survivors c.in_ok-s.ensures) in
-    let worth = ap pos c.discount-in-loop-j.ensures ∙ c.requires.table.discounts (c.loop-j.j + 1) (omega arith) in
+    let worth = ap pos c.discount-in-loop-j.ensures ∙ c.args.t.filled.discounts (c.loop-j.j + 1) (omega arith) in
     (omega (arith, discount-small _ (limits-with c.requires.start.usable) _ _ (omega arith) (sym worth)), living.people)
 
 pub loop-j-preserved : goal.loop-j-preserved
 loop-j-preserved c =
     let i = c.loop-j.invariant in
     let living = living-next _ _ _ _ i.living (survivors-answered _ _ _ _ _ _ c.year_on.ensures i.living.survivors c.in_ok-s.ensures) in
-    let worth = ap pos c.discount-in-loop-j.ensures ∙ c.requires.table.discounts (c.loop-j.j + 1) (omega arith) in
+    let worth = ap pos c.discount-in-loop-j.ensures ∙ c.args.t.filled.discounts (c.loop-j.j + 1) (omega arith) in
     let paid = c.deferred_payment-annuity-in-loop-j.ensures in
     let due = paid.0 ∙ ap (λ v. deferred_payment v c.args.deferment (c.loop-j.j + 1) (pos c.in_ok-s.s)) worth in
     so-far-next i living (due, paid.1)
