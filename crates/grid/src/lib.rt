@@ -5,8 +5,9 @@ ghost use Rattle.std.specs.Prelude.{◌≡◌, length};
 ghost use Rattle.outcome.specs.Outcome.{finding};
 ghost use Rattle.grid.specs.Grid.{grid_check, grid_of};
 
-use factor_table::TABLE_LENGTH;
+use factor_table::{TABLE_LENGTH, TabledBasis};
 use grid_record::Point;
+use history::LentBasis;
 use outcome::Refusal;
 
 // 11 before the run and its history are looked at, which is done once for the whole list.
@@ -25,10 +26,15 @@ pub fn fill(run: &[u8], history: &[u8], points: &mut [Point]) -> Result<(), Refu
     ensures points_after { points.new ≡ grid_of run.now history.now points.old }
 {
     check_grid(run, history, points.len())?;
+    let basis = LentBasis { run, history };
     let mut table: [u32; TABLE_LENGTH] = [0; TABLE_LENGTH];
-    factor_table::fill_table(run, history, &mut table);
+    factor_table::fill_table(basis, &mut table);
+    let tabled = TabledBasis {
+        basis,
+        numbers: &table,
+    };
     for p in &mut points[..119] {
-        *p = swept_points::points::swept_record(run, history, &table, *p);
+        *p = swept_points::points::swept_record(tabled, *p);
     }
     Ok(())
 }
