@@ -25,9 +25,9 @@ pub const TABLE_LENGTH: usize = 22565;
 
 // A basis that may be worked with, and what was worked out of it once.
 #[derive(Clone, Copy)]
-pub struct TabledBasis<'a> {
+pub struct TabledBasis<'a, 'b> {
     pub basis: LentBasis<'a>,
-    pub numbers: &'a [u32],
+    pub numbers: &'b [u32],
     ghost filled: { FactorTable (held basis) numbers.now },
 }
 

@@ -21,7 +21,7 @@ pub fn check_grid(run: &[u8], history: &[u8], count: usize) -> Result<(), Refusa
 
 // Each record's results or its own refusal, in its place.
 #[tactic(auto, using(crate::proofs::Filled::enough_records, crate::proofs::Filled::grid_workable))]
-pub fn fill(run: &[u8], history: &[u8], points: &mut [Point]) -> Result<(), Refusal>
+pub fn fill<'a>(run: &'a [u8], history: &'a [u8], points: &mut [Point]) -> Result<(), Refusal>
     ensures result_value { finding result ≡ grid_check run.now history.now (length points.old) }
     ensures points_after { points.new ≡ grid_of run.now history.now points.old }
 {
