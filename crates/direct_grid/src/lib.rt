@@ -6,6 +6,7 @@ ghost use Rattle.std.specs.Prelude.{◌≡◌};
 ghost use Rattle.grid.specs.Grid.{grid_of};
 
 use grid_record::Point;
+use history::LentBasis;
 
 #[repr(C)]
 #[derive(Drop)]
@@ -20,8 +21,9 @@ fn answer_all(run: &[u8], history: &[u8], records: [Point; 119]) -> [Point; 119]
 {
     let mut points = records;
     if grid::check_grid(run, history, 119).is_ok() {
+        let basis = LentBasis { run, history };
         for p in &mut points {
-            *p = grid_record::direct_record(run, history, *p);
+            *p = grid_record::direct_record(basis, *p);
         }
     }
     points

@@ -1,8 +1,7 @@
 // A text that comes in parts, answered line by line on an accepted data run and its history, from what was worked out of
 // them. The caller gives room for 192 bytes of reply to each byte of a part: an empty line is one byte.
 ghost use Rattle.std.specs.Prelude.{◌≡◌, ◌+◌, ◌≤◌, length};
-ghost use Rattle.history.specs.History.{basis_with};
-ghost use Rattle.factor_table.specs.FactorTable.{Tabled};
+ghost use Rattle.history.specs.Held.{held};
 ghost use Rattle.enquiry_text.specs.Line.{line_of};
 ghost use Rattle.reply_text.specs.Put.{Put};
 ghost use Rattle.enquiry_lines.specs.Lines.{last_line, reply_to, replies};
@@ -10,23 +9,21 @@ ghost use Rattle.enquiry_lines.specs.State.{kept, empty_after, reply_room, Ready
 
 use crate::{Fed, Pending};
 use enquiry_text::parse;
+use factor_table::TabledBasis;
 use outcome::Reason;
 use reply_text::Output;
 
 // The reply to a line by its number from 1.
 fn put_line(
-    run: &[u8],
-    history: &[u8],
-    table: &[u32],
+    t: TabledBasis,
     out: &mut [u8],
     at: usize,
     number: u64,
     text: &[u8],
 ) -> usize
-    requires tabled { Tabled run.now history.now table.now }
-    requires reply_room_in_bounds { at + reply_room ≤ length out.old }
+    requires { at + reply_room ≤ length out.old }
     ensures put { Put out.old at
-        (reply_to (basis_with run.now history.now) (line_of number text.now)) out.new result }
+        (reply_to (held t.entry.basis) (line_of number text.now)) out.new result }
     ensures upper_bound { result ≤ at + reply_room }
 {
     let mut output = Output { out, at };
@@ -34,7 +31,7 @@ fn put_line(
         output.refusal(Reason::Line.at(number, 0));
         return output.at;
     };
-    let a = swept_points::points::swept_point(run, history, table, q);
+    let a = swept_points::points::swept_point(t, q);
     output.reply(q, a);
     output.at
 }
@@ -53,16 +50,14 @@ pub fn begin() -> Pending
 // Takes a part of the input, and puts the replies to the lines that end in it into `out`, from a place on. A byte that ends
 // no line is kept while there is room: a line of more than 16 bytes is malformed, whatever else stands in it.
 pub fn feed(
-    run: &[u8],
-    history: &[u8],
-    table: &[u32],
+    t: TabledBasis,
     s: Pending,
     part: &[u8],
     out: &mut [u8],
     from: usize,
 ) -> Fed
-    requires { Ready run.now history.now table.now s (length part.now) out.old from }
-    ensures { Answered (basis_with run.now history.now) s part.now out.old from
+    requires { Ready t.basis.run.now t.basis.history.now t.numbers.now s (length part.now) out.old from }
+    ensures { Answered (held t.entry.basis) s part.now out.old from
         out.new result }
 {
     let Pending {
@@ -73,7 +68,7 @@ pub fn feed(
     let mut at = from;
     for &b in part {
         if b == b'\n' {
-            at = put_line(run, history, table, out, at, complete + 1, &bytes[..len]);
+            at = put_line(t, out, at, complete + 1, &bytes[..len]);
             bytes = [0; 16];
             len = 0;
             complete += 1;
@@ -94,16 +89,14 @@ pub fn feed(
 
 // The end of the input: an unfinished line is a line.
 pub fn finish(
-    run: &[u8],
-    history: &[u8],
-    table: &[u32],
+    t: TabledBasis,
     s: Pending,
     out: &mut [u8],
     from: usize,
 ) -> usize
-    requires { Ready run.now history.now table.now s 1 out.old from }
+    requires { Ready t.basis.run.now t.basis.history.now t.numbers.now s 1 out.old from }
     ensures { Put out.old from
-        (replies (basis_with run.now history.now) (s.complete + 1) (last_line (kept s))) out.new result }
+        (replies (held t.entry.basis) (s.complete + 1) (last_line (kept s))) out.new result }
 {
     let Pending {
         bytes,
@@ -113,5 +106,5 @@ pub fn finish(
     if len == 0 {
         return from;
     }
-    put_line(run, history, table, out, from, complete + 1, &bytes[..len])
+    put_line(t, out, from, complete + 1, &bytes[..len])
 }

@@ -5,5 +5,5 @@ use Rattle.enquiry_lines.proofs.lines.feed.Given as goal
 
 abbrev pub invariant-loop-b : goal.invariant-loop-b
 invariant-loop-b l =
-    SoFar l.run l.history l.table l.part l.initial.out l.from (record { bytes = l.initial.bytes; len = l.initial.len; complete = l.initial.complete }) l.out
+    SoFar l.t.basis.run.now l.t.basis.history.now l.t.numbers.now l.part l.initial.out l.from (record { bytes = l.initial.bytes; len = l.initial.len; complete = l.initial.complete }) l.out
     (record { pending = record { bytes = l.bytes; len = l.len; complete = l.complete }; at = l.at }) l.b-index

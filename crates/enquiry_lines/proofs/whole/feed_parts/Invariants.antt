@@ -8,4 +8,4 @@ use Rattle.enquiry_lines.proofs.whole.feed_parts.Given as goal
 
 abbrev pub invariant-loop-length : goal.invariant-loop-length
 invariant-loop-length l =
-    (i : ℕ) × (l.rest ≡ drop i l.text) × SoFar l.run l.history l.table l.text l.initial.out l.from (empty_after 0) l.out (record { pending = l.pending; at = l.at }) i
+    (i : ℕ) × (l.rest ≡ drop i l.text) × SoFar l.t.basis.run.now l.t.basis.history.now l.t.numbers.now l.text l.initial.out l.from (empty_after 0) l.out (record { pending = l.pending; at = l.at }) i

@@ -16,9 +16,12 @@ returns-in_default c =
     let opened = c.open_files-o.ensures in
     being (refused-output opened c.args.text.now _ (ap finding c.in_default.is)) refl opened.put
 
+pub invariant_of-basis : goal.invariant_of-basis
+invariant_of-basis c =
+    record { workable = opened-workable c.open_files-o.ensures (ap finding c.in-Ok.is) _ c.length_needed.ensures }
+
 pub fill_table-requires : goal.fill_table-requires
-fill_table-requires c =
-    (opened-workable c.open_files-o.ensures (ap finding c.in-Ok.is) _ c.length_needed.ensures, length-replicate {A = ℕ} table_length 0)
+fill_table-requires c = length-replicate {A = ℕ} table_length 0
 
 pub feed_parts-f-requires : goal.feed_parts-f-requires
 feed_parts-f-requires c =
