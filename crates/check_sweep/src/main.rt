@@ -7,8 +7,8 @@
 #![tactic(auto)]
 
 ghost use Rattle.std.specs.Prelude.{◌≡◌, ◌≤◌, length};
-ghost use Rattle.history.specs.History.{Workable};
 
+use history::LentBasis;
 use reading::read_full;
 use std::io::Read;
 
@@ -30,20 +30,19 @@ fn print_state(rt: &impl Print, year: u32, state: &[u32])
 }
 
 // The states of all years, and the step after the last year.
-fn sweep_years(rt: &impl Print, run: &[u8], history: &[u8])
-    requires { Workable run.now history.now }
+fn sweep_years(rt: &impl Print, b: LentBasis)
 {
     let mut state = sweep::start();
-    for year in basis::fields::base_year(run)..2261 {
+    for year in basis::fields::base_year(b.run)..2261 {
         print_state(rt, year, &state);
-        sweep::step(run, history, year, &mut state);
+        sweep::step(b, year, &mut state);
     }
     print_state(rt, 2261, &state);
 }
 
 fn sweep_case(rt: &impl Print, run: &[u8], history: &[u8]) {
     match history::check::check_run_and_history(run, history) {
-        Ok(()) => sweep_years(rt, run, history),
+        Ok(()) => sweep_years(rt, LentBasis { run, history }),
         Err(r) => {
             case_io::print_refused(rt, r);
         }
