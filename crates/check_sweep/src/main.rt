@@ -30,8 +30,7 @@ fn print_state(rt: &impl Print, year: u32, state: &[u32])
 }
 
 // The states of all years, and the step after the last year.
-fn sweep_years(rt: &impl Print, b: LentBasis)
-{
+fn sweep_years(rt: &impl Print, b: LentBasis) {
     let mut state = sweep::start();
     for year in basis::fields::base_year(b.run)..2261 {
         print_state(rt, year, &state);

@@ -14,13 +14,7 @@ use outcome::Reason;
 use reply_text::Output;
 
 // The reply to a line by its number from 1.
-fn put_line(
-    t: TabledBasis,
-    out: &mut [u8],
-    at: usize,
-    number: u64,
-    text: &[u8],
-) -> usize
+fn put_line(t: TabledBasis, out: &mut [u8], at: usize, number: u64, text: &[u8]) -> usize
     requires { at + reply_room ≤ length out.old }
     ensures put { Put out.old at
         (reply_to (held t.entry.basis) (line_of number text.now)) out.new result }
@@ -49,13 +43,7 @@ pub fn begin() -> Pending
 
 // Takes a part of the input, and puts the replies to the lines that end in it into `out`, from a place on. A byte that ends
 // no line is kept while there is room: a line of more than 16 bytes is malformed, whatever else stands in it.
-pub fn feed(
-    t: TabledBasis,
-    s: Pending,
-    part: &[u8],
-    out: &mut [u8],
-    from: usize,
-) -> Fed
+pub fn feed(t: TabledBasis, s: Pending, part: &[u8], out: &mut [u8], from: usize) -> Fed
     requires { Ready t.basis.run.now t.basis.history.now t.numbers.now s (length part.now) out.old from }
     ensures { Answered (held t.entry.basis) s part.now out.old from
         out.new result }
@@ -88,12 +76,7 @@ pub fn feed(
 }
 
 // The end of the input: an unfinished line is a line.
-pub fn finish(
-    t: TabledBasis,
-    s: Pending,
-    out: &mut [u8],
-    from: usize,
-) -> usize
+pub fn finish(t: TabledBasis, s: Pending, out: &mut [u8], from: usize) -> usize
     requires { Ready t.basis.run.now t.basis.history.now t.numbers.now s 1 out.old from }
     ensures { Put out.old from
         (replies (held t.entry.basis) (s.complete + 1) (last_line (kept s))) out.new result }

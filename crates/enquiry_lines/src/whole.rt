@@ -11,13 +11,7 @@ use factor_table::{TABLE_LENGTH, TabledBasis};
 use history::LentBasis;
 
 // The text in parts of the lengths given, as far as it goes, and then what is left of it.
-fn feed_parts(
-    t: TabledBasis,
-    text: &[u8],
-    lengths: &[usize],
-    out: &mut [u8],
-    from: usize,
-) -> Fed
+fn feed_parts(t: TabledBasis, text: &[u8], lengths: &[usize], out: &mut [u8], from: usize) -> Fed
     requires { Ready t.basis.run.now t.basis.history.now t.numbers.now (empty_after 0) (length text.now) out.old from }
     ensures { Answered (held t.entry.basis) (empty_after 0) text.now out.old
         from out.new result }

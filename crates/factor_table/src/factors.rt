@@ -7,8 +7,8 @@ ghost use Rattle.sweep.specs.Encoding.{Encodes};
 ghost use Rattle.factor_table.specs.Inner.Storing.{StandsAt, KeptBefore};
 ghost use Rattle.factor_table.specs.FactorTable.{early_years, table_length, YearsStored, RestIsZero};
 
-use history::LentBasis;
 use crate::EARLY_LENGTH;
+use history::LentBasis;
 
 // From this year on only every second one is stored.
 const LATER_FROM: u32 = 2130;

@@ -6,15 +6,11 @@ ghost use Rattle.sweep.specs.Encoding.{Encodes};
 ghost use Rattle.factor_table.specs.Inner.Storing.{KeptBefore};
 ghost use Rattle.factor_table.specs.FactorTable.{early_years, early_length, table_length, LaterYearsStored};
 
-use history::LentBasis;
 use crate::{EARLY_LENGTH, factors};
+use history::LentBasis;
 
 // The sweep goes on from its state in 2130, two years a turn.
-pub(crate) fn store_later_years(
-    b: LentBasis,
-    from_2130: [u32; 131],
-    numbers: &mut [u32],
-)
+pub(crate) fn store_later_years(b: LentBasis, from_2130: [u32; 131], numbers: &mut [u32])
     requires { (length numbers.old ≡ table_length)
         × Encodes from_2130 (sweep_after (held b) (early_years (held b))) }
     ensures later_years_stored { LaterYearsStored (held b.entry) numbers.new 66 }

@@ -11,8 +11,8 @@ ghost use Rattle.component.specs.Component.{component_of};
 ghost use Rattle.improvement.specs.Improvement.{addition_of, birth_terms, projected_of, is_actual, first_year, improvement_of, improvement_needed, usable};
 ghost use Rattle.improvement.specs.Checked.{ImprovedCell, ProjectedCell};
 
-use history::LentBasis;
 use basis::Convergence;
+use history::LentBasis;
 use outcome::{Reason, Refusal};
 
 // The constant addition of a year.

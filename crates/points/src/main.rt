@@ -6,7 +6,7 @@ ghost use Rattle.std.specs.Prelude.{◌≡◌, ◌+◌, ◌*◌, ◌≤◌, ◌<
 ghost use Rattle.std.specs.Bool.{OnTrue};
 ghost use Rattle.std.specs.Io.KnownBytes.{Appends};
 ghost use Rattle.layout.specs.Layout.{mpb2, run_length, file_length};
-ghost use Rattle.history.specs.History.{Workable, basis_with};
+ghost use Rattle.history.specs.Held.{held};
 ghost use Rattle.factor_table.specs.FactorTable.{table_length};
 ghost use Rattle.enquiry_lines.specs.Lines.{lines_of, replies};
 ghost use Rattle.enquiry_lines.specs.Output.{output_of};
@@ -15,7 +15,8 @@ ghost use Rattle.points.specs.Blocks.{ReadyForBlocks, BlockAnswered, BlocksAnswe
 
 use basis_file::read::length_needed;
 use enquiry_lines::{Pending, lines, open_basis};
-use factor_table::TABLE_LENGTH;
+use factor_table::{TABLE_LENGTH, TabledBasis};
+use history::LentBasis;
 use reading::read_full;
 use std::fs::File;
 use std::io::{Error, ErrorKind, Read, Write};
@@ -138,17 +139,15 @@ fn answer_block<I: Read, W: Write>(
     rt: &impl Eprint,
     input: &mut I,
     output: &mut W,
-    run: &[u8],
-    history: &[u8],
-    table: &[u32],
+    tabled: TabledBasis,
     s: Pending,
     part: &mut [u8],
     out: &mut [u8],
     blocks: u64,
 ) -> Option<Turn>
-    requires { ReadyForBlocks run.now history.now table.now s (blocks + 1) part.old out.old }
-    ensures ready { IfSome result (λ t. ReadyForBlocks run.now history.now table.now t.pending blocks part.new out.new) }
-    ensures answered { IfSome result (λ t. BlockAnswered (basis_with run.now history.now) s part.old
+    requires { ReadyForBlocks tabled.basis.run.now tabled.basis.history.now tabled.numbers.now s (blocks + 1) part.old out.old }
+    ensures ready { IfSome result (λ t. ReadyForBlocks tabled.entry.basis.run.now tabled.entry.basis.history.now tabled.entry.numbers.now t.pending blocks part.new out.new) }
+    ensures answered { IfSome result (λ t. BlockAnswered (held tabled.entry.basis) s part.old
         (I.remaining input.old) (I.remaining input.new) (W.contents output.old) (W.contents output.new) t) }
 {
     let n = match input.read(part) {
@@ -158,7 +157,7 @@ fn answer_block<I: Read, W: Write>(
             return None;
         }
     };
-    let f = lines::feed(run, history, table, s, &part[..n], out, 0);
+    let f = lines::feed(tabled, s, &part[..n], out, 0);
     let at = f.at;
     if !write_out(rt, output, &out[..at]) {
         return None;
@@ -175,22 +174,18 @@ fn answer_blocks<I: Read, W: Write>(
     rt: &impl Eprint,
     input: &mut I,
     output: &mut W,
-    run: &[u8],
-    history: &[u8],
-    table: &[u32],
+    tabled: TabledBasis,
     part: &mut [u8],
     out: &mut [u8],
 ) -> Option<Pending>
-    requires { ReadyForBlocks run.now history.now table.now (empty_after 0) 1000000000000000 part.old out.old }
-    ensures ready { IfSome result (λ s. Ready run.now history.now table.now s 1024 out.new 0) }
-    ensures answered { IfSome result (λ s. BlocksAnswered (basis_with run.now history.now) part.old
+    requires { ReadyForBlocks tabled.basis.run.now tabled.basis.history.now tabled.numbers.now (empty_after 0) 1000000000000000 part.old out.old }
+    ensures ready { IfSome result (λ s. Ready tabled.entry.basis.run.now tabled.entry.basis.history.now tabled.entry.numbers.now s 1024 out.new 0) }
+    ensures answered { IfSome result (λ s. BlocksAnswered (held tabled.entry.basis) part.old
         (I.remaining input.old) (I.remaining input.new) (W.contents output.old) (W.contents output.new) s) }
 {
     let mut pending = lines::begin();
     for blocks in (0..MOST_BLOCKS).rev() {
-        let t = answer_block(
-            rt, input, output, run, history, table, pending, part, out, blocks,
-        )?;
+        let t = answer_block(rt, input, output, tabled, pending, part, out, blocks)?;
         pending = t.pending;
         if t.is_last {
             break;
@@ -205,22 +200,25 @@ fn answer_input<I: Read, W: Write>(
     rt: &impl Eprint,
     input: &mut I,
     output: &mut W,
-    run: &[u8],
-    history: &[u8],
+    basis: LentBasis,
     table: &mut [u32],
     part: &mut [u8],
     out: &mut [u8],
 ) -> bool
-    requires workable { Workable run.now history.now × (length table.old ≡ table_length) }
+    requires table_length_is { length table.old ≡ table_length }
     requires part_len_bound { (length part.old ≤ 1024) × (reply_room * 1024 ≤ length out.old) }
     ensures { OnTrue result (0 < length part.old → IfSome (I.remaining input.old) (λ text. length text < 1000000000000000 →
-        Appends (W.contents output.old) (W.contents output.new) (replies (basis_with run.now history.now) 1 (lines_of text)))) }
+        Appends (W.contents output.old) (W.contents output.new) (replies (held basis.entry) 1 (lines_of text)))) }
 {
-    factor_table::fill_table(run, history, table);
-    let Some(pending) = answer_blocks(rt, input, output, run, history, table, part, out) else {
+    factor_table::fill_table(basis, table);
+    let tabled = TabledBasis {
+        basis,
+        numbers: table,
+    };
+    let Some(pending) = answer_blocks(rt, input, output, tabled, part, out) else {
         return false;
     };
-    let at = lines::finish(run, history, table, pending, out, 0);
+    let at = lines::finish(tabled, pending, out, 0);
     write_out(rt, output, &out[..at])
 }
 
@@ -249,17 +247,11 @@ fn answer<I: Read, W: Write>(
     }
     let mut part = block_room();
     let mut table = table_room();
-    let length = length_needed(file);
-    answer_input(
-        rt,
-        input,
-        output,
-        &run[..length],
+    let basis = LentBasis {
+        run: &run[..length_needed(file)],
         history,
-        &mut table,
-        &mut part,
-        &mut out,
-    )
+    };
+    answer_input(rt, input, output, basis, &mut table, &mut part, &mut out)
 }
 
 fn main(rt: HostRuntime) {

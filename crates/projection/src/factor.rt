@@ -7,9 +7,9 @@ ghost use Rattle.improvement.specs.Improvement.{improvement_of};
 ghost use Rattle.improvement.specs.Checked.{ImprovedCell};
 ghost use Rattle.projection.specs.Projection.{factor_next, factor_needed, factor_from, factor_of};
 
-use history::LentBasis;
 use arithmetic::UNIT;
 use basis::Convergence;
+use history::LentBasis;
 use outcome::{Reason, Refusal};
 
 // This year's factor from last year's and the improvement.

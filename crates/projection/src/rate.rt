@@ -7,9 +7,9 @@ ghost use Rattle.history.specs.Held.{held};
 ghost use Rattle.projection.specs.Bounded.{AtMost};
 ghost use Rattle.projection.specs.Projection.{rate_from, rate_of};
 
-use history::LentBasis;
 use crate::factor;
 use arithmetic::UNIT;
+use history::LentBasis;
 use outcome::Refusal;
 
 // The lesser of U and the base rate times the factor.

@@ -8,8 +8,8 @@ ghost use Rattle.outcome.specs.Outcome.{value, and_then, meaning};
 ghost use Rattle.projection.specs.Bounded.{AtMost};
 ghost use Rattle.survivorship.specs.Survivorship.{year_on, survivors_next, survivors_after_year, survivors_of};
 
-use history::LentBasis;
 use arithmetic::UNIT;
+use history::LentBasis;
 use outcome::Refusal;
 
 // How a life passes through the rates: the period kind stays in one year, the cohort kind moves with the age.
@@ -48,12 +48,7 @@ pub fn survivors_by(rate: Result<u64, Refusal>, s: u64) -> Result<u64, Refusal>
 
 // The same at an age in a year from B on.
 #[tactic(auto, using(projection::proofs::Years::rate_at_most), unfolding(crate::specs::Survivorship::survivors_after_year))]
-pub fn survivors_after_year(
-    b: LentBasis,
-    age: u32,
-    year: u32,
-    s: u64,
-) -> Result<u64, Refusal>
+pub fn survivors_after_year(b: LentBasis, age: u32, year: u32, s: u64) -> Result<u64, Refusal>
     requires { Cell b.run.now b.history.now age year × (s ≤ 1_000_000_000) }
     ensures { meaning result ≡ survivors_after_year (held b.entry) age year (pos s) }
 {
@@ -61,13 +56,7 @@ pub fn survivors_after_year(
 }
 
 // The survivors after n years.
-pub fn survivors_at(
-    b: LentBasis,
-    kind: Kind,
-    age: u32,
-    n: u32,
-    year: u32,
-) -> Result<u64, Refusal>
+pub fn survivors_at(b: LentBasis, kind: Kind, age: u32, n: u32, year: u32) -> Result<u64, Refusal>
     requires { Life b.run.now b.history.now age n year }
     ensures { meaning result ≡ survivors_of (held b.entry) kind age n year }
 {

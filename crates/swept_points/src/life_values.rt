@@ -9,8 +9,7 @@ ghost use Rattle.swept_points.specs.LifeValues.{LifeFrom, life_expectation, life
 ghost use Rattle.swept_points.specs.Inner.DeferredPayment.{deferred_payment};
 
 use arithmetic::{HALF_UNIT, UNIT};
-use factor_table::TabledBasis;
-use factor_table::discounts;
+use factor_table::{TabledBasis, discounts};
 use outcome::Refusal;
 use survivorship::Kind;
 
@@ -22,12 +21,7 @@ pub struct LifeValues {
 }
 
 // The survivors after a year at an age, by the factor of the table.
-fn survivors_after_year(
-    t: TabledBasis,
-    age: u32,
-    year: u32,
-    s: u64,
-) -> Result<u64, Refusal>
+fn survivors_after_year(t: TabledBasis, age: u32, year: u32, s: u64) -> Result<u64, Refusal>
     requires { Cell t.basis.run.now t.basis.history.now age year × (s ≤ 1_000_000_000) }
     ensures { meaning result ≡ survivors_after_year (held t.entry.basis) age year (pos s) }
 {
@@ -64,12 +58,7 @@ pub fn life_values_from(
     let mut lives: u64 = 0;
     let mut annuity = deferred_payment(discounts::discount(t.numbers, 0), deferment, 0, UNIT);
     for j in 0..last {
-        s = survivors_after_year(
-            t,
-            age + j,
-            survivorship::year_on(kind, j, year),
-            s,
-        )?;
+        s = survivors_after_year(t, age + j, survivorship::year_on(kind, j, year), s)?;
         lives += s;
         annuity += deferred_payment(discounts::discount(t.numbers, j + 1), deferment, j + 1, s);
     }

@@ -39,10 +39,7 @@ fn expectation(
 
 // The four results in their order, or the first refusal: of the question's own checks, then of the four.
 #[tactic(auto, using(model_points::proofs::Points::asks_life), unfolding(basis::specs::Basis::rated_from, model_points::specs::Point::results_of, model_points::specs::Point::four_results_of))]
-fn swept_results(
-    t: TabledBasis,
-    q: Question,
-) -> Result<[u64; 4], Refusal>
+fn swept_results(t: TabledBasis, q: Question) -> Result<[u64; 4], Refusal>
     ensures { results_meaning result ≡ checked_results_of (held t.entry.basis) q }
 {
     let Question {

@@ -7,8 +7,8 @@ ghost use Rattle.history.specs.Held.{held};
 ghost use Rattle.survivorship.specs.Survivorship.{survivors_of};
 ghost use Rattle.valuation.specs.Valuation.{discount_next, discount_after, payment, annuity_of};
 
-use history::LentBasis;
 use arithmetic::UNIT;
+use history::LentBasis;
 use outcome::Refusal;
 use survivorship::Kind;
 

@@ -5,8 +5,8 @@ ghost use Rattle.history.specs.Held.{held};
 ghost use Rattle.outcome.specs.Outcome.{meaning};
 ghost use Rattle.valuation.specs.Valuation.{expectation_of};
 
-use history::LentBasis;
 use arithmetic::{HALF_UNIT, UNIT};
+use history::LentBasis;
 use outcome::Refusal;
 use survivorship::Kind;
 

@@ -1,6 +1,6 @@
 -- The run of a file that is accepted, with a history that is, is what the input is answered by; it stands in front of the room.
 -- What is written is the definition's output.
-use mathlib.Core.Path.{sym, ap}
+use mathlib.Core.Path.{ap}
 use native.Mathlib.Omega.{arith}
 use lib.ListN.{length}
 use Rattle.outcome.specs.Outcome.{finding}
@@ -11,9 +11,8 @@ use mathlib.Core.Bool.{true}
 use Rattle.points.proofs.Texts.{at-true, refused-answered, accepted-answered}
 use Rattle.points.proofs.answer.Goals as goal
 
-pub answer_input-requires-clause-workable : goal.answer_input-requires-clause-workable
-answer_input-requires-clause-workable g c =
-    (opened-workable c.open_files-o.ensures (ap finding c.in-Ok.is) _ c.length_needed-length.ensures, sym c.table_room-table.ensures)
+pub invariant_of-basis : goal.invariant_of-basis
+invariant_of-basis g c = record { workable = opened-workable c.open_files-o.ensures (ap finding c.in-Ok.is) _ c.length_needed.ensures }
 
 pub returns-in_default : goal.returns-in_default
 returns-in_default g c =
@@ -27,4 +26,4 @@ returns g c =
     let is : w.result ≡ true = search rules in
     let a = c.answer_input in
     accepted-answered c.open_files-o.ensures (g.I.Read.remaining c.args.input.now) (g.W.Write.contents c.args.output.now) (g.W.Write.contents w.new.output) a.result
-    (g.W.Write.contents a.new.output) (ap finding c.in-Ok.is) _ c.length_needed-length.ensures (at-true _ is w.ensures) (length c.block_room-part.result) (omega (arith, c.block_room-part.ensures)) a.ensures
+    (g.W.Write.contents a.new.output) (ap finding c.in-Ok.is) _ c.length_needed.ensures (at-true _ is w.ensures) (length c.block_room-part.result) (omega (arith, c.block_room-part.ensures)) a.ensures

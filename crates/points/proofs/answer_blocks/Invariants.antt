@@ -19,5 +19,5 @@ pub record SoFar (basis : Basis) (given left held holds : Option (List ℕ)) (s 
 
 abbrev pub invariant-loop-blocks : goal.invariant-loop-blocks
 invariant-loop-blocks g l =
-    (length l.part ≡ length l.initial.part) × (length l.out ≡ length l.initial.out) × ReadyForBlocks l.run l.history l.table l.pending l.blocks l.part l.out
-    × SoFar (basis_with l.run l.history) (g.I.Read.remaining l.initial.input) (g.I.Read.remaining l.input) (g.W.Write.contents l.initial.output) (g.W.Write.contents l.output) l.pending l.blocks
+    (length l.part ≡ length l.initial.part) × (length l.out ≡ length l.initial.out) × ReadyForBlocks l.tabled.basis.run.now l.tabled.basis.history.now l.tabled.numbers.now l.pending l.blocks l.part l.out
+    × SoFar (basis_with l.tabled.basis.run.now l.tabled.basis.history.now) (g.I.Read.remaining l.initial.input) (g.I.Read.remaining l.input) (g.W.Write.contents l.initial.output) (g.W.Write.contents l.output) l.pending l.blocks
