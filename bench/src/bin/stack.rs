@@ -1,5 +1,6 @@
 //! The stack that each call of the archive touches, and the direct grid beside them: the most over answered and refused
-//! questions, as lines of CSV. What goes by value lies above what is counted.
+//! questions, as lines of CSV. What goes by value lies above what is counted. With `--limits` it names instead each call that
+//! touches more than docs/EMBEDDING.md says, and fails if there is one.
 use parvusek_bench::bases::{Draft, damaged, files};
 use parvusek_bench::compare::inputs;
 use parvusek_bench::engine::form::{FORMS, Form};
@@ -8,6 +9,8 @@ use parvusek_bench::engine::sets::{GRID, Record};
 use parvusek_bench::ffi::{Question, Questions, Records, raw::*};
 use parvusek_bench::random::Random;
 use parvusek_bench::stack::{Arguments, touched};
+use std::env;
+use std::process::ExitCode;
 
 /// Everything that calls can be lent.
 struct Lent {
@@ -127,7 +130,17 @@ const VALUES: [&str; 6] = [
     "cohort_annuity",
 ];
 
-fn main() {
+/// The most that docs/EMBEDDING.md gives a host to reckon with. The direct grid is no part of the archive.
+fn limit(name: &str) -> usize {
+    match name {
+        "grid" => 93_000,
+        "read_basis" | "write_old_form" => 6_000,
+        "direct_grid" => usize::MAX,
+        _ => 2_000,
+    }
+}
+
+fn main() -> ExitCode {
     let mut most: Vec<(&str, usize)> = Vec::new();
     let mut note = |(name, bytes): (&'static str, usize)| match most.iter_mut().find(|(known, _)| *known == name) {
         Some((_, sofar)) => *sofar = bytes.max(*sofar),
@@ -152,8 +165,16 @@ fn main() {
         }
         note(lent.small_set(inputs::questions(&mut random, &lent.run)));
     }
+    if env::args().any(|argument| argument == "--limits") {
+        let beyond: Vec<_> = most.iter().filter(|(name, bytes)| *bytes >= limit(name)).collect();
+        for (name, bytes) in &beyond {
+            println!("stack: FAILED: parvusek_{name} touches {bytes} bytes, and less than {} is promised", limit(name));
+        }
+        return if beyond.is_empty() { ExitCode::SUCCESS } else { ExitCode::FAILURE };
+    }
     println!("function,bytes");
     for (name, bytes) in most {
         println!("parvusek_{name},{bytes}");
     }
+    ExitCode::SUCCESS
 }

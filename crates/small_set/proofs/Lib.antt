@@ -1,1 +1,1 @@
-mod Sixes
+mod Turns

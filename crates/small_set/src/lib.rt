@@ -32,18 +32,16 @@ const BLANK: PointAnswer = PointAnswer {
     refusal: NO_REFUSAL,
 };
 
-// The six answers on an accepted data run and its history.
+// The six answers on an accepted data run and its history. In a loop there is one call that keeps its answer and a copy of the basis
+// on the stack, and not six.
 fn six(b: LentBasis, questions: [Question; 6]) -> [PointAnswer; 6]
     ensures { result ≡ map (point_of (held b.entry)) questions }
 {
-    [
-        model_points::direct_point(b, questions[0]),
-        model_points::direct_point(b, questions[1]),
-        model_points::direct_point(b, questions[2]),
-        model_points::direct_point(b, questions[3]),
-        model_points::direct_point(b, questions[4]),
-        model_points::direct_point(b, questions[5]),
-    ]
+    let mut points = [BLANK; 6];
+    for (i, point) in points.iter_mut().enumerate() {
+        *point = model_points::direct_point(b, questions[i]);
+    }
+    points
 }
 
 // The run and its history are checked once. A refused one refuses the whole: its points carry 0 in every result, refusal and place.

@@ -1,18 +1,12 @@
--- Six answers, one for each element of a list of six.
-use borrow.Author.Rules.{rules}
+-- Each turn answers one question more.
+use Rattle.std.proofs.Common.{rules, ◌<◌, length}
 use Rattle.history.specs.History.{basis_with}
 use Rattle.model_points.specs.Point.{point_of}
-use Rattle.small_set.proofs.Sixes.{six-list}
+use Rattle.small_set.proofs.Turns.{filled_turn}
 use Rattle.small_set.proofs.six.Goals as goal
 
-pub returns : goal.returns
-returns c =
-    simp (
-      c.direct_point-6.ensures,
-      c.direct_point-5.ensures,
-      c.direct_point-4.ensures,
-      c.direct_point-3.ensures,
-      c.direct_point-2.ensures,
-      c.direct_point.ensures,
-    )
-    (six-list (point_of (basis_with c.args.b.run.now c.args.b.history.now)) c.args.questions (record { age = 0; deferment = 0; year = 0 }) (search rules))
+pub loop-i-preserved : goal.loop-i-preserved
+loop-i-preserved c =
+    let f = point_of (basis_with c.args.b.run.now c.args.b.history.now) in
+    let few : c.loop-i.i < length c.args.questions = search rules in
+    filled_turn f c.args.questions _ _ c.loop-i.invariant few c.loop-i-test.true c.direct_point.ensures
