@@ -27,7 +27,9 @@ fn close_up(list: &mut [u64], i: usize, n: usize)
     list.copy_within(i + 1..n, i);
 }
 
-// The member at place i goes from each area.
+// The member at place i goes from each area. It is not put into its caller, whose search would carry numbers for the moves from turn
+// to turn: a leave of a number that is not on the roll would take half as many instructions again.
+#[inline(never)]
 #[tactic(auto, unfolding(crate::specs::Kept::without_member))]
 pub(crate) fn without_member(roll: &mut [u64], i: usize)
     requires { (2002 ≤ length roll.old) × (i < count_in roll.old) }
