@@ -5,7 +5,7 @@ use Rattle.outcome.specs.Outcome.{Finding, refused_by, Outcome, refused}
 
 -- ---- the numbers
 -- 1 to 12 are 01's, 13 is that of 02, change 2, 14 to 16 are those of its change 6, and 17 that of its change 7; a later change adds its
--- number here and nowhere else
+-- number here, and its reason in Reasons
 unfoldable pub numbers : List ℕ
 numbers = 1 ∷ 2 ∷ 3 ∷ 4 ∷ 5 ∷ 6 ∷ 7 ∷ 8 ∷ 9 ∷ 10 ∷ 11 ∷ 12 ∷ 13 ∷ 14 ∷ 15 ∷ 16 ∷ 17 ∷ []
 
